@@ -88,8 +88,9 @@ pub struct Screen {
     pointers: ArrayVec<Point, MAX_POINTERS>,
     /// The deliveries of the last line that had any, with room for all that an event delivers.
     log: Log,
-    /// The armed hooks, of views that are in the tree.
-    hooks: Hooks,
+    /// The armed hooks, of views that are in the tree. Their table is made with the first view, in memory of its own: it
+    /// is far larger than the rest of a screen, which is on the stack where it is moved.
+    hooks: Option<Box<Hooks>>,
     /// The state that was saved last.
     states: States,
     /// Its bytes, as they were printed.
@@ -127,7 +128,7 @@ impl Screen {
             gesture: Gesture::new(alloc),
             pointers: ArrayVec::new(),
             log: Log::new(alloc),
-            hooks: Hooks::new(),
+            hooks: None,
             states: States::empty(alloc),
             saved: Vec::new(alloc),
             text: TextBuffer::new(),
@@ -297,7 +298,7 @@ impl Screen {
         let place = place_of(&self.tree, into)?;
         let bytes = fetch(alloc, shelf, name)?;
         let grown = views_of(alloc, bytes.as_slice(), &self.resources, self.dpi)?;
-        self.graft(place, grown)
+        self.graft(alloc, place, grown)
     }
 
     /// Carries out a command that asks for no file, and returns its reply.
@@ -545,7 +546,10 @@ impl Screen {
             return Err(StepFault::Refused(Refusal::plain(NO_ROOT)));
         }
         recall_tree(&self.tree);
-        let outcome = frame(&mut self.tree, &mut self.hooks, window, work);
+        let Some(hooks) = &mut self.hooks else {
+            unreachable!()
+        };
+        let outcome = frame(&mut self.tree, hooks, window, work);
         let response = Response::Framed {
             settled: outcome.settled,
             fired: outcome.fired,

@@ -1,7 +1,9 @@
 -- What a world keeps once the views of a file were added.
-use Rattle.std.proofs.Common.{◌≡◌, ◌∙◌, ℕ, suc, ◌+◌, ◌*◌, ◌≤◌, arith, List, length, length-append, refl, sym, ap, subst, inl, inr}
-use Rattle.std.specs.Prelude.{◌==◌, ◌<◌, Bool, true, IfSome, Option, Some, None, Result, Err}
+use Rattle.std.proofs.Common.{◌≡◌, ◌≢◌, ◌∙◌, ℕ, suc, ◌+◌, ◌*◌, ◌≤◌, arith, List, length, length-append, refl, sym, ap, subst, inl, inr}
+use Rattle.std.specs.Prelude.{◌==◌, ◌<◌, Bool, true, IfSome, Option, Some, None, Box, Result, Err}
 use Rattle.std.specs.Option.{option_map, option_or}
+use Rattle.std.specs.declared.alloc.Global.{Global}
+use Rattle.size_hooks.specs.Hook.{Hook}
 use Rattle.std.proofs.lemmas.Bool.{cases_Bool, cases_eq, cases_lt, eq-eqb}
 use Rattle.saved_state.specs.Saving.{OffsetsFit}
 use Rattle.pixel_raster.specs.Raster.{size_of}
@@ -175,11 +177,12 @@ graft_reported world number plan new reason cycle (fault.Refused refusal) report
 graft_reported world number plan new reason cycle fault.NoMemory reported = tt
 
 -- the views of a file are in the tree, and have places
-pub sound_grafted : (inside : Inside) (new : Views) (gesture : Kept) (log : Log) (place : Option ℕ) (sprouts : List Sprout) → IsSound inside → IsTree inside.tree → IfSome place (λ (view : ℕ). IsLive inside.tree view)
+pub sound_grafted : (inside : Inside) (new : Views) (gesture : Kept) (log : Log) (hooks : Option (Box (List Hook) Global)) (place : Option ℕ) (sprouts : List Sprout) → IsSound inside → IsTree inside.tree → IfSome place (λ (view : ℕ). IsLive inside.tree view)
     → (place ≡ None → inside.tree.tree ≡ Nothing) → IsPreorder sprouts → HasGained inside.tree place (seeds_of sprouts) new → IsConsistent new
     → gesture_of gesture ≡ gesture_of inside.gesture → AreOpened inside.tree.next (length sprouts) inside.gesture gesture
-    → (count_of new.tree ≤ count_of inside.tree.tree + length sprouts → 3 * count_of new.tree ≤ room_of log) → OffsetsFit (plain_of new) → IsSound (record inside { tree = new; gesture = gesture; log = log })
-sound_grafted inside new gesture log place sprouts sound is live root order came consistent same opened room offsets =
+    → (count_of new.tree ≤ count_of inside.tree.tree + length sprouts → 3 * count_of new.tree ≤ room_of log) → hooks ≢ None → OffsetsFit (plain_of new)
+    → IsSound (record inside { tree = new; gesture = gesture; log = log; hooks = hooks })
+sound_grafted inside new gesture log hooks place sprouts sound is live root order came consistent same opened room made offsets =
     let count = count-seeds_of sprouts order in
     let old = inside.tree in
     let rtl = rtl_at (option_map (number_of old) place) (plain_of old) in
@@ -210,6 +213,7 @@ sound_grafted inside new gesture log place sprouts sound is live root order came
             ]
           ];
       room = room (let most = count_grafted old new place rtl (seeds_of sprouts) is came.plain in omega (arith, most, count));
+      armable = λ none. absurd (made none);
       down = sound.down;
       narrow = subst FitAll (sym came.geometry) sound.narrow;
       offsets = offsets;

@@ -1,12 +1,14 @@
 -- What a world keeps and prints once it has got views, or has not.
 use Rattle.std.proofs.Common.{◌≡◌, ◌≢◌, ◌∙◌, ℕ, ◌+◌, ◌*◌, ◌<◌, ◌≤◌, arith, true, false, List, refl, sym, ap, subst}
-use Rattle.std.specs.Prelude.{◌==◌, ◌||◌, if◌then◌else◌, ℤ, Option, Some, None, Result, Ok, Err, OnErr, IfSome}
+use Rattle.std.specs.Prelude.{◌==◌, ◌||◌, if◌then◌else◌, ℤ, Option, Some, None, Result, Ok, Err, OnErr, IfSome, Box}
 use Rattle.std.specs.Option.{option_map}
+use Rattle.std.specs.declared.alloc.Global.{Global}
 use Rattle.std.specs.Result.{is_err}
 use Rattle.std.proofs.lemmas.Bool.{ne_eqb}
 use Rattle.saved_state.specs.Saving.{OffsetsFit}
 use Rattle.pixel_raster.specs.Raster.{size_of}
 use Rattle.seen_edits.proofs.ShownLaws.{shows_on}
+use Rattle.size_hooks.specs.Hook.{Hook}
 use Rattle.seen_edits.specs.Shown.{KeepsShown, Shows}
 use Rattle.touch_dispatch.specs.gesture.Kept.{IsUnknown, Kept, gesture_of, is_open, with_place}
 use Rattle.touch_targets.specs.Captures.{is_target}
@@ -70,10 +72,11 @@ refused_still reply world other (Ok number) err reported = absurd (cc)
 refused_still reply world other (Err error) err reported = refused_any reply world other (response_of (Err error)) refl reported
 
 -- places of views are not seen in the plain world
-pub carried_with : (reply : Reply) (world : KeyedScreen) (gesture : Kept) (reported : List Entry) (result : Result Response StepFault) → gesture_of gesture ≡ gesture_of world.gesture → reported ≡ world.reported
-    → CarriesOut reply world result → CarriesOut reply (record world { gesture = gesture; reported = reported }) result
-carried_with reply world gesture reported result same entries carried =
-    subst (λ (t : List Entry). CarriesOut reply (record world { gesture = gesture; reported = t }) result) (sym entries) (with_gesture result carried)
+pub carried_with : (reply : Reply) (world : KeyedScreen) (gesture : Kept) (reported : List Entry) (hooks : List Hook) (result : Result Response StepFault) → gesture_of gesture ≡ gesture_of world.gesture
+    → reported ≡ world.reported → hooks ≡ world.hooks → CarriesOut reply world result → CarriesOut reply (record world { gesture = gesture; reported = reported; hooks = hooks }) result
+carried_with reply world gesture reported hooks result same entries armed carried =
+    subst (λ (h : List Hook). CarriesOut reply (record world { gesture = gesture; reported = reported; hooks = h }) result) (sym armed)
+    (subst (λ (t : List Entry). CarriesOut reply (record world { gesture = gesture; reported = t }) result) (sym entries) (with_gesture result carried))
   where
     with_gesture : (result : Result Response StepFault) → CarriesOut reply world result → CarriesOut reply (record world { gesture = gesture }) result
     with_gesture (Ok response) h =
@@ -84,20 +87,22 @@ carried_with reply world gesture reported result same entries carried =
     with_gesture (Err fault.Shelf) h = h
 
 -- nothing has changed
-pub same_world : (world : KeyedScreen) (views : Views) (gesture : Kept) (reported : List Entry) → views ≡ world.views → gesture ≡ world.gesture → reported ≡ world.reported
-    → record world { views = views; gesture = gesture; reported = reported } ≡ world
-same_world world views gesture reported one two three =
-    ap (λ (v : Views). let w : KeyedScreen = record world { views = v; gesture = gesture; reported = reported } in w) one
-    ∙ ap (λ (g : Kept). let w : KeyedScreen = record world { gesture = g; reported = reported } in w) two
-    ∙ ap (λ (t : List Entry). let w : KeyedScreen = record world { reported = t } in w) three
+pub same_world : (world : KeyedScreen) (views : Views) (gesture : Kept) (reported : List Entry) (hooks : List Hook) → views ≡ world.views → gesture ≡ world.gesture → reported ≡ world.reported → hooks ≡ world.hooks
+    → record world { views = views; gesture = gesture; reported = reported; hooks = hooks } ≡ world
+same_world world views gesture reported hooks one two three four =
+    ap (λ (v : Views). let w : KeyedScreen = record world { views = v; gesture = gesture; reported = reported; hooks = hooks } in w) one
+    ∙ ap (λ (g : Kept). let w : KeyedScreen = record world { gesture = g; reported = reported; hooks = hooks } in w) two
+    ∙ ap (λ (t : List Entry). let w : KeyedScreen = record world { reported = t; hooks = hooks } in w) three
+    ∙ ap (λ (h : List Hook). let w : KeyedScreen = record world { hooks = h } in w) four
 
-pub sound_same : (inside : Inside) (views : Views) (gesture : Kept) (log : Log) → views ≡ inside.tree → gesture ≡ inside.gesture → 3 * count_of inside.tree.tree ≤ room_of log
-    → IsSound inside → IsSound (record inside { tree = views; gesture = gesture; log = log })
-sound_same inside views gesture log one two room sound = record {
+pub sound_same : (inside : Inside) (views : Views) (gesture : Kept) (log : Log) (hooks : Option (Box (List Hook) Global)) → views ≡ inside.tree → gesture ≡ inside.gesture → 3 * count_of inside.tree.tree ≤ room_of log
+    → hooks ≢ None → IsSound inside → IsSound (record inside { tree = views; gesture = gesture; log = log; hooks = hooks })
+sound_same inside views gesture log hooks one two room made sound = record {
   consistent = subst IsConsistent (sym one) sound.consistent;
   caught = subst (λ (v : Views). IsGestureIn v.tree gesture) (sym one) (subst (IsGestureIn inside.tree.tree) (sym two) sound.caught);
   closed = subst (λ (v : Views). HasNoneElse v.tree gesture) (sym one) (subst (HasNoneElse inside.tree.tree) (sym two) sound.closed);
   room = subst (λ (v : Views). 3 * count_of v.tree ≤ room_of log) (sym one) room;
+  armable = λ none. absurd (made none);
   down = sound.down;
   narrow = subst (λ (v : Views). FitAll (geometry_of v)) (sym one) sound.narrow;
   offsets = subst (λ (v : Views). OffsetsFit (plain_of v)) (sym one) sound.offsets;
@@ -153,14 +158,14 @@ grown_as old new parent class width height (Ok number) ok applied =
     added_tree (scene_of old) (scene_of new) (option_map (number_of old) parent) class width height number (refusal_at (plain_of old) (option_map (number_of old) parent)) applied
 
 -- one more view is in the tree, and has a place
-pub sound_grown : (inside : Inside) (new : Views) (gesture : Kept) (log : Log) (parent : Option ℕ) (class : Class) (width height : ℤ) → IsSound inside → IsTree inside.tree
+pub sound_grown : (inside : Inside) (new : Views) (gesture : Kept) (log : Log) (hooks : Option (Box (List Hook) Global)) (parent : Option ℕ) (class : Class) (width height : ℤ) → IsSound inside → IsTree inside.tree
     → IsAddable inside.tree parent → IsConsistent new → KeepsViews inside.tree new (edit.Add parent class width height)
     → (let place = option_map (number_of inside.tree) parent in
     plain_of new ≡ grown_at place (single (running (rtl_at place (plain_of inside.tree)) (new_view inside.tree.next class width height))) (plain_of inside.tree))
     → gesture_of gesture ≡ gesture_of inside.gesture → ((other : ℕ) → is_open gesture other ≡ (is_open inside.gesture other || other == inside.tree.next))
-    → 3 * (count_of inside.tree.tree + 1) ≤ room_of log → FitAll (geometry_of new) → OffsetsFit (plain_of new)
-    → KeepsShown (size_of inside.surface) inside.damage.rect inside.damage.rect inside.tree new → IsSound (record inside { tree = new; gesture = gesture; log = log })
-sound_grown inside new gesture log parent class width height sound is addable consistent keeps grew same opened room narrow offsets shown = record {
+    → 3 * (count_of inside.tree.tree + 1) ≤ room_of log → hooks ≢ None → FitAll (geometry_of new) → OffsetsFit (plain_of new)
+    → KeepsShown (size_of inside.surface) inside.damage.rect inside.damage.rect inside.tree new → IsSound (record inside { tree = new; gesture = gesture; log = log; hooks = hooks })
+sound_grown inside new gesture log hooks parent class width height sound is addable consistent keeps grew same opened room made narrow offsets shown = record {
   shows = shows_on inside.surface inside.damage.rect inside.damage.rect inside.tree new sound.shows shown;
   consistent = consistent;
   caught = gesture_grown inside.tree new (option_map (number_of inside.tree) parent)
@@ -181,6 +186,7 @@ sound_grown inside new gesture log parent class width height sound is addable co
       ap count_of keeps.tree
       ∙ count-with_child parent (leaf keeps.fresh view) inside.tree.tree (addable_live inside.tree parent addable) (addable_root inside.tree parent addable) is.keys in
       omega (arith, count, room);
+  armable = λ none. absurd (made none);
   down = sound.down;
   narrow = narrow;
   offsets = offsets;

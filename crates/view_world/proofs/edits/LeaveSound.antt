@@ -1,7 +1,8 @@
 -- What a world keeps, if a view is removed with all that is kept of it.
 use Rattle.std.proofs.Common.{◌≡◌, ℕ, ◌≤◌, Bool, true, false, List, refl, ap, sym, ◌∙◌, arith, inl, inr}
 use Rattle.std.proofs.lemmas.Bool.{cases_Bool}
-use Rattle.std.specs.Prelude.{◌&&◌, not}
+use Rattle.std.specs.Prelude.{◌&&◌, not, Box, Some}
+use Rattle.std.specs.declared.alloc.Global.{Global}
 use Rattle.damage_rect.specs.declared.bounding.Damage.{Damage}
 use Rattle.pixel_raster.specs.Raster.{size_of}
 use Rattle.saved_state.specs.Saving.{OffsetsFit}
@@ -31,11 +32,11 @@ never : (b : Bool) → (b && not true) ≡ false
 never true = refl
 never false = refl
 
-pub sound_removed : (inside : Inside) (new : Views) (damage : Damage) → KeepsShown (size_of inside.surface) inside.damage.rect damage.rect inside.tree new → (kept : Kept) (hooks : List Hook) (key : ℕ) → IsTree inside.tree → IsLive inside.tree key → KeepsViews inside.tree new (edit.Remove key)
+pub sound_removed : (inside : Inside) (new : Views) (damage : Damage) → KeepsShown (size_of inside.surface) inside.damage.rect damage.rect inside.tree new → (kept : Kept) (hooks : Box (List Hook) Global) (key : ℕ) → IsTree inside.tree → IsLive inside.tree key → KeepsViews inside.tree new (edit.Remove key)
     → plain_of new ≡ pruned (number_of inside.tree key) (plain_of inside.tree)
     → gesture_of kept ≡ all_closed (numbers_of (part_at inside.tree key)) (gesture_of inside.gesture)
     → ((number : ℕ) → is_open kept number ≡ (is_open inside.gesture number && not (is_among number (numbers_of (part_at inside.tree key)))))
-    → IsConsistent new → FitAll (geometry_of new) → OffsetsFit (plain_of new) → IsSound inside → IsSound (record inside { tree = new; damage = damage; gesture = kept; hooks = hooks })
+    → IsConsistent new → FitAll (geometry_of new) → OffsetsFit (plain_of new) → IsSound inside → IsSound (record inside { tree = new; damage = damage; gesture = kept; hooks = Some hooks })
 sound_removed inside new damage shown kept hooks key is live keeps plain cleared opened consistent narrow offsets sound =
     let parts = sum-pruned_at_key (λ (row : Row). 1) key inside.tree.tree (is.keys key) in
     let count = ap count_of keeps.tree in
@@ -57,6 +58,7 @@ sound_removed inside new damage shown kept hooks key is live keeps plain cleared
             ap (λ (b : Bool). b && not (is_among number (numbers_of (part_at inside.tree key)))) (sound.closed number (omega (arith, apart, pieces, left, whole)))
       ];
       room = omega arith;
+      armable = λ none. absurd cc;
       down = sound.down;
       narrow = narrow;
       offsets = offsets;

@@ -1,5 +1,5 @@
 -- A frame of a world, in terms of the plain world, and what a world keeps then.
-use Rattle.std.proofs.Common.{◌≡◌, ℕ, ◌+◌, ◌*◌, ◌<◌, mul-le-mul_left, Bool, true, false, List, [], ◌∷◌, refl, sym, ◌∙◌, ap, subst, arith, inl, inr}
+use Rattle.std.proofs.Common.{◌≡◌, ◌≢◌, ℕ, ◌+◌, ◌*◌, ◌<◌, mul-le-mul_left, Bool, true, false, List, [], ◌∷◌, refl, sym, ◌∙◌, ap, subst, arith, inl, inr}
 use Rattle.std.specs.Prelude.{Option, Some, None, ◌≤◌, ◌==◌, if◌then◌else◌, not}
 use Rattle.std.proofs.lemmas.Bool.{eq-eqb}
 use Rattle.std.proofs.lemmas.Int.{ints}
@@ -252,13 +252,14 @@ gesture_shaped old new kept shape caught = record {
 
 -- a world stays sound
 pub sound_framed : (old new : Inside) → SameShape old.tree new.tree → IsConsistent new.tree → FitAll (geometry_of new.tree) → OffsetsFit (plain_of new.tree) → new.gesture ≡ old.gesture → new.log ≡ old.log
-    → new.pointers ≡ old.pointers → Shows new.surface new.damage.rect new.tree → IsSound old → IsSound new
-sound_framed old new shape consistent narrow offsets gesture log pointers shows sound = record {
+    → new.pointers ≡ old.pointers → new.hooks ≢ None → Shows new.surface new.damage.rect new.tree → IsSound old → IsSound new
+sound_framed old new shape consistent narrow offsets gesture log pointers hooks shows sound = record {
   shows = shows;
   consistent = consistent;
   caught = rw gesture (gesture_shaped old.tree new.tree old.gesture shape sound.caught);
   closed = λ number none. rw gesture (sound.closed number (rw (sum-same {old = old.tree} {new = new.tree} (λ (row : Row). if row.view.number == number then 1 else 0) (λ row. refl) shape) at none));
   room = rw (log, count_of-same shape) sound.room;
+  armable = λ none. absurd (hooks none);
   down = rw pointers sound.down;
   narrow = narrow;
   offsets = offsets;

@@ -104,14 +104,15 @@ room_cleared before cleared entries none same room = let bare : length cleared.e
 
 -- a world stays sound
 pub sound_scrolled : (old new : Inside) → IsSound old → OnlyScrolls old.tree new.tree → IsGestureIn new.tree.tree new.gesture
-    → ((view : ℕ) → is_open new.gesture view ≡ is_open old.gesture view) → room_of new.log ≡ room_of old.log → AreDown new.pointers.items → OffsetsFit (plain_of new.tree)
+    → ((view : ℕ) → is_open new.gesture view ≡ is_open old.gesture view) → room_of new.log ≡ room_of old.log → new.hooks ≡ old.hooks → AreDown new.pointers.items → OffsetsFit (plain_of new.tree)
     → Shows new.surface new.damage.rect new.tree → IsSound new
-sound_scrolled old new sound scrolls caught opened room down offsets shows = record {
+sound_scrolled old new sound scrolls caught opened room hooks down offsets shows = record {
   shows = shows;
   consistent = scrolls.consistent sound.consistent;
   caught = caught;
   closed = λ number none. opened number ∙ sound.closed number (rw scrolls.same.tree at none);
   room = rw (room, scrolls_count old.tree new.tree scrolls) sound.room;
+  armable = λ none. scrolls.same.tree ∙ sound.armable (sym hooks ∙ none);
   down = down;
   narrow = subst FitAll (sym (scrolls_geometry old.tree new.tree scrolls)) sound.narrow;
   offsets = offsets;

@@ -1,6 +1,8 @@
--- Places for views that are to be added.
-use Rattle.std.specs.Prelude.{◌≡◌, ℕ, zero, suc, ◌+◌, ◌<◌, ◌≤◌, false, true, Option}
+-- Places for views that are to be added, and the table of their hooks.
+use Rattle.std.specs.Prelude.{◌≡◌, ℕ, zero, suc, ◌+◌, ◌<◌, ◌≤◌, false, true, Option, None, Some, Box, List, []}
 use Rattle.std.specs.Option.{option_map}
+use Rattle.std.specs.declared.alloc.Global.{Global}
+use Rattle.size_hooks.specs.Hook.{Hook}
 use Rattle.touch_dispatch.specs.gesture.Kept.{IsUnknown, Kept, gesture_of, is_open, with_place}
 use Rattle.touch_targets.specs.Captures.{is_target}
 use Rattle.view_model.specs.Directed.{directed, rtl_at}
@@ -40,3 +42,8 @@ pub record HasGained (old : Views) (place : Option ℕ) (seeds : Forest Seed) (n
       plain_of new ≡ grown_at number (directed (rtl_at number (plain_of old)) (numbered old.next seeds)) (plain_of old)
   pub next : new.next ≡ old.next + count_of seeds
   pub geometry : geometry_of new ≡ geometry_of old
+
+-- the armed hooks; without a table none is
+abbrev pub hooks_in : Option (Box (List Hook) Global) → List Hook
+hooks_in None = []
+hooks_in (Some table) = table.value

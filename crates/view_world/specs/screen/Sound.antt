@@ -1,14 +1,15 @@
 -- What a screen keeps between lines.
-use Rattle.std.specs.Prelude.{◌≡◌, ◌≤◌, ◌*◌, ℕ, false}
+use Rattle.std.specs.Prelude.{◌≡◌, ◌≤◌, ◌*◌, ℕ, None, false}
 use Rattle.touch_dispatch.specs.gesture.Kept.{Kept, is_open}
 use Rattle.touch_dispatch.specs.reaching.TreeEvents.{IsGestureIn, room_of}
-use Rattle.view_model.specs.Forest.{Forest, count_of}
+use Rattle.view_model.specs.Forest.{Forest, Nothing, count_of}
 use Rattle.kept_views.specs.Kept.{IsConsistent}
 use Rattle.saved_state.specs.Saving.{OffsetsFit}
 use Rattle.seen_edits.specs.Shown.{Shows}
 use Rattle.traversal.specs.Changing.{FitAll}
 use Rattle.view_tree.specs.Rows.{Row, count_of_number}
 use Rattle.view_tree.specs.Views.{geometry_of, plain_of}
+use Rattle.view_world.specs.editing.Places.{hooks_in}
 use Rattle.view_world.specs.screen.KeyedScreen.{KeyedScreen}
 use Rattle.view_world.specs.touching.Pointers.{AreDown}
 use Rattle.view_world.specs.declared.screen.Screen.TheInside.{Inside}
@@ -25,7 +26,7 @@ keyed inside = record {
   gesture = inside.gesture;
   pointers = inside.pointers.items;
   reported = inside.log.entries.items;
-  hooks = inside.hooks;
+  hooks = hooks_in inside.hooks;
   kept = inside.states;
   saved = inside.saved.items;
 }
@@ -41,6 +42,8 @@ pub record IsSound (inside : Inside) : Type 0 where
   pub closed : HasNoneElse inside.tree.tree inside.gesture
   -- there is room for all that is recorded of an event
   pub room : 3 * count_of inside.tree.tree ≤ room_of inside.log
+  -- there is no view without a table of hooks
+  pub armable : inside.hooks ≡ None → inside.tree.tree ≡ Nothing
   pub down : AreDown inside.pointers.items
   -- each view has a size that can be printed, and each scroll view an offset that can be saved
   pub narrow : FitAll (geometry_of inside.tree)

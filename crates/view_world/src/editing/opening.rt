@@ -1,11 +1,33 @@
-//! Places for views that are to be added.
+//! What is made before views are added: their places, and a table for their hooks.
 
-ghost use Rattle.std.specs.Prelude.{◌≡◌, ◌<◌, ◌+◌, ◌^◌, OnErr, OnOk};
+ghost use Rattle.std.specs.Prelude.{◌≡◌, ◌≢◌, ◌<◌, ◌+◌, ◌^◌, [], None, IfOk, OnErr, OnOk};
 ghost use Rattle.touch_dispatch.specs.gesture.Kept.{Kept, gesture_of};
-ghost use Rattle.view_world.specs.editing.Places.{AreFree, AreOpened, AreUnknown, with_places};
+ghost use Rattle.view_world.specs.editing.Places.{AreFree, AreOpened, AreUnknown, hooks_in, with_places};
 
-use std::alloc::AllocError;
+use size_hooks::Hooks;
+use std::alloc::{AllocError, Global};
 use touch_dispatch::Gesture;
+
+/// Makes a table of hooks if there is none, so that a hook is armed without memory.
+pub fn make_hooks(alloc: Global, hooks: &mut Option<Box<Hooks>>) -> Result<(), AllocError>
+    ensures made { OnOk result (hooks.new ≢ None) }
+    ensures same { hooks_in hooks.new ≡ hooks_in hooks.old }
+    ensures unchanged { OnErr result (hooks.new ≡ hooks.old) }
+{
+    if hooks.is_none() {
+        *hooks = Some(new_table(alloc)?);
+    }
+    Ok(())
+}
+
+/// A table in which no hook is armed. It is made in a function of its own, since the locals of a function are cleared
+/// each time that it is called, and a table is large.
+#[inline(never)]
+fn new_table(alloc: Global) -> Result<Box<Hooks>, AllocError>
+    ensures { IfOk result (λ table. table.value ≡ []) }
+{
+    Ok(Box::new(alloc, Hooks::new())?)
+}
 
 /// Keeps places for this many views, from this number on; for all of them, or for none.
 pub fn open_all(gesture: &mut Gesture, first: u64, count: usize) -> Result<(), AllocError>

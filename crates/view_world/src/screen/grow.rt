@@ -21,7 +21,7 @@ ghost use Rattle.view_world.specs.world.Step.{after_edit, graft_reason, grafted}
 use super::Screen;
 use crate::editing::grafting::graft;
 use crate::editing::naming::recall_tree;
-use crate::editing::opening::{close_all, open_all};
+use crate::editing::opening::{close_all, make_hooks, open_all};
 use crate::fault::StepFault;
 use crate::replying::response::{Response, respond};
 use inflater::Grown;
@@ -31,7 +31,7 @@ use view_model::Class;
 use view_tree::Key;
 
 impl Screen {
-    /// Makes a view; the room for its touches is made before anything changes.
+    /// Makes a view; the room for its touches and for hooks is made before anything changes.
     pub(super) fn grow(
         &mut self,
         alloc: Global,
@@ -48,6 +48,7 @@ impl Screen {
         ensures keeps { OnOk result (KeepsEdit (Edit.Add parent class width height) self.old self.new) }
     {
         recall_tree(&self.tree);
+        make_hooks(alloc, &mut self.hooks)?;
         self.log.reserve(3 * (self.tree.len() + 1))?;
         let number = self.tree.next_number();
         self.gesture.open(number)?;
@@ -68,7 +69,12 @@ impl Screen {
     }
 
     /// Adds views under the next numbers.
-    pub(super) fn graft(&mut self, place: Option<Key>, grown: Grown) -> Result<Response, StepFault>
+    pub(super) fn graft(
+        &mut self,
+        alloc: Global,
+        place: Option<Key>,
+        grown: Grown,
+    ) -> Result<Response, StepFault>
         requires numbers { self.old.views.next < NUMBERS_END }
         requires live { IfSome place (λ view. IsLive self.old.views view) }
         requires root { place ≡ None → self.old.views.tree ≡ Nothing }
@@ -91,6 +97,7 @@ impl Screen {
         let first = self.tree.next_number();
         let ignored = grown.ignored;
         let count = grown.sapling.sprouts.len();
+        make_hooks(alloc, &mut self.hooks)?;
         self.log
             .reserve(self.tree.len().saturating_add(count).saturating_mul(3))?;
         open_all(&mut self.gesture, first, count)?;

@@ -63,7 +63,10 @@ impl Screen {
     {
         recall_tree(&self.tree);
         let reported = size_at(&self.tree, self.stage, view);
-        match self.hooks.arm(self.tree.number(view), reported, edits) {
+        let Some(hooks) = &mut self.hooks else {
+            unreachable!()
+        };
+        match hooks.arm(self.tree.number(view), reported, edits) {
             Ok(()) => Ok(Response::Nothing),
             Err(_) => Err(StepFault::Refused(Refusal::plain(TOO_MANY_HOOKS))),
         }

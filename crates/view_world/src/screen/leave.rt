@@ -35,7 +35,10 @@ impl Screen {
         ensures keeps { OnOk result (KeepsEdit (Edit.Remove view) self.old self.new) }
     {
         self.report_leaving(view);
-        forget(&self.tree, &mut self.hooks, &mut self.gesture, view);
+        let Some(hooks) = &mut self.hooks else {
+            unreachable!()
+        };
+        forget(&self.tree, hooks, &mut self.gesture, view);
         let window = self.surface.size();
         match take(alloc, &mut self.tree, window, view, &mut self.damage) {
             Ok(_) => Ok(self.deliveries()),

@@ -38,6 +38,7 @@ invariant_of-self c =
       caught = gesture_along tree.tree old new c.disallow_from.ensures.opened same c.self.invariant.caught;
       closed = closed_along tree.tree old new c.disallow_from.ensures.opened c.self.invariant.closed;
       room = c.self.invariant.room;
+      armable = c.self.invariant.armable;
       down = c.self.invariant.down;
       narrow = c.self.invariant.narrow;
       offsets = c.self.invariant.offsets;

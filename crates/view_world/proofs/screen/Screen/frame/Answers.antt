@@ -27,40 +27,42 @@ use Rattle.view_world.proofs.states.OffsetLaws.{offsets_framed}
 use Rattle.view_world.proofs.frames.FrameLaws.{damage_most, frame_done, still_clean, still_lain, still_shown, still_work, unsettled_paints}
 use Rattle.traversal.specs.Resting.{IsAtRest}
 use Rattle.view_world.specs.frames.Resting.{IsFrameDone, IsShown}
+use Rattle.view_world.proofs.worlds.SoundLaws.{with_table}
 use Rattle.view_world.proofs.screen.Screen.frame.Goals as goal
 
 pub invariant_of-self : goal.invariant_of-self
 invariant_of-self c =
-    sound_framed c.self.inside (record c.self.inside { tree = c.frame-outcome.new.tree; hooks = c.frame-outcome.new.hooks; stage = Unsettled; damage = c.damage_all.new.damage }) c.frame-outcome.ensures.shape c.frame-outcome.ensures.consistent
+    sound_framed c.self.inside _ c.frame-outcome.ensures.shape c.frame-outcome.ensures.consistent
     c.frame-outcome.ensures.fits
-    (offsets_framed c.self.inside.tree c.frame-outcome.new.tree c.self.inside.hooks c.frame-outcome.new.hooks c.in-Some.window c.frame-outcome.result c.frame-outcome.ensures.framed c.self.invariant.offsets) refl refl refl
+    (offsets_framed c.self.inside.tree c.frame-outcome.new.tree c.deref_mut.result.now c.frame-outcome.new.hooks c.in-Some.window c.frame-outcome.result c.frame-outcome.ensures.framed c.self.invariant.offsets) refl refl refl (λ none. absurd cc)
     (shows_none c.self.inside.surface c.damage_all.new.damage.rect c.frame-outcome.new.tree (rw c.size.ensures.value at c.damage_all.ensures.whole)) c.self.invariant
 
 pub invariant_of-self-2 : goal.invariant_of-self-2
 invariant_of-self-2 c =
-    sound_framed c.self.inside (record c.self.inside { tree = c.frame-outcome.new.tree; hooks = c.frame-outcome.new.hooks; surface = c.paint_damage.new.surface; stage = Settled; damage = c.paint_damage.new.damage })
-    c.frame-outcome.ensures.shape c.frame-outcome.ensures.consistent c.frame-outcome.ensures.fits
-    (offsets_framed c.self.inside.tree c.frame-outcome.new.tree c.self.inside.hooks c.frame-outcome.new.hooks c.in-Some.window c.frame-outcome.result c.frame-outcome.ensures.framed c.self.invariant.offsets) refl refl refl c.paint_damage.ensures.shows c.self.invariant
+    sound_framed c.self.inside _ c.frame-outcome.ensures.shape c.frame-outcome.ensures.consistent c.frame-outcome.ensures.fits
+    (offsets_framed c.self.inside.tree c.frame-outcome.new.tree c.deref_mut.result.now c.frame-outcome.new.hooks c.in-Some.window c.frame-outcome.result c.frame-outcome.ensures.framed c.self.invariant.offsets) refl refl refl (λ none. absurd cc) c.paint_damage.ensures.shows c.self.invariant
 
 pub returns-then-not-outcome-clause-changed : goal.returns-then-not-outcome-clause-changed
 returns-then-not-outcome-clause-changed c =
-    let now = keyed c.self.inside in
+    let now : KeyedScreen = record (keyed c.self.inside) { hooks = c.deref_mut.result.now } in
+    let same = with_table c.self.inside c.in-Some-hooks.hooks c.deref_mut.result.now c.in-Some-hooks.is c.deref_mut.ensures.value ∙ c.self.view_is in
     let new : KeyedScreen = record now { views = c.frame-outcome.new.tree; hooks = c.frame-outcome.new.hooks; stage = Unsettled } in
-    let window : window_of now ≡ Some c.in-Some.window = ap window_of c.self.view_is ∙ sym c.window.ensures ∙ c.in-Some.is in
+    let window : window_of now ≡ Some c.in-Some.window = ap window_of same ∙ sym c.window.ensures ∙ c.in-Some.is in
     let laid = Changed-unsettled now c.frame-outcome.new.tree c.frame-outcome.new.hooks c.in-Some.window c.frame-outcome.result c.root.result window c.root.ensures.key c.if-is_none.ensures
     c.frame-outcome.ensures.framed c.frame-outcome.ensures.shape.next (is_false c.frame-outcome.result.settled c.if-not-outcome.true) in
-    (subst (λ (w : KeyedScreen). framed (world_of w) (window_of w) (plain_of w.views) ≡ Done (world_of new) (framed_text c.frame-outcome.result.settled c.frame-outcome.result.fired)) c.self.view_is laid, tt)
+    (subst (λ (w : KeyedScreen). framed (world_of w) (window_of w) (plain_of w.views) ≡ Done (world_of new) (framed_text c.frame-outcome.result.settled c.frame-outcome.result.fired)) same laid, tt)
 
 pub returns-clause-changed : goal.returns-clause-changed
 returns-clause-changed c =
-    let now = keyed c.self.inside in
+    let now : KeyedScreen = record (keyed c.self.inside) { hooks = c.deref_mut.result.now } in
+    let same = with_table c.self.inside c.in-Some-hooks.hooks c.deref_mut.result.now c.in-Some-hooks.is c.deref_mut.ensures.value ∙ c.self.view_is in
     let new : KeyedScreen = record now { views = c.frame-outcome.new.tree; hooks = c.frame-outcome.new.hooks; stage = Settled; surface = c.paint_damage.new.surface } in
-    let window : window_of now ≡ Some c.in-Some.window = ap window_of c.self.view_is ∙ sym c.window.ensures ∙ c.in-Some.is in
+    let window : window_of now ≡ Some c.in-Some.window = ap window_of same ∙ sym c.window.ensures ∙ c.in-Some.is in
     let size : size_of c.self.inside.surface ≡ c.in-Some.window = window-size now c.in-Some.window window in
     let painted = subst (λ size. c.paint_damage.new.surface.pixels ≡ picture_in size (geometry_of c.frame-outcome.new.tree) (plain_of c.frame-outcome.new.tree)) size c.paint_damage.ensures.picture in
     let laid = Changed-settled now c.frame-outcome.new.tree c.frame-outcome.new.hooks c.paint_damage.new.surface c.in-Some.window c.frame-outcome.result c.root.result window c.root.ensures.key
     c.if-is_none.ensures c.frame-outcome.ensures.framed c.frame-outcome.ensures.shape.next (is_true c.frame-outcome.result.settled c.if-not-outcome.false) (c.paint_damage.ensures.size ∙ size) painted in
-    (subst (λ (w : KeyedScreen). framed (world_of w) (window_of w) (plain_of w.views) ≡ Done (world_of new) (framed_text c.frame-outcome.result.settled c.frame-outcome.result.fired)) c.self.view_is laid, tt)
+    (subst (λ (w : KeyedScreen). framed (world_of w) (window_of w) (plain_of w.views) ≡ Done (world_of new) (framed_text c.frame-outcome.result.settled c.frame-outcome.result.fired)) same laid, tt)
 
 pub returns-clause-painted : goal.returns-clause-painted
 returns-clause-painted c =
@@ -80,18 +82,20 @@ paint_damage-requires c =
 
 pub returns-then-not-outcome-clause-framed : goal.returns-then-not-outcome-clause-framed
 returns-then-not-outcome-clause-framed c =
-    let now = keyed c.self.inside in
+    let now : KeyedScreen = record (keyed c.self.inside) { hooks = c.deref_mut.result.now } in
+    let same = with_table c.self.inside c.in-Some-hooks.hooks c.deref_mut.result.now c.in-Some-hooks.is c.deref_mut.ensures.value ∙ c.self.view_is in
     let frame = c.frame-outcome.ensures in
     let new : KeyedScreen = record now { views = c.frame-outcome.new.tree; hooks = c.frame-outcome.new.hooks; damage = c.damage_all.new.damage.rect; stage = Unsettled } in
-    let window : window_of now ≡ Some c.in-Some.window = ap window_of c.self.view_is ∙ sym c.window.ensures ∙ c.in-Some.is in
-    subst (λ (w : KeyedScreen). IsFrameDone w new c.args.work.now c.frame-outcome.new.work) c.self.view_is
+    let window : window_of now ≡ Some c.in-Some.window = ap window_of same ∙ sym c.window.ensures ∙ c.in-Some.is in
+    subst (λ (w : KeyedScreen). IsFrameDone w new c.args.work.now c.frame-outcome.new.work) same
     (frame_done now c.frame-outcome.new.tree c.frame-outcome.new.hooks now.surface c.damage_all.new.damage.rect Unsettled c.in-Some.window c.frame-outcome.result c.args.work.now c.frame-outcome.new.work c.frame-outcome.new.work
     window (window-size now c.in-Some.window window) frame.framed frame.measured (λ rest none. (frame.calm rest none).3) frame.laid frame.laid_twice frame.caches frame.counted refl (λ e. absurd cc) (λ e. absurd cc)
     (unsettled_paints now c.frame-outcome.new.tree c.frame-outcome.new.hooks c.damage_all.new.damage.rect c.args.work.now c.frame-outcome.new.work frame.counted.painted))
 
 pub returns-clause-framed : goal.returns-clause-framed
 returns-clause-framed c =
-    let now = keyed c.self.inside in
+    let now : KeyedScreen = record (keyed c.self.inside) { hooks = c.deref_mut.result.now } in
+    let same = with_table c.self.inside c.in-Some-hooks.hooks c.deref_mut.result.now c.in-Some-hooks.is c.deref_mut.ensures.value ∙ c.self.view_is in
     let frame = c.frame-outcome.ensures in
     let new : KeyedScreen = record now {
       views = c.frame-outcome.new.tree;
@@ -100,8 +104,8 @@ returns-clause-framed c =
       surface = c.paint_damage.new.surface;
       damage = c.paint_damage.new.damage.rect;
     } in
-    let window : window_of now ≡ Some c.in-Some.window = ap window_of c.self.view_is ∙ sym c.window.ensures ∙ c.in-Some.is in
-    subst (λ (w : KeyedScreen). IsFrameDone w new c.args.work.now c.paint_damage.new.work) c.self.view_is
+    let window : window_of now ≡ Some c.in-Some.window = ap window_of same ∙ sym c.window.ensures ∙ c.in-Some.is in
+    subst (λ (w : KeyedScreen). IsFrameDone w new c.args.work.now c.paint_damage.new.work) same
     (frame_done now c.frame-outcome.new.tree c.frame-outcome.new.hooks c.paint_damage.new.surface c.paint_damage.new.damage.rect Settled c.in-Some.window c.frame-outcome.result c.args.work.now c.frame-outcome.new.work
     c.paint_damage.new.work window (c.paint_damage.ensures.size ∙ window-size now c.in-Some.window window) frame.framed frame.measured (λ rest none. (frame.calm rest none).3) frame.laid frame.laid_twice frame.caches
     frame.counted c.paint_damage.ensures.measured (λ e. frame.rest (is_true c.frame-outcome.result.settled c.if-not-outcome.false)) (λ e. ap (λ (damage : Damage). is_empty damage.rect) c.paint_damage.ensures.emptied)
@@ -124,18 +128,20 @@ returns-clause-framed c =
 
 pub returns-then-not-outcome-clause-still : goal.returns-then-not-outcome-clause-still
 returns-then-not-outcome-clause-still c shown =
-    let now = keyed c.self.inside in
+    let now : KeyedScreen = record (keyed c.self.inside) { hooks = c.deref_mut.result.now } in
+    let same = with_table c.self.inside c.in-Some-hooks.hooks c.deref_mut.result.now c.in-Some-hooks.is c.deref_mut.ensures.value ∙ c.self.view_is in
     let frame = c.frame-outcome.ensures in
-    let window : window_of now ≡ Some c.in-Some.window = ap window_of c.self.view_is ∙ sym c.window.ensures ∙ c.in-Some.is in
+    let window : window_of now ≡ Some c.in-Some.window = ap window_of same ∙ sym c.window.ensures ∙ c.in-Some.is in
     (still_shown now c.frame-outcome.new.tree c.in-Some.window c.args.work.now c.frame-outcome.new.work window (λ rest none. let calm = frame.calm rest none in (calm.0, calm.3))
-    (subst IsShown (sym c.self.view_is) shown)).1
+    (subst IsShown (sym same) shown)).1
 
 pub returns-clause-still : goal.returns-clause-still
 returns-clause-still c shown =
-    let now = keyed c.self.inside in
+    let now : KeyedScreen = record (keyed c.self.inside) { hooks = c.deref_mut.result.now } in
+    let same = with_table c.self.inside c.in-Some-hooks.hooks c.deref_mut.result.now c.in-Some-hooks.is c.deref_mut.ensures.value ∙ c.self.view_is in
     let frame = c.frame-outcome.ensures in
-    let window : window_of now ≡ Some c.in-Some.window = ap window_of c.self.view_is ∙ sym c.window.ensures ∙ c.in-Some.is in
-    let was : IsShown now = subst IsShown (sym c.self.view_is) shown in
+    let window : window_of now ≡ Some c.in-Some.window = ap window_of same ∙ sym c.window.ensures ∙ c.in-Some.is in
+    let was : IsShown now = subst IsShown (sym same) shown in
     let rest : IsAtRest now.views c.in-Some.window = subst (IsAtRest now.views) (window-size now c.in-Some.window window) was.rests.laid in
     let calm = frame.calm rest was.rests.unfired in
     let clean = still_clean c.self.inside.damage.rect c.frame-outcome.result.damage c.add.new.self.rect c.add.ensures was.clean (still_lain c.self.inside.tree c.frame-outcome.new.tree c.in-Some.window c.frame-outcome.result.damage calm.0 (frame.damage.within calm.1)) in

@@ -18,6 +18,7 @@ use Rattle.view_model.specs.PlainTree.{single}
 use Rattle.view_world.proofs.edits.GrowingLaws.{addable_root, carried_with, failed, grown_as, grown_nowhere, plain_root, made_well, on_err, place_back, refused_still, same_world, sound_grown, sound_same}
 use Rattle.view_world.proofs.edits.OpeningLaws.{done}
 use Rattle.view_world.proofs.worlds.WorldLaws.{Changed-edit, at_stage}
+use Rattle.view_world.specs.editing.Places.{hooks_in}
 use Rattle.view_world.specs.screen.Changed.{CarriesOut}
 use Rattle.view_world.specs.screen.KeyedScreen.{KeyedScreen, world_of}
 use Rattle.view_world.specs.replying.Responses.{response_of}
@@ -44,7 +45,7 @@ invariant_of-self-then-is_err c =
     c.in_ok-open.ensures.added c.in_ok-open.ensures.unknown c.close.ensures.last in
     let room = c.in_ok-reserve.ensures.room in
     let len = c.len.ensures.value in
-    sound_same a c.apply-made.new.tree c.close.new.self c.reserve.new.self tree gesture (omega (arith, room, len)) sound
+    sound_same a c.apply-made.new.tree c.close.new.self c.reserve.new.self c.make_hooks.new.hooks tree gesture (omega (arith, room, len)) c.in_ok-make_hooks.ensures.made sound
 
 pub invariant_of-self-else-is_err : goal.invariant_of-self-else-is_err
 invariant_of-self-else-is_err c =
@@ -59,10 +60,10 @@ invariant_of-self-else-is_err c =
     λ other. c.in_ok-open.ensures.opened other ∙ ap (λ n. is_open a.gesture other || other == n) c.next_number-number.ensures in
     let room = c.in_ok-reserve.ensures.room in
     let len = c.len.ensures.value in
-    sound_grown a c.apply-made.new.tree c.open.new.self c.reserve.new.self c.args.parent c.args.class width height c.self.invariant c.recall_tree.ensures addable
+    sound_grown a c.apply-made.new.tree c.open.new.self c.reserve.new.self c.make_hooks.new.hooks c.args.parent c.args.class width height c.self.invariant c.recall_tree.ensures addable
     (c.apply-made.ensures.consistent c.self.invariant.consistent) keeps
     (grown_as a.tree c.apply-made.new.tree c.args.parent c.args.class width height c.apply-made.result ok c.apply-made.ensures.applied)
-    c.open.ensures.gesture opened (omega (arith, room, len))
+    c.open.ensures.gesture opened (omega (arith, room, len)) c.in_ok-make_hooks.ensures.made
     (fits_applied a.tree c.apply-made.new.tree (Add (option_map (number_of a.tree) c.args.parent) c.args.class width height) c.apply-made.result c.apply-made.ensures.applied c.apply-made.ensures.unchanged sound.narrow)
     (offsets_edited a.tree c.apply-made.new.tree (edit.Add c.args.parent c.args.class width height) c.apply-made.result tt c.apply-made.ensures.applied c.apply-made.ensures.unchanged sound.offsets)
     (shown_come (size_of a.surface) a.damage.rect a.tree c.apply-made.new.tree (option_map (number_of a.tree) c.args.parent)
@@ -82,7 +83,7 @@ returns-clause-unchanged c =
           place_back a.tree a.gesture c.open.new.self w.close.new.self c.next_number-number.result c.recall_tree.ensures sound.caught sound.closed c.next_number-number.ensures
           c.in_ok-open.ensures.added c.in_ok-open.ensures.unknown w.close.ensures.last in
           on_err (c.if-is_err.self ≡ c.args.self.now) c.respond.result
-          (w.self-is ∙ same_world (keyed a) c.apply-made.new.tree w.close.new.self c.reserve.new.self.entries.items tree gesture c.reserve.ensures.same ∙ c.self.view_is)
+          (w.self-is ∙ same_world (keyed a) c.apply-made.new.tree w.close.new.self c.reserve.new.self.entries.items (hooks_in c.make_hooks.new.hooks) tree gesture c.reserve.ensures.same c.make_hooks.ensures.same ∙ c.self.view_is)
       | else-is_err w ↦ made_well (c.if-is_err.self ≡ c.args.self.now) c.apply-made.result c.respond.result w.if-is_err.ensures.value c.respond.ensures
     ]
 
@@ -105,7 +106,8 @@ returns-clause-changed c =
       | then-is_err w ↦ refused_still (after_edit (world_of old) made) now c.if-is_err.self c.apply-made.result w.if-is_err.ensures.value changed
       | else-is_err w ↦
           subst (λ (n : KeyedScreen). CarriesOut (after_edit (world_of old) made) n (response_of c.apply-made.result)) (sym w.self-is)
-          (carried_with (after_edit (world_of old) made) now c.open.new.self c.reserve.new.self.entries.items (response_of c.apply-made.result) c.open.ensures.gesture c.reserve.ensures.same changed)
+          (carried_with (after_edit (world_of old) made) now c.open.new.self c.reserve.new.self.entries.items (hooks_in c.make_hooks.new.hooks) (response_of c.apply-made.result) c.open.ensures.gesture c.reserve.ensures.same
+          c.make_hooks.ensures.same changed)
     ]))
 
 pub returns-clause-keeps : goal.returns-clause-keeps
@@ -117,11 +119,11 @@ returns-clause-keeps c =
     let P : KeyedScreen → KeyedScreen → Type 0 = λ w new. OnOk c.respond.result (KeepsEdit made w new) in
     subst (λ (w : KeyedScreen). P w c.if-is_err.self) c.self.view_is (elim c.if-is_err.branch [
       | then-is_err w ↦
-          let new : KeyedScreen = record old { views = c.apply-made.new.tree; gesture = w.close.new.self; reported = c.reserve.new.self.entries.items } in
+          let new : KeyedScreen = record old { views = c.apply-made.new.tree; gesture = w.close.new.self; reported = c.reserve.new.self.entries.items; hooks = hooks_in c.make_hooks.new.hooks } in
           subst (P old) (sym w.self-is)
           (ok_any c.respond.result (loud_keeps old new a.tree made refl c.recall_tree.ensures addable (scrolls_none a.tree) c.apply-made.ensures.asked c.apply-made.ensures.measures (λ box lies seen. lies) refl refl))
       | else-is_err w ↦
-          let new : KeyedScreen = record old { views = c.apply-made.new.tree; gesture = c.open.new.self; reported = c.reserve.new.self.entries.items } in
+          let new : KeyedScreen = record old { views = c.apply-made.new.tree; gesture = c.open.new.self; reported = c.reserve.new.self.entries.items; hooks = hooks_in c.make_hooks.new.hooks } in
           subst (P old) (sym w.self-is)
           (ok_any c.respond.result (loud_keeps old new a.tree made refl c.recall_tree.ensures addable (scrolls_none a.tree) c.apply-made.ensures.asked c.apply-made.ensures.measures (λ box lies seen. lies) refl refl))
     ])

@@ -31,7 +31,7 @@ set_points-requires c = few c.args.pointers.now c.requires.down
 pub invariant_of-self : goal.invariant_of-self
 invariant_of-self c =
     sound_scrolled c.self.inside _ c.self.invariant c.dispatch-yes.ensures.scrolls c.dispatch-yes.ensures.caught c.dispatch-yes.ensures.opened
-    (c.dispatch-yes.ensures.room ∙ c.clear.ensures.room) (rw c.set_points.ensures c.requires.down)
+    (c.dispatch-yes.ensures.room ∙ c.clear.ensures.room) refl (rw c.set_points.ensures c.requires.down)
     (offsets_scrolled c.self.inside.tree c.dispatch-yes.new.tree c.dispatch-yes.ensures.scrolls c.self.invariant.offsets)
     (shows_on c.self.inside.surface c.self.inside.damage.rect c.note_scrolled.new.damage.rect c.self.inside.tree c.dispatch-yes.new.tree c.self.invariant.shows
     (shown_scrolled (size_of c.self.inside.surface) c.self.inside.damage.rect c.note_scrolled.new.damage.rect c.self.inside.tree c.dispatch-yes.new.tree c.self.inside.gesture c.dispatch-yes.new.gesture

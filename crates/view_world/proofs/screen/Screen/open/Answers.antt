@@ -24,6 +24,7 @@ invariant_of-self-in-Ok c = record {
   caught = c.self.invariant.caught;
   closed = c.self.invariant.closed;
   room = c.self.invariant.room;
+  armable = c.self.invariant.armable;
   down = c.self.invariant.down;
   narrow = c.self.invariant.narrow;
   offsets = c.self.invariant.offsets;

@@ -1,4 +1,4 @@
-use Rattle.std.proofs.Common.{◌≡◌, sym, ◌∙◌, ap, subst}
+use Rattle.std.proofs.Common.{◌≡◌, refl, sym, ◌∙◌, ap, subst}
 use Rattle.touch_dispatch.specs.handling.Handling.{Progress}
 use Rattle.view_tree.specs.Views.{IsLive, number_of, plain_of}
 use Rattle.view_world.specs.screen.KeyedScreen.{KeyedScreen, world_of}
@@ -19,7 +19,7 @@ invariant_of-self-then-is_reported c =
     let cancel = c.cancel_view.ensures in
     let plain = plain_cancelled old new c.self.inside.gesture c.cancel_view.new.gesture c.clear.new.self c.cancel_view.new.log _ _ _ _ c.is_reported.ensures.is_tree cancel.scrolls cancel.cancelled in
     sound_scrolled c.self.inside (record c.self.inside { tree = new; gesture = c.cancel_view.new.gesture; log = c.cancel_view.new.log }) c.self.invariant cancel.scrolls cancel.caught cancel.opened
-    (cancel.room ∙ c.clear.ensures.room) c.self.invariant.down (offsets_scrolled old new cancel.scrolls c.self.invariant.offsets)
+    (cancel.room ∙ c.clear.ensures.room) refl c.self.invariant.down (offsets_scrolled old new cancel.scrolls c.self.invariant.offsets)
     (shows_alike c.self.inside.surface c.self.inside.damage.rect old new plain (scrolls_geometry old new cancel.scrolls) c.self.invariant.shows)
 
 pub returns-then-is_reported-clause-plain : goal.returns-then-is_reported-clause-plain

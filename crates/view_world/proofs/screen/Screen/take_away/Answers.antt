@@ -26,6 +26,7 @@ use Rattle.view_world.proofs.frames.SeenLaws.{among_first, seen_alike, seen_name
 use Rattle.view_world.specs.frames.Resting.{seen_on}
 use Rattle.view_tree.proofs.values.KeptLaws.{is_tree-same}
 use Rattle.touch_dispatch.specs.reaching.TreeEvents.{OnlyScrolls}
+use Rattle.view_world.proofs.worlds.SoundLaws.{with_table}
 use Rattle.view_world.proofs.screen.Screen.take_away.Goals as goal
 
 pub invariant_of-self : goal.invariant_of-self
@@ -35,20 +36,21 @@ invariant_of-self c =
     let live : IsLive views c.args.view = subst (λ (w : KeyedScreen). IsLive w.views c.args.view) (sym c.self.view_is) c.report_leaving.ensures.live in
     let plain = plain_removed views c.take.new.tree (number_of views c.args.view) c.in-Ok.field-0 c.in-Ok.ensures.applied in
     let narrow = fits_edited views c.take.new.tree (Remove (number_of views c.args.view)) c.in-Ok.field-0 c.in-Ok.ensures.applied c.self.invariant.narrow in
-    sound_removed c.self.inside c.take.new.tree c.take.new.damage (rw c.size-window.ensures.value at c.take.ensures.shown) c.forget.new.gesture c.forget.new.hooks c.args.view is live c.in-Ok.ensures.kept plain c.forget.ensures.gesture c.forget.ensures.opened
+    sound_removed c.self.inside c.take.new.tree c.take.new.damage (rw c.size-window.ensures.value at c.take.ensures.shown) c.forget.new.gesture _ c.args.view is live c.in-Ok.ensures.kept plain c.forget.ensures.gesture c.forget.ensures.opened
     (c.take.ensures.consistent c.self.invariant.consistent) narrow
     (offsets_edited views c.take.new.tree (edit.Remove c.args.view) (Ok c.in-Ok.field-0) tt c.in-Ok.ensures.applied tt c.self.invariant.offsets) c.self.invariant
 
 pub returns-clause-changed : goal.returns-clause-changed
 returns-clause-changed c =
     let old = c.args.self.now in
-    let mid = keyed c.self.inside in
+    let mid : KeyedScreen = record (keyed c.self.inside) { hooks = c.deref_mut.result.now } in
+    let named = with_table c.self.inside c.in-Some.hooks c.deref_mut.result.now c.in-Some.is c.deref_mut.ensures.value ∙ c.self.view_is in
     let now : KeyedScreen = record mid { views = c.take.new.tree; gesture = c.forget.new.gesture; hooks = c.forget.new.hooks } in
     let progress = leaving (world_of old) (number_of old.views c.args.view) in
     let is : IsTree mid.views = subst (λ (w : KeyedScreen). IsTree w.views) (sym c.self.view_is) c.report_leaving.ensures.is_tree in
     let live : IsLive mid.views c.args.view = subst (λ (w : KeyedScreen). IsLive w.views c.args.view) (sym c.self.view_is) c.report_leaving.ensures.live in
     let same : SameTree old.views mid.views = subst (λ (w : KeyedScreen). SameTree old.views w.views) (sym c.self.view_is) c.report_leaving.ensures.same in
-    let world : world_of mid ≡ after_progress (world_of old) progress = ap world_of c.self.view_is ∙ c.report_leaving.ensures.world in
+    let world : world_of mid ≡ after_progress (world_of old) progress = ap world_of named ∙ c.report_leaving.ensures.world in
     let reported : mid.reported ≡ progress.entries = ap (λ (w : KeyedScreen). w.reported) c.self.view_is ∙ c.report_leaving.ensures.reported in
     let done : c.take.result ≡ Ok None =
     remove_done (edited_of mid.views) (edited_of c.take.new.tree) (number_of mid.views c.args.view) c.take.result c.take.ensures.applied c.take.ensures.memory in
