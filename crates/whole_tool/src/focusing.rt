@@ -39,7 +39,9 @@ pub struct Question {
 }
 
 impl Question {
-    /// Carries out the script on a source, and then answers the question. Returns the status.
+    /// Carries out the script on a source, and then answers the question. Returns the status. It is not put into `tool`,
+    /// since its run would have a place on the stack of each call.
+    #[inline(never)]
     pub fn carry_out<S: Source, K: Sink, F: Shelf>(
         self,
         alloc: Global,
