@@ -1,9 +1,10 @@
 """The program under a limit of memory: a run ends by a status of its own and never by a signal, and what it has written
-is a prefix of what it writes without a limit. Of the stack it needs up to 256 KiB.
+is a prefix of what it writes without a limit. Of the stack an empty script needs up to 32 KiB, and every script up to
+128 KiB, with what the system puts there.
 
-Each script, and a layout file that is printed, is run under limits of the address space, of data and of the stack,
-from the least under which an empty script is run up to one that is no limit. The sweep takes some minutes, so it is run
-where it is asked for by its name: `ci/checks memory`.
+Each script, and a layout file that is printed, is run under limits of the address space and of data, from the least
+under which an empty script is run up to one that is no limit, and under limits of the stack from 128 KiB on. The sweep
+takes some minutes, so it is run where it is asked for by its name: `ci/checks memory`.
 """
 import os
 import resource
@@ -21,8 +22,12 @@ LIMITS = {
     "stack": (resource.RLIMIT_STACK, PAGE, 8 << 20),
 }
 # a stack that is smaller may end a run by a signal: functions that call themselves go as deep as the tree
-LEAST = {"stack": 256 << 10}
+LEAST = {"stack": 128 << 10}
+EMPTY_STACK = 32 << 10
+# the system begins the stack at a place of its own choice, so one start shows little
+STARTS = 100
 OUT_OF_MEMORY, WRITE_FAILED = 5, 4
+DEPTH = 32
 
 
 def contents(name):
@@ -69,6 +74,26 @@ def pictures():
     return lines(*made)
 
 
+def deep(classes):
+    """A tree as deep as may be, of these classes in turn, with hooks, a gesture, many states and a removal."""
+    made = ["window 400 400", "add root %s match match" % classes[0], "id v1 @1"]
+    for view in range(2, DEPTH):
+        made += ["add v%d %s match wrap" % (view - 1, classes[(view - 1) % len(classes)]), "id v%d @%x" % (view, view)]
+    leaf = "v%d" % DEPTH
+    made += ["add v%d TextView wrap wrap" % (DEPTH - 1), "id %s @20" % leaf, "text %s some words" % leaf]
+    made += ["answer %s on" % leaf, "hook %s size %s match 41 ; size v2 match 300" % (leaf, leaf), "frame", "frame"]
+    made += ["frame", "down 0 5 5", "move 0 5 50", "down 1 7 7", "move 0 5 90", "up 0", "cancel", "save", "restore"]
+    return lines(*made, "visible v3 gone", "frame", "visible v3 shown", "frame", "digest", "remove v2", "frame")
+
+
+def restoring():
+    """A state of so many views that those with one id are looked up at once."""
+    made = ["window 99 99", "add root FrameLayout match match"]
+    for view in range(2, 1026):
+        made += ["add v1 ScrollView match match", "id v%d @%x" % (view, view)]
+    return lines(*made, "frame", "save", "restore", "frame", "digest")
+
+
 SCRIPTS = {
     "growing": growing(),
     "touching": touching(),
@@ -76,6 +101,9 @@ SCRIPTS = {
     "pictures": pictures(),
     "empty": b"",
     "refused": b"ad root\n" * 50 + b"x" * 5000 + b"\n",
+    "deep": deep(["LinearLayout", "FrameLayout", "ScrollView", "RelativeLayout"]),
+    "deep relative": deep(["RelativeLayout"]),
+    "restoring": restoring(),
 }
 
 
@@ -88,7 +116,7 @@ def run_under(kind, limit, words, given, folder):
     try:
         ended = subprocess.run(
             [PROGRAM, *words], input=given, stdout=subprocess.PIPE, stderr=subprocess.DEVNULL, cwd=folder,
-            timeout=SECONDS, preexec_fn=partial(limited, kind, limit)
+            timeout=SECONDS, preexec_fn=partial(limited, kind, limit), env={}
         )
     except (OSError, subprocess.SubprocessError):
         return b"", None
@@ -97,6 +125,13 @@ def run_under(kind, limit, words, given, folder):
 
 def starts(kind, limit, folder):
     return run_under(kind, limit, ["run"], b"", folder) == (b"", 0)
+
+
+def starts_in_little():
+    """Whether an empty script is run each time in as much stack as it may need."""
+    with tempfile.TemporaryDirectory() as folder:
+        failed = sum(not starts(resource.RLIMIT_STACK, EMPTY_STACK, folder) for _ in range(STARTS))
+    return "%d of %d starts failed" % (failed, STARTS) if failed else ""
 
 
 def least_start(kind, step, most, folder):
@@ -147,6 +182,7 @@ def sweep(words, given, kind_name):
 
 
 def checks():
+    yield "memory/start", starts_in_little
     for kind_name in LIMITS:
         for name, script in SCRIPTS.items():
             yield "memory/%s/%s" % (kind_name, name), partial(sweep, ["run"], script, kind_name)
