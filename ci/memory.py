@@ -75,23 +75,28 @@ def pictures():
 
 
 def deep(classes):
-    """A tree as deep as may be, of these classes in turn, with hooks, a gesture, many states and a removal."""
+    """A tree as deep as may be, of these classes in turn, with a hook, a gesture, a saved state and a removal."""
     made = ["window 400 400", "add root %s match match" % classes[0], "id v1 @1"]
     for view in range(2, DEPTH):
         made += ["add v%d %s match wrap" % (view - 1, classes[(view - 1) % len(classes)]), "id v%d @%x" % (view, view)]
     leaf = "v%d" % DEPTH
     made += ["add v%d TextView wrap wrap" % (DEPTH - 1), "id %s @20" % leaf, "text %s some words" % leaf]
-    made += ["answer %s on" % leaf, "hook %s size %s match 41 ; size v2 match 300" % (leaf, leaf), "frame", "frame"]
+    made += ["answer %s yes" % leaf, "hook %s size %s match 41 ; size v2 match 300" % (leaf, leaf), "frame", "frame"]
     made += ["frame", "down 0 5 5", "move 0 5 50", "down 1 7 7", "move 0 5 90", "up 0", "cancel", "save", "restore"]
-    return lines(*made, "visible v3 gone", "frame", "visible v3 shown", "frame", "digest", "remove v2", "frame")
+    return lines(*made, "visible v3 gone", "frame", "visible v3 visible", "frame", "digest", "remove v2", "frame")
 
 
 def restoring():
-    """A state of so many views that those with one id are looked up at once."""
+    """A saved state of many views, for which `restore` takes the most of the stack."""
     made = ["window 99 99", "add root FrameLayout match match"]
     for view in range(2, 1026):
         made += ["add v1 ScrollView match match", "id v%d @%x" % (view, view)]
     return lines(*made, "frame", "save", "restore", "frame", "digest")
+
+
+def in_a_window(script):
+    """The same lines, each for one window of a stack."""
+    return b"at 0 0 0\n" + b"".join(b"in 0 " + line for line in script.splitlines(True))
 
 
 SCRIPTS = {
@@ -187,3 +192,6 @@ def checks():
         for name, script in SCRIPTS.items():
             yield "memory/%s/%s" % (kind_name, name), partial(sweep, ["run"], script, kind_name)
         yield "memory/%s/dump" % kind_name, partial(sweep, ["dump", "a.xml"], b"", kind_name)
+    for name in ("deep", "restoring"):
+        yield "memory/stack/focus/%s" % name, partial(sweep, ["focus", "left", "v1"], SCRIPTS[name], "stack")
+        yield "memory/stack/windows/%s" % name, partial(sweep, ["stack"], in_a_window(SCRIPTS[name]), "stack")
