@@ -1,10 +1,11 @@
 """The program under a limit of memory: a run ends by a status of its own and never by a signal, and what it has written
-is a prefix of what it writes without a limit. Of the stack an empty script needs up to 32 KiB, and every script up to
+is a prefix of what it writes without a limit. Of the stack an empty script needs up to 32 KiB, and any other up to
 128 KiB, with what the system puts there.
 
 Each script, and a layout file that is printed, is run under limits of the address space and of data, from the least
-under which an empty script is run up to one that is no limit, and under limits of the stack from 128 KiB on. The sweep
-takes some minutes, so it is run where it is asked for by its name: `ci/checks memory`.
+under which an empty script is run up to one that is no limit, and under limits of the stack from 128 KiB on; the
+scripts that need most of the stack are also run with a question and in a window of a stack. The sweep takes some
+minutes, so it is run where it is asked for by its name: `ci/checks memory`.
 """
 import os
 import resource
@@ -80,7 +81,7 @@ def deep(classes):
     for view in range(2, DEPTH):
         made += ["add v%d %s match wrap" % (view - 1, classes[(view - 1) % len(classes)]), "id v%d @%x" % (view, view)]
     leaf = "v%d" % DEPTH
-    made += ["add v%d TextView wrap wrap" % (DEPTH - 1), "id %s @20" % leaf, "text %s some words" % leaf]
+    made += ["add v%d TextView wrap wrap" % (DEPTH - 1), "id %s @%x" % (leaf, DEPTH), "text %s some words" % leaf]
     made += ["answer %s yes" % leaf, "hook %s size %s match 41 ; size v2 match 300" % (leaf, leaf), "frame", "frame"]
     made += ["frame", "down 0 5 5", "move 0 5 50", "down 1 7 7", "move 0 5 90", "up 0", "cancel", "save", "restore"]
     return lines(*made, "visible v3 gone", "frame", "visible v3 visible", "frame", "digest", "remove v2", "frame")
