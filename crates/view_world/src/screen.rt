@@ -89,7 +89,7 @@ pub struct Screen {
     /// The deliveries of the last line that had any, with room for all that an event delivers.
     log: Log,
     /// The armed hooks, of views that are in the tree. Their table is made with the first view, in memory of its own: it
-    /// is far larger than the rest of a screen, which is on the stack where it is moved.
+    /// is larger than the rest of a screen, which is on the stack where it is moved.
     hooks: Option<Box<Hooks>>,
     /// The state that was saved last.
     states: States,
