@@ -1,4 +1,7 @@
 //! The font in which texts are shown: five columns of eight pixels a character.
+//!
+//! The table is the project's own and has the licence of the repository (Apache 2.0, `LICENSE`). Its letters have the
+//! usual shapes of 5 by 7 character displays.
 
 /// The character of the first row of `FONT`.
 pub const FIRST_GLYPH: u32 = 32;
