@@ -9,7 +9,8 @@ import zipfile
 
 from running import PROGRAM, TOP
 from tools import first, place, unlike
-from vindaesk import attributes, compiling, documents, files, names, rendering, sources, values
+from vindaesk.common import files
+from vindaesk.layouts import attributes, compiler, documents, resource_names, source_reader, source_writer, values
 
 INBOX = os.path.join(TOP, "examples", "inbox")
 APP = os.path.join(INBOX, "inbox.apk")
@@ -123,9 +124,9 @@ def makes_sources_of_examples():
         if os.path.exists(path[: -len("xml")] + "status"):
             continue
         nodes = documents.of_file(files.read(path), path)
-        source = rendering.text(nodes, names.Names())
-        found, wrong = sources.read(source.encode(), path, names.Names())
-        made = documents.of_file(compiling.compiled(found), path)
+        source = source_writer.text(nodes, resource_names.Names())
+        found, wrong = source_reader.read(source.encode(), path, resource_names.Names())
+        made = documents.of_file(compiler.compiled(found), path)
         if wrong or list(elements(made)) != list(elements(nodes)):
             return "%s: %s" % (os.path.basename(path), wrong or "other elements")
     return ""
@@ -209,11 +210,11 @@ def has_page_values():
         "?01010036": (2, 0x01010036), "50%p": (6, 0x40000031),
     }
     for text, value in wanted.items():
-        found = values.read(text, attributes.ANY, names.Names())
+        found = values.read(text, attributes.ANY, resource_names.Names())
         if (found.kind, found.word) != value:
             return "'%s' is %02x %08x" % (text, found.kind, found.word)
-        if found != values.read(values.shown(found, attributes.ANY, names.Names()), attributes.ANY, names.Names()):
-            return "'%s' is written as '%s'" % (text, values.shown(found, attributes.ANY, names.Names()))
+        if found != values.read(values.shown(found, attributes.ANY, resource_names.Names()), attributes.ANY, resource_names.Names()):
+            return "'%s' is written as '%s'" % (text, values.shown(found, attributes.ANY, resource_names.Names()))
     return ""
 
 

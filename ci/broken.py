@@ -12,7 +12,7 @@ import tempfile
 from functools import partial
 
 from running import PROGRAM, TOP, difference, run
-from vindaesk import compiling, names, sources
+from vindaesk.layouts import compiler, resource_names, source_reader
 
 GREATEST = 0xFFFFFFFF
 READ = ""
@@ -89,9 +89,9 @@ def replaced(at, number, why):
 
 def compiled(source):
     """The file of this source."""
-    nodes, wrong = sources.read(source.encode(), "a.xml", names.Names(b"", "ids"))
+    nodes, wrong = source_reader.read(source.encode(), "a.xml", resource_names.Names(b"", "ids"))
     assert not wrong, wrong
-    return compiling.compiled(nodes)
+    return compiler.compiled(nodes)
 
 
 def nested(count):

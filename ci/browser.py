@@ -2,10 +2,9 @@
 import json
 import os
 import re
-import tempfile
 
 import chromium
-from tools import EXAMPLES, RED, UNSETTLED, WITHOUT, place, unlike
+from tools import RED, UNSETTLED, WITHOUT, place, unlike
 
 TOUCHED = """window 160 120
 add root FrameLayout match match

@@ -5,8 +5,8 @@ import tempfile
 
 from running import TOP
 from tools import place
-from vindaesk import png
-from vindaesk.calling import Failure
+from vindaesk.common.failures import Failure
+from vindaesk.pictures import png
 from vindaesk.session import Bounds, Frame, Inflated, LineRefused, Session
 
 EXAMPLES = os.path.join(TOP, "examples")

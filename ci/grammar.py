@@ -1,4 +1,4 @@
-"""The table of lines of tools/vindaesk/grammar.py: it has the forms of docs/SCRIPT.md with their words and bounds, and
+"""The table of lines of tools/vindaesk/scripts/grammar.py: it has the forms of docs/SCRIPT.md with their words and bounds, and
 finds no form, or a number outside its bounds, for exactly those lines that the program refuses for that. And what
 tools/check says by it."""
 import functools
@@ -8,8 +8,8 @@ import re
 import tempfile
 
 from running import PROGRAM, TOP, run
-from tools import first, place, unlike
-from vindaesk import grammar, refusals
+from tools import place, unlike
+from vindaesk.scripts import grammar, refusals
 
 PAGE = os.path.join(TOP, "docs", "SCRIPT.md")
 EXAMPLES = os.path.join(TOP, "examples")
@@ -52,8 +52,8 @@ def has_page_words():
     whole = before + "".join(effect for _, effect in page_rows())
     texts = {}
     for forms, effect in page_rows():
-        first = forms[0].split(" ")[0]
-        texts[first] = texts.get(first, before) + effect
+        word = forms[0].split(" ")[0]
+        texts[word] = texts.get(word, before) + effect
     for form in grammar.FORMS:
         for slot in form.slots:
             words = [it for it in slot.kind.choices if it != slot.name]

@@ -5,7 +5,8 @@ import subprocess
 
 from running import PROGRAM, SECONDS, TOP, run
 from tools import place, unlike
-from vindaesk import calling, installing
+from vindaesk.common import places
+from vindaesk.installing import install
 
 SCRIPT = b"window 9 9\nadd root View 1 1\nframe\nbounds\n"
 ANSWER = b"v1\nsettled 0\nv1 0 0 1 1\n"
@@ -82,11 +83,11 @@ def leaves_what_is_not_its_own():
 def helps():
     """Each tool, by `--help`, `--version` and an argument that none knows."""
     with place() as it:
-        for tool in installing.tools():
+        for tool in install.tools():
             found = it.call(tool, "--help")
             if unlike(found, 0, None, "") or not found[1].startswith(b"usage: %s" % tool.encode()):
                 return "%s --help: status %d, %r" % (tool, *found[:2])
-            why = unlike(it.call(tool, "--version"), 0, calling.version().encode() + b"\n", "")
+            why = unlike(it.call(tool, "--version"), 0, places.version().encode() + b"\n", "")
             why = why or unlike(it.call(tool, "--unknown"), 2, b"")
             if why:
                 return "%s: %s" % (tool, why)

@@ -63,7 +63,7 @@ NARROW = {
              "rule v3 parent_bottom yes\n",
     "padding": "add v1 TextView 40 10\ntext v2 a\npadding v2 0 4 0 4\n",
 }
-OWN = '''from vindaesk.rules import rule
+OWN = '''from vindaesk.lint import rule
 
 @rule("no-id")
 def no_id(view, page):

@@ -20,7 +20,7 @@ import tempfile
 from functools import partial
 
 from running import PROGRAM, SECONDS, TOP, difference
-from vindaesk import grammar
+from vindaesk.scripts import grammar
 
 TAKING = ("inflate", "add", "window", "res", "text", "id", "rule", "save", "restore")
 OUT_OF_MEMORY, WRITE_FAILED = 5, 4

@@ -26,7 +26,8 @@ import tempfile
 from functools import partial
 
 from running import PROGRAM, TOP, difference, run
-from vindaesk import compiling, documents, files, names, sources
+from vindaesk.common import files
+from vindaesk.layouts import compiler, documents, resource_names, source_reader
 
 ARROW = "→"
 INDENTED = ("    ", "\t")
@@ -104,8 +105,8 @@ def elements(nodes):
 
 
 def source(lines, name):
-    nodes, wrong = sources.read("\n".join(lines).encode(), name, names.Names())
-    wanted = list(elements(documents.of_file(compiling.compiled(nodes), name)))
+    nodes, wrong = source_reader.read("\n".join(lines).encode(), name, resource_names.Names())
+    wanted = list(elements(documents.of_file(compiler.compiled(nodes), name)))
     path = os.path.join(TOP, "examples", name)
     found = list(elements(documents.of_file(files.read(path), path)))
     if found == wanted and not wrong:

@@ -6,7 +6,8 @@ import os
 from functools import partial
 
 from running import PROGRAM, TOP, run
-from vindaesk import files, png
+from vindaesk.common import files
+from vindaesk.pictures import png
 
 
 def stacked(path):

@@ -17,7 +17,7 @@ import xml.etree.ElementTree
 import zlib
 
 from running import SECONDS, TOP
-from vindaesk import png
+from vindaesk.pictures import png
 
 EXAMPLES = os.path.join(TOP, "examples")
 TOOLS = ("screenshot", "picdiff", "tree", "runall", "check", "axml", "unpack", "lint", "page", "install")

@@ -137,6 +137,13 @@ def below(folder, endings):
         yield from (os.path.relpath(os.path.join(place, name), TOP) for name in sorted(names) if name.endswith(endings))
 
 
+def subpackages():
+    """The package of tools and its subpackages, from the top."""
+    for place, folders, _ in os.walk(os.path.join(TOP, "tools", "vindaesk")):
+        folders[:] = sorted(name for name in folders if name != "__pycache__")
+        yield os.path.relpath(place, TOP)
+
+
 def scripts(folder):
     """The Python files right below a folder, and the executables there."""
     for name in sorted(os.listdir(os.path.join(TOP, folder))):
@@ -163,5 +170,5 @@ def checks():
         yield "words of crates/" + name, partial(problem, list(below("crates/" + name, tuple(MARKS))))
     yield "words of the pages", partial(problem, ["README.md", "CHANGELOG.md", *below("docs", ".md"), *below("ci", ".md")])
     yield "words of the launcher and the gate", partial(problem, ["vindaesk", ".ci/run"])
-    for folder in ("tools", "tools/vindaesk", "ci", "bench"):
+    for folder in ("tools", *subpackages(), "ci", "bench"):
         yield "words of %s/" % folder, partial(problem, list(scripts(folder)))

@@ -1,0 +1,57 @@
+"""Compiles the source of a layout into the form that the line inflate reads, or makes a source of a compiled file.
+
+The values of the attributes in docs/FORMATS.md are compiled as `aapt2` does it. Any other attribute is compiled by the
+form of its value, and passed over when views are made of it; those of the namespace `tools` are left out.
+
+Names of resources, as @+id/title and @dimen/gap, have their ids in a list of lines `app:id/title = 0x7f080000`, which
+`aapt2 link --emit-ids` writes too. A name with a plus gets an id there if it has none. With --text names are taken from
+the list, if it is there, and each element is in the line that it had.
+
+Each value that does not fit is reported with file, line and column; then the status is 1, and nothing is written.
+"""
+import argparse
+import os
+from typing import Optional, Sequence, Tuple
+
+from ..common import failures, files, messages
+from ..layouts import compiler, documents, source_reader, source_writer
+from ..layouts.resource_names import Names
+from . import arguments
+
+
+def reader() -> argparse.ArgumentParser:
+    """The arguments."""
+    found = arguments.parser(__doc__)
+    found.add_argument("source", metavar="SRC.xml", help="the source, or - for standard input")
+    found.add_argument("out", metavar="OUT.xml", help="the compiled file, or - for standard output")
+    found.add_argument("--ids", metavar="FILE", help="the list of ids; ids.txt beside OUT.xml without it")
+    found.add_argument("--text", action="store_true", help="makes a source of a compiled file")
+    return found
+
+
+def list_of(given: argparse.Namespace) -> Tuple[str, Names]:
+    """The path of the list of ids, and the list, which is empty where there is none yet."""
+    beside = os.path.dirname(given.out) if given.out != "-" else ""
+    path = given.ids or os.path.join(beside, "ids.txt")
+    is_there = os.path.exists(path) or (given.ids and given.text)
+    return path, Names(files.read(path) if is_there else b"", path)
+
+
+def main(words: Optional[Sequence[str]] = None) -> int:
+    given = reader().parse_intermixed_args(words)
+    source = files.read(given.source, source_reader.MAX_BYTES)
+    path, names = list_of(given)
+    if given.text:
+        nodes = documents.of_file(source, files.named(given.source))
+        files.write(given.out, source_writer.text(nodes, names).encode())
+        return 0
+    nodes, wrong = source_reader.read(source, files.named(given.source), names)
+    for sentence in wrong:
+        messages.say(sentence)
+    if wrong:
+        return failures.WRONG
+    made = compiler.compiled(nodes)
+    if names.is_changed:
+        files.replace(path, names.written())
+    files.write(given.out, made)
+    return 0

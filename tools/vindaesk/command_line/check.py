@@ -1,0 +1,33 @@
+"""The lines of a script that are refused, each as FILE:LINE:COLUMN with the reason.
+
+The column is that of the word that is meant, in characters, from 1. Of a layout file the element, its line in the
+source and the attribute are reported. Layout files are taken from the folder of the script. With `--format github` the
+runners of GitHub show each reason beside its line.
+
+The status is 0 where no line is refused, and 1 where one is.
+"""
+import argparse
+from typing import Optional, Sequence
+
+from ..common import failures
+from ..lint import refused_lines
+from ..scripts import script
+from . import arguments
+
+
+def reader() -> argparse.ArgumentParser:
+    """The arguments."""
+    found = arguments.parser(__doc__)
+    found.add_argument("script", metavar="SCRIPT", help="the script, or - for standard input")
+    found.add_argument("--format", choices=sorted(refused_lines.FORMATS), default="plain", help="plain without it")
+    return found
+
+
+def main(words: Optional[Sequence[str]] = None) -> int:
+    given = reader().parse_args(words)
+    arguments.write_any_text()
+    status = 0
+    for found in refused_lines.findings(script.read(given.script)):
+        print(refused_lines.FORMATS[given.format](found, given.script))
+        status = failures.WRONG
+    return status

@@ -1,0 +1,38 @@
+"""Installs the built program, the launcher, the tools and a manual page below a folder.
+
+PREFIX/bin gets `vindaesk` and `vindaesk-TOOL` for each tool, which lead to PREFIX/lib/vindaesk. The folder can be
+copied or moved, also to another machine: the program needs libc alone, the launcher bash, the tools Python 3.8. What
+was installed there before is replaced. With --remove it is taken away.
+
+The status is 0, or 2 where something cannot be read or written, or another one's files are in the way.
+"""
+import argparse
+import os
+from typing import Optional, Sequence
+
+from ..common import failures, places
+from ..common.failures import Failure
+from ..installing import install
+from . import arguments
+
+
+def reader() -> argparse.ArgumentParser:
+    """The arguments."""
+    found = arguments.parser(__doc__)
+    found.add_argument("prefix", metavar="PREFIX", help="a folder, as ~/.local or /usr/local")
+    found.add_argument("--remove", action="store_true", help="takes away what is installed there")
+    return found
+
+
+def main(words: Optional[Sequence[str]] = None) -> int:
+    given = reader().parse_args(words)
+    if not given.prefix:
+        raise Failure("PREFIX is empty", failures.NOT_RUN)
+    prefix = os.path.abspath(given.prefix)
+    if given.remove:
+        install.remove(prefix)
+        print("removed from %s" % prefix)
+        return 0
+    install.install(prefix)
+    print("%s is installed; call %s" % (places.version(), os.path.join(prefix, "bin", "vindaesk")))
+    return 0

@@ -1,0 +1,74 @@
+"""The picture that a script ends with, as a PNG file; or a picture of each of its frames; or one of a stack of windows.
+
+Carries out the script, asks for the picture of its last frame by lines `pixels`, and writes it. What is edited after
+the last frame is not seen. Layout files are taken from the folder of the script. With --stack the script is one of a
+stack of windows, and lines `compose` ask for the picture.
+
+Each line that is refused is reported on standard error, and makes the status 1; the picture is written all the same.
+Where there is no window, no frame, or the last one has not settled, the status is 1 and nothing is written.
+"""
+import argparse
+import os
+from typing import Optional, Sequence, Tuple
+
+from ..common import files
+from ..pictures import frames, png
+from ..scripts import script
+from ..scripts.replies import Refused
+from ..scripts.script import Script
+from . import arguments
+
+
+def reader() -> argparse.ArgumentParser:
+    """The arguments."""
+    found = arguments.parser(__doc__)
+    found.add_argument("script", metavar="SCRIPT", help="the script, or - for standard input")
+    found.add_argument("out", metavar="OUT.png", nargs="?", help="the picture, or - for standard output")
+    found.add_argument("--scale", metavar="N", type=arguments.count(1, 8), default=1, help="a pixel is N by N, 1 to 8")
+    found.add_argument("--frames", metavar="DIR", help="writes DIR/0001.png and so on, one for each frame that settles")
+    found.add_argument("--stack", metavar="WxH", type=size, help="of a stack of windows: W by H points of it, from 0 0")
+    return found
+
+
+def size(text: str) -> Tuple[int, int]:
+    """The size of a picture of a stack."""
+    width, between, height = text.partition("x")
+    if not between:
+        raise argparse.ArgumentTypeError("'%s' is no size, as 320x180" % text)
+    side = arguments.count(1, script.MAX_SIDE)
+    return side(width), side(height)
+
+
+def of_stack(made: Script, given: argparse.Namespace, parser: argparse.ArgumentParser) -> int:
+    """Writes the picture of a stack of windows. Returns the status."""
+    if given.frames or not given.out:
+        parser.error("--stack takes OUT.png, and no --frames")
+    refused = Refused()
+    picture = frames.composed(made, refused, given.stack)
+    status = refused.end()
+    files.write(given.out, png.written(picture, given.scale))
+    return status
+
+
+def main(words: Optional[Sequence[str]] = None) -> int:
+    parser = reader()
+    given = parser.parse_intermixed_args(words)
+    if not (given.out or given.frames):
+        parser.error("OUT.png or --frames DIR is needed")
+    made = script.read(given.script)
+    if given.stack:
+        return of_stack(made, given, parser)
+    if given.frames:
+        os.makedirs(given.frames, exist_ok=True)
+    refused = Refused()
+    count = 0
+    for frame in frames.frames(made, refused, bool(given.frames)):
+        last = frame
+        if given.frames and frame.picture and frame.is_new:
+            count += 1
+            files.replace(os.path.join(given.frames, "%04d.png" % count), png.written(frame.picture, given.scale))
+    status = refused.end()
+    picture = frames.picture_of(last)
+    if given.out:
+        files.write(given.out, png.written(picture, given.scale))
+    return status

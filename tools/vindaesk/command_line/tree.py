@@ -1,0 +1,36 @@
+"""Each view that a script leaves, in preorder, indented by its depth: number, class, id, text, bounds.
+
+The bounds are those of the last frame: left, top, right and bottom in the view's parent, and after the word `at` in
+the window, where that is another place. `scroll`, the visibility and `bg` follow where they are not those of a new
+view; a view without bounds has `none`, and one whose background a hook may have set, or not, `bg unknown`. With --json
+all of this is written in the form of docs/TOOLS.md. Layout files are taken from the folder of the script.
+
+Each line that is refused is reported on standard error, and makes the status 1; the tree is written all the same. Where
+there is no window, no frame, no root, or the last frame has not settled, the status is 1 and nothing is written.
+"""
+import argparse
+from typing import Optional, Sequence
+
+from ..common import files
+from ..scripts import script
+from ..scripts.replies import Refused
+from ..views import placement
+from . import arguments
+
+
+def reader() -> argparse.ArgumentParser:
+    """The arguments."""
+    found = arguments.parser(__doc__)
+    found.add_argument("script", metavar="SCRIPT", help="the script, or - for standard input")
+    found.add_argument("--json", action="store_true", help="writes JSON")
+    return found
+
+
+def main(words: Optional[Sequence[str]] = None) -> int:
+    given = reader().parse_args(words)
+    made = script.read(given.script)
+    refused = Refused()
+    views = placement.views_of(made, refused)
+    text = placement.as_json(script.last_window(made.lines) or (0, 0), views) if given.json else placement.as_text(views)
+    files.write("-", text.encode())
+    return refused.end()

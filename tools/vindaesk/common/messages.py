@@ -1,0 +1,19 @@
+"""Messages on standard error, in which no text of a user can hide control characters."""
+import os
+import sys
+
+
+def printable(text: str) -> str:
+    """A text whose control characters are escaped."""
+    return "".join(it if it.isprintable() else it.encode("unicode_escape", "replace").decode() for it in text)
+
+
+def shown(text: bytes, limit: int = 160) -> str:
+    """A text of a script as a message shows it: in one line, without control characters, and not too long."""
+    plain = printable(text[: 4 * limit].decode("utf-8", "backslashreplace"))
+    return plain if len(plain) <= limit and len(text) <= 4 * limit else plain[:limit] + " .."
+
+
+def say(sentence: str) -> None:
+    """Writes a sentence on standard error, after the tool's name."""
+    print("%s: %s" % (os.path.basename(sys.argv[0]), printable(sentence)), file=sys.stderr)

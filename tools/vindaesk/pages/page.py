@@ -1,0 +1,157 @@
+"""A page in HTML of what a script does: its frames, the views after each, and the touches in between."""
+import base64
+import hashlib
+import json
+import os
+from typing import Dict, Iterator, List, Optional
+
+from ..common.failures import Failure
+from ..pictures import frames, png
+from ..pictures.png import Picture
+from ..scripts import replies, script
+from ..scripts.replies import Answer, Part, Refused
+from ..scripts.script import Script, Window
+from ..views import placement, view_tree
+from ..views.placement import Placed
+
+TEMPLATE = os.path.join(os.path.dirname(os.path.abspath(__file__)), "page.html")
+TOUCHES = (b"down", b"move", b"up", b"cancel")
+# the places in the template
+TITLE, DATA = "<!--TITLE-->", "<!--DATA-->"
+BOUNDS = [b"bounds"]
+
+Record = Dict[str, object]
+
+
+class Pool:
+    """Things that are the same in several frames, each kept once."""
+
+    def __init__(self) -> None:
+        self.rows: List[Record] = []
+        self.places: Dict[bytes, int] = {}
+
+    def place(self, key: bytes, row: Record) -> int:
+        """The place of a thing, which is added if it is new."""
+        if key not in self.places:
+            self.places[key] = len(self.rows)
+            self.rows.append(row)
+        return self.places[key]
+
+
+def is_touch(line: bytes) -> bool:
+    """Whether a line moves a pointer."""
+    return script.words_of(line)[:1] in [[word] for word in TOUCHES]
+
+
+def parts_of(lines: List[bytes]) -> Iterator[Part]:
+    """A script in parts that end where a reply counts, and touches by themselves. After each frame come a part that
+    asks for the bounds and one that asks for the picture."""
+    window: Optional[Window] = None
+    for part in view_tree.parts_of(lines, (*view_tree.REPLYING, *TOUCHES)):
+        own = list(part.lines)
+        window = script.last_window(own) or window
+        if len(own) > 1 and is_touch(own[-1]):
+            yield Part(own[:-1], part.first)
+            part = Part(own[-1:], part.first + len(own) - 1)
+        yield part
+        if script.is_frame(own[-1]):
+            yield Part(BOUNDS)
+            yield Part(frames.asked(window))
+
+
+def picture_record(picture: Picture, body: bytes) -> Record:
+    """A picture as the page has it."""
+    url = "data:image/png;base64," + base64.b64encode(body).decode()
+    return {"width": picture.width, "height": picture.height, "url": url}
+
+
+def view_record(it: Placed) -> Record:
+    """A view as the page has it."""
+    spaces = {name: it.view.given.get(name, "") for name in view_tree.SPACES}
+    return {**placement.record(it), "answer": it.view.answer, **spaces}
+
+
+class Recording:
+    """What there is to show of a script, put together as answers come: at most a number of frames."""
+
+    def __init__(self, folder: str, most: int):
+        self.tree = view_tree.Tree(folder)
+        self.most = most
+        self.pictures, self.views = Pool(), Pool()
+        self.steps: List[Record] = []
+        self.events: List[Record] = []
+        self.more = 0
+        # the line of the last frame, 0 where it was refused; the views after it; why it has no picture
+        self.line = 0
+        self.placed: List[Placed] = []
+        self.why = 0
+        self.window: Optional[Window] = None
+
+    def take(self, part: Part, answer: Answer) -> None:
+        """Takes the answer of the next part."""
+        if part.first:
+            self.follow(part, answer)
+        elif part.lines == BOUNDS:
+            self.placed = [] if answer.refusals else placement.all_placed(self.tree.root, answer.replies)
+        elif self.line:
+            frame = frames.frame_of(answer, self.window, True)
+            self.why = frame.why
+            if frame.picture:
+                self.add(frame.picture)
+
+    def follow(self, part: Part, answer: Answer) -> None:
+        """Takes the lines of the script itself."""
+        self.tree.follow(part, answer)
+        self.window = script.last_window(part.lines) or self.window
+        last = len(part.lines) - 1
+        is_carried_out = last not in answer.refusals
+        self.line = part.first + last if is_carried_out and script.is_frame(part.lines[last]) else 0
+        if is_carried_out and is_touch(part.lines[last]):
+            words = [word.decode() for word in script.words_of(part.lines[last])]
+            self.events.append({
+                "line": part.first + last, "words": words, "replies": [it.decode() for it in answer.replies]
+            })
+
+    def add(self, picture: Picture) -> None:
+        """Adds a frame. The touches that follow belong to it."""
+        self.events = []
+        if len(self.steps) == self.most:
+            self.more += 1
+            return
+        body = png.written(picture)
+        places = []
+        for it in self.placed:
+            record = view_record(it)
+            places.append(self.views.place(json.dumps(record).encode(), record))
+        place = self.pictures.place(hashlib.sha256(body).digest(), picture_record(picture, body))
+        self.steps.append({"line": self.line, "picture": place, "views": places, "events": self.events})
+
+
+def recorded(made: Script, refused: Refused, most: int) -> Recording:
+    """What there is to show of a script. Refused lines are reported on the way."""
+    found = Recording(made.folder, most)
+    for part, answer in replies.answers(list(parts_of(made.lines)), made.folder):
+        if part.first:
+            refused.add_all(part, answer)
+        found.take(part, answer)
+    if not found.steps:
+        refused.end()
+        why = found.why or (37 if found.window else 33)
+        raise Failure("there is no frame to show: " + frames.REASONS.get(why, "refusal %d" % why))
+    return found
+
+
+def embedded(data: Record) -> str:
+    """JSON for an element of a page, which no text of a view can end."""
+    text = json.dumps(data, ensure_ascii=False, separators=(",", ":"))
+    return text.replace("&", "\\u0026").replace("<", "\\u003c").replace(">", "\\u003e")
+
+
+def page(title: str, found: Recording) -> bytes:
+    """The whole page."""
+    with open(TEMPLATE, encoding="utf-8") as file:
+        head, rest = file.read().split(DATA)
+    data = {"title": title, "steps": found.steps, "pictures": found.pictures.rows, "views": found.views.rows,
+            "more": found.more}
+    plain = title.replace("&", "&amp;").replace("<", "&lt;")
+    return (head.replace(TITLE, plain) + embedded(data) + rest).encode("utf-8", "replace")

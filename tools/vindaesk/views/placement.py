@@ -1,0 +1,125 @@
+"""Where the views of a script lie, in their parents and in the window, and how a tree is written."""
+import json
+from typing import Dict, List, NamedTuple, Optional, Tuple
+
+from ..common.failures import Failure, WRONG
+from ..pictures.frames import REASONS
+from ..scripts import replies
+from ..scripts.replies import Part, Refused
+from ..scripts.script import Script, Window
+from . import view_tree
+from .view_tree import View
+
+# the version of the form of docs/tree.schema.json
+JSON_VERSION = 1
+
+Box = Tuple[int, int, int, int]
+
+
+class Placed(NamedTuple):
+    """A view where it lies: its bounds in its parent and in the window, which it may leave, and how far its child is
+    moved up, where it scrolls."""
+
+    view: View
+    bounds: Optional[Box]
+    window: Optional[Box]
+    scroll: Optional[int]
+
+
+def moved(box: Box, right: int, down: int) -> Box:
+    """A box at another place."""
+    return (box[0] + right, box[1] + down, box[2] + right, box[3] + down)
+
+
+def placed(view: View, words: List[bytes], around: Dict[int, Placed]) -> Placed:
+    """A view by the words that `bounds` writes of it, and the views around it."""
+    if words[1] == b"none":
+        return Placed(view, None, None, None)
+    left, top, right, bottom = (int(word) for word in words[1:5])
+    bounds = (left, top, right, bottom)
+    scroll = int(words[6]) if len(words) == 7 else None
+    parent = around[view.parent.number] if view.parent else None
+    if parent is None:
+        return Placed(view, bounds, bounds, scroll)
+    if parent.window is None:
+        return Placed(view, bounds, None, scroll)
+    return Placed(view, bounds, moved(bounds, parent.window[0], parent.window[1] - (parent.scroll or 0)), scroll)
+
+
+def all_placed(root: Optional[View], lines: List[bytes]) -> List[Placed]:
+    """All views in preorder, by what `bounds` writes of them."""
+    views = list(root.and_below()) if root else []
+    found: Dict[int, Placed] = {}
+    for view, line in zip(views, lines):
+        words = line.split(b" ")
+        if words[0] == b"v%d" % view.number:
+            found[view.number] = placed(view, words, found)
+    if not len(views) == len(lines) == len(found):
+        raise Failure("the views of the script could not be followed; this is a mistake of the tool")
+    return list(found.values())
+
+
+def views_of(made: Script, refused: Refused) -> List[Placed]:
+    """All views that a script leaves, in preorder. Refused lines are reported on the way."""
+    return views_after(view_tree.parts_of(made.lines), made.folder, refused)
+
+
+def views_after(parts: List[Part], folder: str, refused: Refused) -> List[Placed]:
+    """The same of the parts of a script."""
+    tree = view_tree.Tree(folder)
+    for part, answer in replies.answers([*parts, Part([b"bounds"])], folder):
+        if part.first:
+            refused.add_all(part, answer)
+        tree.follow(part, answer)
+    for refusal in answer.refusals.values():
+        refused.end()
+        raise Failure("there are no bounds: " + REASONS.get(refusal.number, "refusal %d" % refusal.number), WRONG)
+    return all_placed(tree.root, answer.replies)
+
+
+def name_of(number: int) -> Optional[str]:
+    """An id as lines write it."""
+    return "@%x" % number if number else None
+
+
+def record(it: Placed) -> Dict[str, object]:
+    """A view as JSON has it."""
+    view = it.view
+    return {
+        "number": view.number,
+        "parent": view.parent.number if view.parent else None,
+        "depth": view.depth,
+        "class": view.kind,
+        "id": name_of(view.id),
+        "text": view.text,
+        "bounds": it.bounds,
+        "window": it.window,
+        "scroll": it.scroll,
+        "visibility": view.visibility,
+        "background": view.background,
+    }
+
+
+def as_json(window: Window, views: List[Placed]) -> str:
+    """The whole tree as JSON, a view a line. docs/tree.schema.json has its form; a form that programs which read this
+    one might not understand has another version."""
+    rows = ",\n".join("  " + json.dumps(record(it), ensure_ascii=False) for it in views)
+    return '{"version": %d, "window": %s, "views": [\n%s\n]}\n' % (JSON_VERSION, json.dumps(window), rows)
+
+
+def text_line(it: Placed) -> str:
+    """A view as a line: what is as in a new view is left out, and the place in the window where it is the bounds."""
+    view = it.view
+    words = ["v%d" % view.number, view.kind, name_of(view.id)]
+    words.append(json.dumps(view.text, ensure_ascii=False) if view.text else None)
+    words.append("%d %d %d %d" % it.bounds if it.bounds else "none")
+    words.append("at %d %d %d %d" % it.window if it.window and it.window != it.bounds else None)
+    words.append("scroll %d" % it.scroll if it.scroll is not None else None)
+    words.append(view.visibility if view.visibility != "visible" else None)
+    words.append("bg %s" % (view.background or "unknown") if view.background != view_tree.CLEAR else None)
+    return "  " * (view.depth - 1) + " ".join(filter(None, words))
+
+
+def as_text(views: List[Placed]) -> str:
+    """The whole tree, a view a line, indented by its depth."""
+    return "".join(text_line(it) + "\n" for it in views)
