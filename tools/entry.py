@@ -13,4 +13,4 @@ def run(path: str) -> None:
     """Runs the tool whose name is that of a file, and ends with its status."""
     from vindaesk.common import ending
 
-    ending.call(importlib.import_module("vindaesk.command_line." + os.path.basename(path)).main)
+    ending.call(importlib.import_module("vindaesk.command_line." + os.path.basename(os.path.realpath(path))).main)
