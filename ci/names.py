@@ -1,0 +1,178 @@
+"""What pages name is there: names of code, files, links and their anchors; and lists are whole.
+
+- In the pages about the code, each name between backquotes is a word of a file of the repository that is no page, and each path
+  is the end of the path of a file or a folder.
+- In every page a link leads to a file or a heading that is there, and a numbered list goes 1, 2, 3.
+- Each tool has a row in docs/TOOLS.md.
+"""
+import fnmatch
+import functools
+import glob
+import os
+import re
+import subprocess
+from functools import partial
+
+from running import TOP
+from vindaesk.installing import install
+
+ABOUT_CODE = ("ARCHITECTURE.md", "PROOFS.md", "PROMISES.md", "DECISIONS.md", "STYLE.md", "CONTRIBUTING.md")
+QUOTED = re.compile(r"`([^`\n]+)`")
+LINK = re.compile(r"\]\(([^()\s]+)\)")
+NUMBERED = re.compile(r"( *)(\d+)\. ")
+# a path: parts with slashes between, or a file's name with an ending of the repository's
+PATH = re.compile(r"[\w.*-]+(?:/[\w.*-]*)+|[\w*-]+\.(?:rt|antt|py|md|txt|edit|json|sh|toml)")
+# a part of a name that a program can look for; what has a star is a pattern
+WORD = re.compile(r"(?<![\w*.\\-])[A-Za-z_][\w'-]*(?![\w*'-])")
+UNREAD = (".md", ".png", ".apk", ".arsc", ".xml")
+# words of pages that are examples of names, and no names of the repository
+EXAMPLES = re.compile(r"\.\.|^cite$|\bNAME\b|\bTOOL\b|m/f|FramePlan|frame_plan|_at_key|list-axioms")
+SHOWN = 12
+
+
+def text_of(path):
+    with open(os.path.join(TOP, path), encoding="utf-8", errors="replace") as file:
+        return file.read()
+
+
+def pages():
+    """All pages."""
+    found = [path for place in ("*.md", "docs/*.md") for path in glob.glob(os.path.join(TOP, place))]
+    return sorted(os.path.relpath(path, TOP) for path in found)
+
+
+def plain_lines(text):
+    """The lines of a page that are in no block, each with its number."""
+    is_block = False
+    for number, line in enumerate(text.split("\n"), 1):
+        if line.startswith("```"):
+            is_block = not is_block
+        elif not is_block:
+            yield number, line
+
+
+@functools.lru_cache(maxsize=None)
+def repository():
+    """The paths of all files that git knows, or would take."""
+    words = ["git", "-C", TOP, "ls-files", "-z", "--cached", "--others", "--exclude-standard"]
+    found = subprocess.run(words, stdout=subprocess.PIPE, check=True).stdout.decode().split("\0")
+    return [path for path in found if path and os.path.isfile(os.path.join(TOP, path))]
+
+
+@functools.lru_cache(maxsize=None)
+def words_of_code():
+    """The words of all files that are no pages, and of their paths."""
+    found = set()
+    for path in repository():
+        if not path.endswith(UNREAD):
+            found.update(WORD.findall(text_of(path)))
+        found.update(WORD.findall(path.replace("/", " ")))
+    return found
+
+
+@functools.lru_cache(maxsize=None)
+def ends_of_paths():
+    """Each end of the path of a file or a folder, from a slash on."""
+    found = set()
+    for path in repository():
+        parts = path.split("/")
+        found.update("/".join(parts[begun:end]) for end in range(1, len(parts) + 1) for begun in range(end))
+    return found
+
+
+def is_there(path):
+    """Whether a path is the end of one of the repository, which may lack the ending of a file of code or of definitions."""
+    plain = path.rstrip("/")
+    if plain.startswith("./"):
+        plain = plain[2:]
+    if "*" in plain:
+        return bool(fnmatch.filter(ends_of_paths(), plain))
+    return any(plain + ending in ends_of_paths() for ending in ("", ".antt", ".rt"))
+
+
+def unknown(text):
+    """What the text of a page about the code names, and is not there."""
+    for number, line in plain_lines(text):
+        for quoted in QUOTED.findall(line):
+            first = quoted.split(" ")[0]
+            if EXAMPLES.search(quoted) or first.startswith("/"):
+                continue
+            if PATH.fullmatch(first):
+                missing = [] if is_there(first) else [first]
+            else:
+                missing = [word for word in WORD.findall(quoted) if word not in words_of_code()]
+            yield from ("line %d: there is no `%s`" % (number, it) for it in missing[:1])
+
+
+def anchors(text):
+    """The anchors of the headings of a page, as GitHub makes them."""
+    found = {}
+    for _, line in plain_lines(text):
+        if line.startswith("#"):
+            plain = re.sub(r"[^\w\- ]", "", line.lstrip("#").strip().lower()).replace(" ", "-")
+            found[plain] = found.get(plain, -1) + 1
+    return {name if not count else "%s-%d" % (name, count) for name, most in found.items() for count in range(most + 1)}
+
+
+def broken_links(page, text):
+    """The links of a page that lead nowhere; those to other machines are not followed."""
+    for number, line in plain_lines(text):
+        for link in LINK.findall(line):
+            path, _, anchor = link.partition("#")
+            target = os.path.normpath(os.path.join(os.path.dirname(page), path)) if path else page
+            if "://" in link:
+                continue
+            if not os.path.exists(os.path.join(TOP, target)):
+                yield "line %d: there is no %s" % (number, target)
+            elif anchor and target.endswith(".md") and anchor not in anchors(text if target == page else text_of(target)):
+                yield "line %d: %s has no heading #%s" % (number, target, anchor)
+
+
+def gaps(text):
+    """The numbered items that do not follow the one before; a list begins at 1."""
+    last = {}
+    for number, line in plain_lines(text):
+        found = NUMBERED.match(line)
+        if found:
+            margin, item = len(found[1]), int(found[2])
+            if item not in (1, last.get(margin, 0) + 1):
+                yield "line %d: item %d follows item %d" % (number, item, last.get(margin, 0))
+            last = {at: it for at, it in last.items() if at < margin}
+            last[margin] = item
+        elif line.startswith("#"):
+            last = {}
+
+
+def problems(page, text):
+    """All that is wrong in a page."""
+    found = [*broken_links(page, text), *gaps(text)]
+    return [*found, *(unknown(text) if os.path.basename(page) in ABOUT_CODE else ())]
+
+
+def problem(page):
+    found = problems(page, text_of(page))
+    return "; ".join(found[:SHOWN]) + ("; and %d more" % (len(found) - SHOWN) if len(found) > SHOWN else "")
+
+
+def tools_without_row():
+    rows = [line for _, line in plain_lines(text_of("docs/TOOLS.md")) if line.startswith("| [")]
+    missing = [name for name in install.tools() if not any("`tools/%s" % name in row for row in rows)]
+    return "docs/TOOLS.md has no row of %s" % ", ".join(missing) if missing else ""
+
+
+def finds_faults():
+    """Each kind of fault, put into the text of a page, is found, and what is right there is not."""
+    right = "# A page\n1. one\n   1. in it\n2. two\n\n[here](#a-page) `crates.txt` `text_of` `src/lib.rt` `*.md`\n"
+    wrong = ("1. one\n3. three", "2. two", "`no_such_name_%s`" % "x", "`src/no_such_file.rt`", "[there](#no-heading)",
+             "[there](NO-PAGE.md)")
+    found = problems("docs/STYLE.md", right)
+    if found:
+        return "found where nothing is wrong: %s" % found
+    return "; ".join("nothing is found in %r" % it for it in wrong if not problems("docs/STYLE.md", it))
+
+
+def checks():
+    yield "names: faults are found", finds_faults
+    for page in pages():
+        yield "names of " + page, partial(problem, page)
+    yield "names: each tool has its row in docs/TOOLS.md", tools_without_row
