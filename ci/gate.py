@@ -34,7 +34,7 @@ def sums():
             os.mkdir(os.path.join(folder, ".ci"))
             shutil.copy(os.path.join(TOP, ".ci", "run"), os.path.join(folder, ".ci"))
             put(os.path.join(folder, "bin", "rt"), proofs, proved)
-            put(os.path.join(folder, "ci", "checks"), said, checked)
+            put(os.path.join(folder, "vindaesk"), said, checked)
             if is_built:
                 put(os.path.join(folder, "crates", "view_tool", "out", "view_tool"), "", 0)
             path = "%s:%s" % (os.path.join(folder, "bin"), os.environ["PATH"])

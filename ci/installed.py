@@ -46,7 +46,7 @@ def runs_where_it_is_copied():
             if called(os.path.join(it.folder, "moved"), words, given) != (wanted, 0):
                 return "%s: %r" % (words, called(os.path.join(it.folder, "moved"), words, given))
         out, status = called(os.path.join(it.folder, "moved"), ["vindaesk", "--version"])
-        return "" if status == 0 and out.startswith(version + b"commit ") else "--version: %r" % out
+        return "" if status == 0 and out.startswith(version + b"replies 1\ncommit ") else "--version: %r" % out
 
 
 def replaces_and_removes():
@@ -98,7 +98,7 @@ def manual_page():
     with place() as it:
         it.call("install", "made")
         text = it.read("made/share/man/man1/vindaesk.1").decode()
-        for part in (".TH VINDAESK 1", "vindaesk dump NAME", ".SS vindaesk\\-picdiff", "How many pixels"):
+        for part in (".TH VINDAESK 1", "vindaesk dump page.xml", ".SS vindaesk\\-picdiff", "How many pixels"):
             if part not in text:
                 return "%r is not in it" % part
         return ""

@@ -35,7 +35,8 @@ WRONG = [[], ["gen"], ["gen", "0"], ["gen", "101"], ["gen", "01"], ["gen", "1", 
          ["lookup", "a", "7f0500000"], ["lookup", ".a", "7f050000"], ["lookup", "a", *["7f050000"] * 65],
          ["lookup", "a", "7f050000", ""], ["focus"], ["focus", "left"], ["focus", "left", "v1", "x"], ["focus", "Left", "v1"],
          ["focus", "left", "v01"], ["focus", "left", "v12345678901"], ["focus", "up", "@"], ["focus", "up", "@123456789"],
-         ["focus", "up", "root"], ["stack", "x"], ["stacks"], ["--help", "x"], ["explain", "x"], ["explain", "31", "x"], ["explain", ""]]
+         ["focus", "up", "root"], ["stack", "x"], ["stacks"], ["--help", "x"], ["explain", "x"], ["explain", "31", "x"], ["explain", ""],
+         ["--prove"], ["--prove", "gen", "0"], ["-x"], ["tre"], ["main"], ["arguments"], ["x\ny"]]
 # words that are explained, and what is said of them
 EXPLAINED = {
     "NoView": "28 NoView: no view has the number or the id.\nIt comes at any line that names a view, and at focus SIDE V.\n",
@@ -60,8 +61,8 @@ class Repository:
         for name in ("kit", "temporary", "crates/low/src", "crates/view_tool/src"):
             os.makedirs(os.path.join(folder, name))
         shutil.copy(os.path.join(TOP, "vindaesk"), folder)
-        for name in ("docs", "tools/vindaesk"):
-            shutil.copytree(os.path.join(TOP, name), os.path.join(folder, name))
+        for name in ("docs", "tools"):
+            shutil.copytree(os.path.join(TOP, name), os.path.join(folder, name), ignore=shutil.ignore_patterns("__pycache__"))
         for name, text in (("crates.txt", "low:\nview_tool: low\n"), ("HANDLES", ""), ("calls", ""),
                            ("VERSION", "1.2.3\n"),
                            ("kit/rt", TOOLCHAIN), ("crates/low/src/lib.rt", ""),
@@ -73,12 +74,13 @@ class Repository:
     def start(self, words, has_toolchain=True, **how):
         act = how.pop("act", "")
         kept = [it for it in os.environ["PATH"].split(":") if not os.path.exists(os.path.join(it, "rt"))]
+        mine = {name: value for name, value in os.environ.items() if not name.startswith("VINDAESK_")}
         own = {"PATH": ":".join([os.path.join(self.folder, "kit")] * has_toolchain + kept), "CALLS": self.calls,
                "ACT": act, "TMPDIR": os.path.join(self.folder, "temporary"), "PROOF": how.pop("proof", "0"),
                "BUILD": how.pop("build", ""), "VINDAESK_JOBS": how.pop("jobs", "2"),
                "VINDAESK_MEMORY": how.pop("memory", "20")}
         pipes = {"stdin": subprocess.PIPE, "stdout": subprocess.PIPE, "stderr": subprocess.PIPE, **how}
-        return subprocess.Popen(["./vindaesk", *words], cwd=self.folder, env={**os.environ, **own}, **pipes)
+        return subprocess.Popen(["./vindaesk", *words], cwd=self.folder, env={**mine, **own}, **pipes)
 
     def call(self, words, given=b"", **how):
         started = self.start(words, **how)
@@ -122,11 +124,11 @@ def asks_for_help():
     with repository(is_built=False) as it:
         for word in ("--help", "-h", "help"):
             ended = it.call([word])
-            if (ended.status, ended.out, "usage: vindaesk run" in ended.said) != (0, b"", True):
+            if (ended.status, ended.out, "usage: vindaesk WORD" in ended.said) != (0, b"", True):
                 return "%s: status %d, '%s'" % (word, ended.status, ended.said)
         for words in WRONG:
             ended = it.call(words)
-            is_short = ended.said.count("\n") == 1 and re.search("vindaesk (--help|explain)", ended.said) is not None
+            is_short = ended.said.count("\n") == 1 and re.search("vindaesk (--help|help|explain)", ended.said) is not None
             if (ended.status, ended.out, is_short) != (2, b"", True):
                 return "%s: status %d, '%s'" % (words, ended.status, ended.said)
         return "help builds" if it.builds() else ""
@@ -193,10 +195,11 @@ def explains():
 def prints_version():
     with repository(is_built=False) as it:
         ended = it.call(["--version"])
-        if not re.fullmatch(rb"vindaesk 1[.]2[.]3\ncommit .+\nkit of the checks\n", ended.out):
+        head = rb"vindaesk 1[.]2[.]3\nreplies 1\ncommit .+\nprogram none of these sources: .+\n"
+        if not re.fullmatch(head + rb"kit of the checks\n", ended.out):
             return "it prints '%s'" % ended.out.decode()
-        ended = it.call(["--version"], has_toolchain=False)
-        is_right = re.fullmatch(rb"vindaesk 1[.]2[.]3\ncommit .+\n", ended.out) and ended.status == 0
+        ended = it.call(["version"], has_toolchain=False)
+        is_right = re.fullmatch(head, ended.out) and ended.status == 0
         return "" if is_right else "without the toolchain it prints '%s'" % ended.out.decode()
 
 

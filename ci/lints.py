@@ -142,7 +142,7 @@ def wrong_scripts():
         killed = it.call("lint", "-", given=FAULTS, **it.stand_in("kill -9 $$"))
         why = why or unlike(killed, 137, b"", "ended by the signal SIGKILL")
         ended = it.call("lint", "-", given="add root FrameLayout 1 1\ninflate folder into v1\n")
-        return why or unlike(ended, 6, b"", "status 6: a layout file could not be read")
+        return why or unlike(ended, 6, b"", "status 6: a file could not be read")
 
 
 def checks():

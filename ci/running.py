@@ -5,10 +5,25 @@ import subprocess
 import sys
 
 TOP = os.path.dirname(os.path.dirname(os.path.realpath(__file__)))
-PROGRAM = os.path.join(TOP, "crates", "view_tool", "out", "view_tool")
 SECONDS = 60
 
 sys.path.insert(0, os.path.join(TOP, "tools"))
+
+from vindaesk.common.failures import Failure
+from vindaesk.program import process
+from vindaesk.provenance import built
+
+
+def program():
+    """The program that is checked, which is the one that `vindaesk run` and the tools run. Without one it is the place
+    where it would be built, so that the names of the checks can be listed."""
+    try:
+        return process.path()
+    except Failure:
+        return built.PROGRAM
+
+
+PROGRAM = program()
 
 
 def unknown_word(words, names, command):

@@ -180,7 +180,7 @@ def lacks_program():
     with place() as it:
         it.put("a.script", RED)
         it.put("a.answer", "")
-        said = "there is no program at /nowhere/it; ./vindaesk run builds it, see ./vindaesk --help"
+        said = "there is no program at /nowhere/it, which the variable VINDAESK_PROGRAM names"
         calls = (("screenshot", "a.script", "a.png"), ("tree", "a.script"), ("runall", "."), ("check", "a.script"))
         return first(unlike(it.call(*words, VINDAESK_PROGRAM="/nowhere/it"), 126, b"", said) for words in calls)
 
@@ -293,7 +293,7 @@ def ends_with_the_program():
         os.mkdir(os.path.join(it.folder, "folder"))
         text = RED.replace("View", "FrameLayout") + "inflate folder into v1\n"
         for words in (("screenshot", "-", "a.png"), ("tree", "-"), ("check", "-")):
-            why = unlike(it.call(*words, given=text), 6, b"", "status 6: a layout file could not be read")
+            why = unlike(it.call(*words, given=text), 6, b"", "status 6: a file could not be read")
             for act, status, said in (("kill -9 $$", 137, "ended by the signal SIGKILL"),
                                       ("exit 5", 5, "out of memory"), ("exit 0", 1, "wrote no answer to line")):
                 why = why or unlike(it.call(*words, given=text, **it.stand_in(act)), status, b"", said)

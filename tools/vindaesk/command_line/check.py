@@ -13,6 +13,9 @@ from ..common import failures
 from ..lint import refused_lines
 from ..scripts import script
 from . import arguments
+from .uses import Purpose, Use
+
+USE = Use(Purpose.CHECK, "vindaesk check faults.script", "which lines of a script are refused, at which word, and why")
 
 
 def reader() -> argparse.ArgumentParser:

@@ -16,6 +16,9 @@ from ..pages import page
 from ..scripts import script
 from ..scripts.replies import Refused
 from . import arguments
+from .uses import Purpose, Use
+
+USE = Use(Purpose.LOOK, "vindaesk page reader.script out.html", "a page in HTML with each frame, its views and touches")
 
 
 def reader() -> argparse.ArgumentParser:

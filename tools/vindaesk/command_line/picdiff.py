@@ -12,6 +12,9 @@ from ..common import failures, files
 from ..common.failures import Failure
 from ..pictures import difference, png
 from . import arguments
+from .uses import Purpose, Use
+
+USE = Use(Purpose.CHECK, "vindaesk picdiff screen.png dialog.png", "where two pictures differ")
 
 
 def reader() -> argparse.ArgumentParser:

@@ -21,6 +21,9 @@ from ..program import process
 from ..testing import cases, junit
 from ..testing.cases import Case, Result
 from . import arguments
+from .uses import Purpose, Use
+
+USE = Use(Purpose.CHECK, "vindaesk runall .", "runs stored scripts, and compares what they write with their answers")
 
 
 def shard(word: str) -> Tuple[int, int]:

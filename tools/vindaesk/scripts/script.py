@@ -5,7 +5,7 @@ from typing import List, Optional, Sequence, Tuple
 
 from ..common import files
 from ..common.failures import Failure, NOT_RUN
-from ..program.process import MAX_SCRIPT
+from ..program.statuses import MAX_SCRIPT
 
 NUMBER = re.compile(rb"0|-?[1-9][0-9]{0,9}")
 MAX_LINE = 1024
