@@ -44,7 +44,7 @@ def is_what_is_built():
     if pair[0] == pair[1]:
         return ""
     place = next((k for k, (one, other) in enumerate(zip(*pair)) if one != other), min(map(len, pair)))
-    return "the program that was built here differs from dist/view_tool at byte %d, though the sources are the same" % place
+    return "what was built here differs from dist/view_tool at byte %d, though the sources are the same" % place
 
 
 def is_of_new_version():
@@ -114,10 +114,15 @@ class Release:
         """Status and output of a script of ci/, on a machine that has the stand-in for the toolchain."""
         kept = {name: value for name, value in os.environ.items() if not name.startswith("VINDAESK_")}
         ended = subprocess.run(
-            [sys.executable, *words], cwd=self.folder, stdout=subprocess.PIPE, stderr=subprocess.STDOUT, timeout=SECONDS,
+            [sys.executable, *words], cwd=self.folder, timeout=SECONDS,
+            stdout=subprocess.PIPE, stderr=subprocess.STDOUT,
             env={**kept, "PATH": "%s:%s" % (self.path("kit"), os.environ["PATH"]), "SOURCE_DATE_EPOCH": "86400"}
         )
         return ended.returncode, ended.stdout.decode()
+
+    def printed(self, *words):
+        """What a command prints there."""
+        return subprocess.run(words, cwd=self.folder, stdout=subprocess.PIPE).stdout.decode()
 
     def release(self):
         """Calls ci/release, and returns what goes wrong."""
@@ -156,18 +161,18 @@ DIST, BUILT = os.path.join("dist", "view_tool"), os.path.join("crates", "view_to
 
 
 def says_of_which_sources():
-    """PROVENANCE as ci/release writes it; its ids are those of git, and the checksum that of the command in the docs."""
+    """PROVENANCE as ci/release writes it: its ids are those of git, the checksum that of the command in the docs."""
     with release() as it:
         found = dict(line.split(" ", 1) for line in it.repository.read("dist/PROVENANCE").splitlines()[:4])
         if (found["version"], found["date"], found["kit"]) != ("1.2.3", "1970-01-02", "kit of the checks"):
             return "it is %s" % found
-        ids = subprocess.run(["git", "rev-parse", "HEAD:crates", "HEAD:crates.txt", "HEAD:HANDLES"], cwd=it.folder,
-                             stdout=subprocess.PIPE).stdout.decode().split()
-        sums = subprocess.run(["bash", "-c", command_of_sources()], cwd=it.folder, stdout=subprocess.PIPE).stdout.decode()
+        ids = it.printed("git", "rev-parse", "HEAD:crates", "HEAD:crates.txt", "HEAD:HANDLES").split()
+        sums = it.printed("bash", "-c", command_of_sources())
         rest = ["tree crates " + ids[0], "blob crates.txt " + ids[1], "blob HANDLES " + ids[2],
                 "sources " + sums.split(" ")[0], *("ci " + line for line in LOG.splitlines()[1:])]
-        if it.repository.read("dist/PROVENANCE").splitlines()[4:] != rest:
-            return "after the commit it has %s in place of %s" % (it.repository.read("dist/PROVENANCE").splitlines()[4:], rest)
+        lines = it.repository.read("dist/PROVENANCE").splitlines()[4:]
+        if lines != rest:
+            return "after the commit it has %s in place of %s" % (lines, rest)
         fits = subprocess.run(["sha256sum", "-c", "SHA256SUMS"], cwd=it.path("dist"), stdout=subprocess.DEVNULL)
         return it.wrong() or ("sha256sum refuses SHA256SUMS" if fits.returncode else "")
 
@@ -196,8 +201,8 @@ def refuses():
         put(it.path(".git", "info", "exclude"), "other\n")
         put(it.path("crates", "low", "src", "other"), "")
         said.append(it.release())
-        wanted = ["'N passed, 0 failed'", "after the log", "not all is committed", "older than a source", "no program at",
-                  "git passes it over"]
+        wanted = ["'N passed, 0 failed'", "after the log", "not all is committed", "older than a source",
+                  "no program at", "git passes it over"]
         for text, part in zip(said, wanted):
             if part not in text:
                 return "in place of '%s' it says '%s'" % (part, text)
@@ -251,10 +256,11 @@ def finds_another_source():
                 return "the checksum over the sources is not kept"
         edit(it.source, one_byte_other)
         path, status, said = it.runs()
-        if (path, status) != ("", 126) or "those of dist/ (crates/low/src/lib.rt)\n" not in said or "rt of the" not in said:
+        why = "vindaesk: sources differ from those of dist/ (crates/low/src/lib.rt)\n"
+        if (path, status) != ("", 126) or not said.startswith(why) or "the command rt" not in said:
             return "without a toolchain: status %d, '%s'" % (status, said)
         path, status, said = it.runs(has_toolchain=True)
-        if (path, status) != (BUILT, 0) or "those of dist/ (crates/low/src/lib.rt)\n" not in said:
+        if (path, status) != (BUILT, 0) or not said.startswith(why):
             return "with a toolchain: status %d, '%s'" % (status, said)
         if it.runs() != (BUILT, 0, ""):
             return "after the build: %s" % (it.runs(),)

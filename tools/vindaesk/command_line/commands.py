@@ -40,22 +40,30 @@ class Form(NamedTuple):
 
 
 NAME = ("NAME", "a file of the current folder: 1 to 64 letters, digits, _, - and ., of which the first is no dot")
+VIEW = ("V", "the view that has it: vN by its number, or @ and its id")
 FORMS: Dict[str, Form] = {
-    "run": Form(Use(Purpose.RUN, "vindaesk run < first.script", "carries out the script on standard input"),
-                "The reply of each line is written as soon as the line is carried out. docs/SCRIPT.md has all lines."),
-    "stack": Form(Use(Purpose.RUN, "vindaesk stack < dialog.stack", "does so for up to eight windows, one above another"),
-                  "docs/STACK.md has the lines for windows."),
-    "focus": Form(Use(Purpose.RUN, "vindaesk focus right v2 < focus.script", "and then prints which view gets the focus next"),
-                  "It carries out the script on standard input, and then moves the focus. docs/FOCUS.md has the rules.",
-                  (("SIDE", "where the focus moves to"), ("V", "the view that has it: vN by its number, or @ and its id"))),
-    "gen": Form(Use(Purpose.PROJECT, "vindaesk gen 10", "runs a load of a size, for measurements"),
-                "It prints how many lines the load has, and the digest of its page.", (("N", "the size, from 1 to 100"),)),
-    "dump": Form(Use(Purpose.READ, "vindaesk dump page.xml", "prints a compiled layout file"),
-                 "docs/FORMATS.md has the form of layout files, and of what is printed.", (NAME,)),
-    "lookup": Form(Use(Purpose.READ, "cd app && vindaesk lookup values.arsc 7f050000",
-                       "prints what resources hold in a compiled table"),
-                   "docs/FORMATS.md has the form of resource tables, and of what is printed.",
-                   (NAME, ("ID", "the number of a resource, 8 hex digits; up to 64"))),
+    "run": Form(
+        Use(Purpose.RUN, "vindaesk run < first.script", "carries out the script on standard input"),
+        "The reply of each line is written as soon as the line is carried out. docs/SCRIPT.md has all lines."),
+    "stack": Form(
+        Use(Purpose.RUN, "vindaesk stack < dialog.stack", "carries out a script for a stack of up to eight windows"),
+        "The script is on standard input. docs/STACK.md has the lines for windows."),
+    "focus": Form(
+        Use(Purpose.RUN, "vindaesk focus right v2 < focus.script",
+            "carries out a script, and prints which view gets the focus"),
+        "The script is on standard input. docs/FOCUS.md has the rules by which the focus moves.",
+        (("SIDE", "where the focus moves to"), VIEW)),
+    "gen": Form(
+        Use(Purpose.PROJECT, "vindaesk gen 1", "runs a load of a size, for measurements"),
+        "It prints how many lines the load has, and the digest of its page.", (("N", "the size, from 1 to 100"),)),
+    "dump": Form(
+        Use(Purpose.READ, "vindaesk dump page.xml", "prints a compiled layout file"),
+        "docs/FORMATS.md has the form of layout files, and of what is printed.", (NAME,)),
+    "lookup": Form(
+        Use(Purpose.READ, "cd app && vindaesk lookup values.arsc 7f050000",
+            "prints what resources hold in a compiled table"),
+        "docs/FORMATS.md has the form of resource tables, and of what is printed.",
+        (NAME, ("ID", "the number of a resource, 8 hex digits; up to 64"))),
 }
 
 
@@ -63,9 +71,11 @@ def reader_of(name: str) -> argparse.ArgumentParser:
     """The arguments of a call of the program. It reads them itself (calls.py): this is for pages and completions."""
     form = FORMS[name]
     text = "%s%s.\n\n%s" % (form.use.summary[0].upper(), form.use.summary[1:], form.more)
-    found = argparse.ArgumentParser("vindaesk " + name, description=text, formatter_class=argparse.RawDescriptionHelpFormatter)
+    raw = argparse.RawDescriptionHelpFormatter
+    found = argparse.ArgumentParser("vindaesk " + name, description=text, formatter_class=raw)
     for word, what in form.words:
-        added = found.add_argument(word.lower(), metavar=word, help=what, choices=calls.SIDES if word == "SIDE" else None)
+        choices = calls.SIDES if word == "SIDE" else None
+        added = found.add_argument(word.lower(), metavar=word, help=what, choices=choices)
         if word == "ID":
             added.nargs = "+"
     return found
@@ -121,6 +131,6 @@ def prefix_options() -> argparse.ArgumentParser:
     found = argparse.ArgumentParser("vindaesk", description="Runs Android layouts without a device.", add_help=False)
     found.add_argument("-h", "--help", action="store_true", help="lists the commands")
     found.add_argument("--version", action="store_true", help="prints version, replies, commit, program and kit")
-    found.add_argument("--prove", action="store_true", help="before a command: passes over dist/, and proves and builds "
-                                                            "the program from the sources where it is not up to date")
+    found.add_argument("--prove", action="store_true",
+                       help="before a command: passes over dist/, and builds the program from the sources if needed")
     return found

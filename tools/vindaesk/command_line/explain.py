@@ -34,7 +34,7 @@ def main(words: Optional[Sequence[str]] = None) -> int:
         text = explanations.every(tables)
     if not text:
         near = guess(given[0], tables.words()) if len(given) == 1 else ""
-        why = "there is no '%s'%s" % (" ".join(given), near.rstrip("?"))
-        raise Failure(why + "; vindaesk explain lists what there is to explain", failures.NOT_RUN)
+        more = "%s vindaesk explain lists what there is to explain" % (near or ";")
+        raise Failure("there is no '%s'%s" % (" ".join(given), more), failures.NOT_RUN)
     files.write("-", text.encode())
     return 0

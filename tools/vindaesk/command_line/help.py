@@ -13,7 +13,7 @@ from .uses import Purpose, Use
 USE = Use(Purpose.PROJECT, "vindaesk help tree", "prints what a command takes, and without a word this list")
 HEAD = """usage: vindaesk WORD [ARGUMENT ..]
        vindaesk help WORD         prints what a word takes
-       vindaesk --prove WORD ..   passes over dist/: proves and builds the program from the sources where it is not up to date
+       vindaesk --prove WORD ..   passes over dist/, and proves and builds the program if it is not up to date
 """
 FOOT = """
 For example
@@ -55,8 +55,9 @@ def every() -> str:
 
 def unknown(word: str) -> Failure:
     """That there is no such word, and which is near."""
-    names = tuple(it.name for it in commands.every())
-    return Failure("there is no '%s'%s; see vindaesk --help" % (word, guess(word, names).rstrip("?")), failures.NOT_RUN)
+    near = guess(word, tuple(it.name for it in commands.every()))
+    more = near + " See vindaesk --help" if near else "; see vindaesk --help"
+    return Failure("there is no '%s'%s" % (word, more), failures.NOT_RUN)
 
 
 def main(words: Optional[Sequence[str]] = None) -> int:

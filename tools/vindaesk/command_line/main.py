@@ -52,9 +52,14 @@ def status_of(words: list[str]) -> int:
         os.environ[choice.PROVE] = "1"
         os.environ.pop(choice.NAMED, None)
         words = words[1:]
-    if calls.has_form(words):
+    if calls.has_form(words) and not is_question(words):
         return passed_on(words)
     return other(words)
+
+
+def is_question(words: list[str]) -> bool:
+    """Whether it is asked what a call takes; this could be the name of a file too."""
+    return len(words) == 2 and words[1] in ("-h", "--help")
 
 
 def passed_on(words: list[str]) -> int:
@@ -86,7 +91,7 @@ def other(words: list[str]) -> NoReturn:
     """Carries out what is no call of the program."""
     if not words:
         raise Failure("what should be done? See vindaesk --help", NOT_RUN)
-    if words[0] in calls.FORMS and words[1:] not in (["-h"], ["--help"]):
+    if words[0] in calls.FORMS and not is_question(words):
         raise wrong_call(words)
     if words[0] in OPTIONS and len(words) > 1:
         raise Failure("there is no such call: %s; see vindaesk --help" % " ".join(words), NOT_RUN)

@@ -14,7 +14,8 @@ from ..pictures import difference, png
 from . import arguments
 from .uses import Purpose, Use
 
-USE = Use(Purpose.CHECK, "vindaesk picdiff screen.png dialog.png", "where two pictures differ")
+USE = Use(Purpose.CHECK, "vindaesk screenshot screen.script - | vindaesk picdiff screen.png -",
+          "where two pictures differ")
 
 
 def reader() -> argparse.ArgumentParser:

@@ -14,8 +14,8 @@ class Purpose(enum.Enum):
 
 
 class Use(NamedTuple):
-    """The use of a command: an example, which is a line of a shell in a folder with the files of examples/, and what the
-    command does, as it follows its name."""
+    """The use of a command: an example, which is a line of a shell in a folder with the files of examples/, and what
+    the command does, as it follows its name."""
 
     purpose: Purpose
     example: str

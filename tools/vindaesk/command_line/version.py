@@ -27,10 +27,10 @@ def commit() -> str:
     if os.path.exists(path):
         with open(path, encoding="utf-8") as file:
             return file.read().strip()
-    found = None
-    if os.path.exists(os.path.join(places.TOP, ".git")):
-        found = changes.git("describe", "--always", "--dirty", "--abbrev=40", "--exclude", "*")
-    return found[0] if found else "unknown, since this folder is no checkout"
+    if not os.path.exists(os.path.join(places.TOP, ".git")):
+        return "unknown, since this folder is no checkout"
+    found = changes.git("describe", "--always", "--dirty", "--abbrev=40", "--exclude", "*")
+    return found[0] if found else "unknown, since git does not say"
 
 
 def program() -> str:
@@ -46,7 +46,8 @@ def program() -> str:
         return "none: %s" % failure
     if found is None:
         return "none of these sources: vindaesk run proves and builds it"
-    return "%s, %s" % (os.path.relpath(found, places.TOP), "of these sources" if found == dist.PROGRAM else "built here")
+    which = "of these sources" if found == dist.PROGRAM else "built here"
+    return "%s, %s" % (os.path.relpath(found, places.TOP), which)
 
 
 def main(words: Optional[Sequence[str]] = None) -> int:

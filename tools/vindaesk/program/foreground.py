@@ -1,4 +1,4 @@
-"""Runs the program in the place of this process, almost: it has the caller's streams, it gets the signals that come here,
+"""Runs the program as if it had been called itself: it has the caller's streams, it gets the signals that come here,
 and this process ends as it did."""
 from __future__ import annotations
 
@@ -50,8 +50,7 @@ class Foreground:
 
 
 def run(command: list[str]) -> int:
-    """Runs a command, whose first word is a path, and returns its status, or the number of the signal that ended it, below
-    0."""
+    """Runs a command, whose first word is a path. Returns its status, or below 0 the signal that ended it."""
     try:
         return Foreground().run(command)
     except OSError as error:

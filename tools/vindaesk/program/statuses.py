@@ -20,5 +20,5 @@ def short(status: int) -> str:
 
 
 def explained(status: int) -> str:
-    """What there is to say of a run that ended before its end; nothing of one that did not, or whose arguments are wrong."""
+    """What there is to say of a run that ended before its end; nothing of any other, or of wrong arguments."""
     return "status %d: %s%s" % (status, *SENTENCES[status]) if status in SENTENCES and status != 2 else ""

@@ -84,5 +84,5 @@ def check() -> None:
         return
     wrong = fault()
     if wrong:
-        raise Failure("%s: `git checkout dist` restores it, and --prove builds the program in place of it" % wrong, NOT_BUILT)
+        raise Failure("%s: `git checkout dist` restores it, --prove builds the program" % wrong, NOT_BUILT)
     memory.keep(KEPT, state, latest, "whole")

@@ -23,8 +23,8 @@ KEPT = "sources"
 
 
 class Listing:
-    """The sources as they are now: the path of each file and folder below the top, size and times in nanoseconds, and the
-    file's number. A folder has only the time at which an entry of it was last made or removed, and a slash at its end."""
+    """The sources as they are now: the path of each file and folder below the top, its size, its times in nanoseconds,
+    and its number. A folder has a slash at its end, and only the time at which it last got or lost an entry."""
 
     def __init__(self, top: str = TOP):
         self.top = top
