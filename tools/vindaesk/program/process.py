@@ -21,14 +21,14 @@ class Stopped(BaseException):
 
 
 def path() -> str:
-    """The program: the one that the variable VINDAESK_PROGRAM names, or the one that `vindaesk run` runs (choice.py)."""
+    """The program: the one that the variable VINDAESK_PROGRAM names, or the one of this place (choice.py)."""
     return choice.named() or own()
 
 
 @functools.lru_cache(maxsize=None)
 def own() -> str:
-    """The program of this place, which is looked for once: that takes as long as a short run, and an edit of the sources
-    amid a call of a tool is no reason to change the program."""
+    """The program of this place. It is looked for once: that takes longer than a short run, and a tool that is called
+    while sources are edited uses one program to its end."""
     return choice.available()
 
 
