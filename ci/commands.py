@@ -3,6 +3,7 @@ import os
 import shutil
 import subprocess
 import tempfile
+from typing import Callable, Iterator, Tuple
 
 from running import SECONDS, TOP
 from vindaesk.command_line import commands
@@ -11,7 +12,7 @@ from vindaesk.command_line import commands
 NEAR = {"tre": "tree", "screenshoot": "screenshot", "lnt": "lint", "Run": "run", "lokup": "lookup", "vers": "version"}
 
 
-def call(words, folder=TOP):
+def call(words: str, folder: str = TOP) -> Tuple[int, str, str]:
     """Status, standard output and standard error of a line of a shell, in which `vindaesk` is on PATH."""
     with tempfile.TemporaryDirectory() as place:
         os.symlink(os.path.join(TOP, "vindaesk"), os.path.join(place, "vindaesk"))
@@ -22,7 +23,7 @@ def call(words, folder=TOP):
     return ended.returncode, ended.stdout.decode(), ended.stderr.decode()
 
 
-def examples_run():
+def examples_run() -> str:
     """Each example of the help, but that of `test`, which runs these very checks."""
     for it in commands.every():
         with tempfile.TemporaryDirectory() as place:
@@ -35,7 +36,8 @@ def examples_run():
     return ""
 
 
-def all_are_in_the_help():
+def all_are_in_the_help() -> str:
+    """`vindaesk help`, and `vindaesk --help`, list each command with its example."""
     said = call("vindaesk help")[2]
     for it in commands.every():
         if "\n  %-12s%s\n      %s\n" % (it.name, it.use.summary, it.use.example) not in said:
@@ -43,7 +45,7 @@ def all_are_in_the_help():
     return "" if call("vindaesk --help")[2] == said else "help and --help print other things"
 
 
-def tools_are_commands():
+def tools_are_commands() -> str:
     """Each file of tools/ is a command, and each module of command_line that has an example has a file there if it is a
     tool."""
     folder = os.path.join(TOP, "tools")
@@ -55,7 +57,7 @@ def tools_are_commands():
     return "" if files == found else "%s are not on both sides" % sorted(files ^ found)
 
 
-def each_helps():
+def each_helps() -> str:
     """`vindaesk WORD --help` and `vindaesk help WORD` print the same, which begins with the name of the command."""
     for it in commands.every():
         one, other = call("vindaesk %s --help" % it.name), call("vindaesk help %s" % it.name)
@@ -64,7 +66,8 @@ def each_helps():
     return ""
 
 
-def near_words_are_asked_for():
+def near_words_are_asked_for() -> str:
+    """A word that is none is reported with the one that is near."""
     for word, meant in NEAR.items():
         wanted = (2, "", "vindaesk: there is no '%s'; did you mean '%s'? See vindaesk --help\n" % (word, meant))
         if call("vindaesk " + word) != wanted:
@@ -72,6 +75,7 @@ def near_words_are_asked_for():
     return ""
 
 
-def checks():
+def checks() -> Iterator[Tuple[str, Callable[[], str]]]:
+    """The checks of this file."""
     for check in (examples_run, all_are_in_the_help, tools_are_commands, each_helps, near_words_are_asked_for):
         yield "the commands: " + check.__name__.replace("_", " "), check

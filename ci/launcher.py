@@ -13,6 +13,7 @@ import tempfile
 import time
 
 from running import SECONDS, TOP, run
+from vindaesk.scripts import explanations
 
 # the toolchain's stand-in: it records each call, locks the folders of crates as the toolchain does, and "builds" a
 # program that does what the variable ACT says
@@ -172,10 +173,10 @@ def refusals():
 
 def explains():
     with repository(is_built=False) as it:
+        tables = explanations.read()
         for number, name in sorted(refusals()):
-            ended = it.call(["explain", number])
-            if ended.status or not ended.out.decode().startswith("%s %s: " % (number, name)):
-                return "%s %s: status %d, '%s'" % (number, name, ended.status, ended.out.decode())
+            if not explanations.explained(tables, number).startswith("%s %s: " % (number, name)):
+                return "%s %s: '%s'" % (number, name, explanations.explained(tables, number))
         if "\n    frame\n" not in it.call(["explain", "31"]).out.decode():
             return "31 does not list the lines"
         for word, text in EXPLAINED.items():
@@ -187,7 +188,8 @@ def explains():
             if line not in listed:
                 return "%r is not listed" % line
         for number in ("0", "50", "999", "syntax", "root"):
-            if (it.call(["explain", number]).status, it.call(["explain", number]).out) != (2, b""):
+            ended = it.call(["explain", number])
+            if (ended.status, ended.out) != (2, b""):
                 return "%s is explained" % number
         return "it builds" if it.builds() else ""
 

@@ -10,6 +10,7 @@ import shutil
 import subprocess
 import sys
 import time
+from typing import Any, Callable, Iterator, Tuple
 
 import launcher
 from running import SECONDS, TOP
@@ -21,7 +22,7 @@ WORDS = ["version", "date", "kit", "commit", "tree", "blob", "sources", "ci"]
 LOG = "rt: low proved\nrt: ok; handles allowed: none; every proof was done in this run\n2 passed, 0 failed\n"
 
 
-def is_whole():
+def is_whole() -> str:
     """dist/ has all its files, with their checksums, and the version that VERSION has."""
     if not os.path.exists(dist.PROVENANCE):
         return "there is no dist/PROVENANCE: ci/release makes it"
@@ -32,7 +33,7 @@ def is_whole():
     return dist.fault()
 
 
-def is_what_is_built():
+def is_what_is_built() -> str:
     """Where the sources are those of dist/, the program that was built of them is the same."""
     listing = Listing()
     if not dist.is_of(listing) or not built.is_up_to_date(listing):
@@ -47,7 +48,7 @@ def is_what_is_built():
     return "what was built here differs from dist/view_tool at byte %d, though the sources are the same" % place
 
 
-def is_of_new_version():
+def is_of_new_version() -> str:
     """At a commit that raises VERSION, dist/ is of its sources."""
     texts = [changes.git("show", commit + ":VERSION") for commit in ("HEAD", "HEAD^")]
     if None in texts or texts[0] == texts[1] or dist.is_of(Listing()):
@@ -58,19 +59,19 @@ def is_of_new_version():
 OWN = (is_whole, is_what_is_built, is_of_new_version)
 
 
-def git(folder, *words):
+def git(folder: str, *words: str) -> None:
     """Calls git in a small repository."""
     own = ["-c", "user.name=a", "-c", "user.email=a@example.com", "-c", "init.defaultBranch=main"]
     subprocess.run(["git", *own, *words], cwd=folder, check=True, stdout=subprocess.DEVNULL, stderr=subprocess.DEVNULL)
 
 
-def put(path, text):
+def put(path: str, text: str) -> None:
     """Writes a file."""
     with open(path, "w") as file:
         file.write(text)
 
 
-def edit(path, change):
+def edit(path: str, change: Callable[[bytes], bytes]) -> None:
     """Changes the bytes of a file, which keeps its time."""
     found = os.stat(path)
     with open(path, "r+b") as file:
@@ -81,7 +82,7 @@ def edit(path, change):
     os.utime(path, ns=(found.st_atime_ns, found.st_mtime_ns))
 
 
-def one_byte_other(text):
+def one_byte_other(text: bytes) -> bytes:
     """A text whose last byte is another one."""
     return text[:-1] + bytes([text[-1] ^ 1])
 
@@ -89,7 +90,7 @@ def one_byte_other(text):
 class Release:
     """A small repository whose program is built, and that has a dist/ of its sources unless ci/release refuses."""
 
-    def __init__(self, repository):
+    def __init__(self, repository: launcher.Repository):
         self.repository, self.folder = repository, repository.folder
         self.dist, self.built = self.path("dist", "view_tool"), self.path("crates", "view_tool", "out", "view_tool")
         self.source = self.path("crates", "low", "src", "lib.rt")
@@ -101,16 +102,16 @@ class Release:
         self.commit()
         put(self.path("log"), LOG)
 
-    def path(self, *names):
+    def path(self, *names: str) -> str:
         """A path in the repository."""
         return os.path.join(self.folder, *names)
 
-    def commit(self):
+    def commit(self) -> None:
         """Commits all."""
         git(self.folder, "add", "-A")
         git(self.folder, "commit", "-m", "all")
 
-    def script(self, *words):
+    def script(self, *words: str) -> Tuple[int, str]:
         """Status and output of a script of ci/, on a machine that has the stand-in for the toolchain."""
         kept = {name: value for name, value in os.environ.items() if not name.startswith("VINDAESK_")}
         ended = subprocess.run(
@@ -120,33 +121,33 @@ class Release:
         )
         return ended.returncode, ended.stdout.decode()
 
-    def printed(self, *words):
+    def printed(self, *words: str) -> str:
         """What a command prints there."""
         return subprocess.run(words, cwd=self.folder, stdout=subprocess.PIPE).stdout.decode()
 
-    def release(self):
+    def release(self) -> str:
         """Calls ci/release, and returns what goes wrong."""
         status, said = self.script("ci/release", "log")
         return said if status else ""
 
-    def wrong(self):
+    def wrong(self) -> str:
         """What the checks of this file say of the repository."""
         return self.script("ci/release_checks.py")[1]
 
-    def runs(self, *words, has_toolchain=False, **how):
+    def runs(self, *words: str, has_toolchain: bool = False, **how: Any) -> Tuple[str, int, str]:
         """Which program the launcher runs, its status, and what it says."""
         ended = self.repository.call([*words, "run"], has_toolchain=has_toolchain, act='echo "$0"', **how)
         path = ended.out.decode().strip()
         return os.path.relpath(path, os.path.realpath(self.folder)) if path else "", ended.status, ended.said
 
-    def forget_builds(self):
+    def forget_builds(self) -> None:
         """Removes what was built."""
         for name in ("low", "view_tool"):
             shutil.rmtree(self.path("crates", name, "out"), ignore_errors=True)
 
 
 @contextlib.contextmanager
-def release(is_made=True):
+def release(is_made: bool = True) -> Iterator[Release]:
     """A small repository with a dist/."""
     with launcher.repository() as repository:
         made = Release(repository)
@@ -160,7 +161,7 @@ def release(is_made=True):
 DIST, BUILT = os.path.join("dist", "view_tool"), os.path.join("crates", "view_tool", "out", "view_tool")
 
 
-def says_of_which_sources():
+def says_of_which_sources() -> str:
     """PROVENANCE as ci/release writes it: its ids are those of git, the checksum that of the command in the docs."""
     with release() as it:
         found = dict(line.split(" ", 1) for line in it.repository.read("dist/PROVENANCE").splitlines()[:4])
@@ -177,13 +178,14 @@ def says_of_which_sources():
         return it.wrong() or ("sha256sum refuses SHA256SUMS" if fits.returncode else "")
 
 
-def command_of_sources():
+def command_of_sources() -> str:
     """The command by which the docs say how the checksum over the sources is made."""
     with open(os.path.join(TOP, "docs", "INSTALL.md"), encoding="utf-8") as file:
-        return re.search(r"^`(find crates crates.txt HANDLES .*)`[.]$", file.read(), re.M)[1]
+        found = re.search(r"^`(find crates crates.txt HANDLES .*)`[.]$", file.read(), re.M)
+    return found[1] if found else "exit 1"
 
 
-def refuses():
+def refuses() -> str:
     """Each reason for which ci/release refuses."""
     with release(is_made=False) as it:
         put(it.path("log"), LOG.replace("0 failed", "1 failed"))
@@ -209,7 +211,7 @@ def refuses():
         return "dist/ is there" if os.path.exists(it.path("dist")) else ""
 
 
-def runs_at_once():
+def runs_at_once() -> str:
     """The launcher runs the program of dist/ without a toolchain; also without git, by a link, and where nothing can be
     written."""
     with release() as it:
@@ -227,7 +229,7 @@ def runs_at_once():
         return "" if ended.stdout == wanted else "by a link, without git and without out/: %r" % ended.stdout
 
 
-def finds_another_program():
+def finds_another_program() -> str:
     """A byte of the program of dist/ is changed: the launcher, a tool and the check say so."""
     with release() as it:
         time.sleep(2.1)
@@ -245,7 +247,7 @@ def finds_another_program():
         return "" if it.runs("--prove") == (BUILT, 0, "") else "--prove runs %s" % (it.runs("--prove"),)
 
 
-def finds_another_source():
+def finds_another_source() -> str:
     """A byte of a source is changed, and its time is not: the launcher says which one, and builds."""
     with release() as it:
         it.forget_builds()
@@ -268,7 +270,7 @@ def finds_another_source():
         return it.wrong() if it.runs() == (DIST, 0, "") else "after the change is taken back: %s" % (it.runs(),)
 
 
-def proves_where_it_is_asked():
+def proves_where_it_is_asked() -> str:
     """--prove, and the variable, pass dist/ over."""
     with release() as it:
         it.forget_builds()
@@ -284,14 +286,14 @@ def proves_where_it_is_asked():
         return "" if ended.stdout.decode().strip().endswith(BUILT) else "with the variable: %r" % ended.stdout
 
 
-def finds_another_build():
+def finds_another_build() -> str:
     """What was built here differs, though the sources are those of dist/."""
     with release() as it:
         edit(it.built, lambda text: text + b" ")
         return "" if "differs from dist/view_tool at byte" in it.wrong() else "it says '%s'" % it.wrong()
 
 
-def finds_an_old_release():
+def finds_an_old_release() -> str:
     """VERSION is raised and dist/ is not renewed, or renewed with other sources."""
     with release() as it:
         it.commit()
@@ -307,7 +309,8 @@ def finds_an_old_release():
         return it.release() or it.wrong()
 
 
-def checks():
+def checks() -> Iterator[Tuple[str, Callable[[], str]]]:
+    """The checks of this file."""
     for check in OWN:
         yield "release: " + check.__name__.replace("_", " "), check
     for check in (says_of_which_sources, refuses, runs_at_once, finds_another_program, finds_another_source,

@@ -10,7 +10,6 @@ from typing import Optional, Sequence
 from ..common import failures, files
 from ..common.failures import Failure
 from ..scripts import explanations
-from ..scripts.grammar import guess
 from . import arguments
 from .uses import Purpose, Use
 
@@ -33,6 +32,8 @@ def main(words: Optional[Sequence[str]] = None) -> int:
     if not given:
         text = explanations.every(tables)
     if not text:
+        from ..scripts.grammar import guess
+
         near = guess(given[0], tables.words()) if len(given) == 1 else ""
         more = "%s vindaesk explain lists what there is to explain" % (near or ";")
         raise Failure("there is no '%s'%s" % (" ".join(given), more), failures.NOT_RUN)

@@ -5,7 +5,6 @@ from typing import List, Optional, Sequence
 
 from ..common import failures
 from ..common.failures import Failure
-from ..scripts.grammar import guess
 from . import arguments, commands
 from .commands import Command
 from .uses import Purpose, Use
@@ -55,6 +54,8 @@ def every() -> str:
 
 def unknown(word: str) -> Failure:
     """That there is no such word, and which is near."""
+    from ..scripts.grammar import guess
+
     near = guess(word, tuple(it.name for it in commands.every()))
     more = near + " See vindaesk --help" if near else "; see vindaesk --help"
     return Failure("there is no '%s'%s" % (word, more), failures.NOT_RUN)

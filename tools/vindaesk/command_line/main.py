@@ -34,7 +34,7 @@ def run() -> NoReturn:
         say(str(failure))
         status = failure.status
     except OSError as error:
-        say("%s: %s" % (error.filename, error.strerror))
+        say("%s: %s" % (error.filename or "the sources", error.strerror))
         status = NOT_BUILT
     except KeyboardInterrupt:
         status = -foreground.signal.SIGINT

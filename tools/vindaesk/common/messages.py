@@ -15,5 +15,8 @@ def shown(text: bytes, limit: int = 160) -> str:
 
 
 def say(sentence: str) -> None:
-    """Writes a sentence on standard error, after the tool's name."""
-    print("%s: %s" % (os.path.basename(sys.argv[0]), printable(sentence)), file=sys.stderr)
+    """Writes a sentence on standard error, after the tool's name. Where that is closed, the sentence is lost."""
+    try:
+        print("%s: %s" % (os.path.basename(sys.argv[0]), printable(sentence)), file=sys.stderr)
+    except OSError:
+        return

@@ -38,9 +38,11 @@ class Listing:
         """Lists what is in a folder, whose path below the top ends with a slash."""
         with os.scandir(folder) as found:
             for it in found:
+                if it.name == MADE:
+                    continue
                 if not it.is_dir():
                     self.add(path + it.name, it.stat())
-                elif it.name != MADE:
+                else:
                     below = path + it.name + "/"
                     # the time of the folder of a crate changes with each build
                     if below.count("/") > 2:
@@ -92,4 +94,4 @@ class Listing:
 def is_read(path: str) -> bool:
     """Whether an entry is one of those that decide whether the program is up to date."""
     parts = path.split("/")
-    return len(parts) == 1 or parts[2] in READ
+    return path in FILES or (len(parts) > 3 and parts[2] in READ)
