@@ -1,9 +1,10 @@
-"""Tries tools/page: what it writes, and, where Chromium is on PATH, what a browser shows of it."""
+"""Tries tools/page: what it writes, and what Chromium shows of it."""
 import json
 import os
 import re
 
 import chromium
+from running import Checks, Skipped
 from tools import RED, UNSETTLED, WITHOUT, place, unlike
 
 TOUCHED = """window 160 120
@@ -135,8 +136,7 @@ def is_shown(browser):
 
 def shows():
     if not chromium.COMMAND:
-        print("note: no page is opened in a browser, since there is no chromium on PATH")
-        return ""
+        raise Skipped("chromium")
     with place() as it:
         it.call("page", "-", "a.html", given=TOUCHED)
         for width, is_dark in ((1200, False), (360, True)):

@@ -140,10 +140,7 @@ def recipe_runs():
 
 def needs_libc_alone():
     """What the program needs, as the loader lists it."""
-    if not shutil.which("ldd"):
-        print("note: what the program needs is not looked at, since there is no ldd on PATH")
-        return ""
-    names = {line.split()[0].decode() for line in run(["ldd", PROGRAM], b"", TOP)[0].splitlines()}
+    names = {line.split()[0].decode() for line in run([need("ldd"), PROGRAM], b"", TOP)[0].splitlines()}
     others = [it for it in names if not it.startswith(("linux-vdso.", "libc.", "/lib64/ld-linux", "statically", "not"))]
     return "it needs %s" % ", ".join(others) if others else ""
 

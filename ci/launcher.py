@@ -458,8 +458,7 @@ def talks_to_a_terminal():
         for end in pty.openpty():
             os.close(end)
     except OSError as error:
-        print("note: the launcher is not tried on a terminal, since none is to be had here: %s" % error)
-        return ""
+        raise Skipped("/dev/ptmx", "there is no terminal to try it on: %s" % error)
     with repository(is_built=False) as it:
         out, shown = on_terminal(it, ["run"], b"frame\n\x04", "cat")
         if out != "frame\n":
