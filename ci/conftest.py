@@ -8,6 +8,7 @@ from typing import Any, Iterator, List, Optional
 import pytest
 
 import collection
+import unit_tests
 from results import Outcome, Report, Result, outcome_of
 from running import TOP, Check
 
@@ -73,7 +74,7 @@ def pytest_collect_file(file_path: pathlib.Path, parent: Any) -> Optional[CheckM
 def name_of(nodeid: str) -> str:
     """The name of a check, or of a unit test."""
     path, _, name = nodeid.partition("::")
-    return nodeid if path.startswith(collection.unit_tests.FOLDER) else name
+    return nodeid if path.startswith(unit_tests.FOLDER) else name
 
 
 def dealt(items: List[Any], jobs: int) -> List[Any]:
@@ -122,7 +123,6 @@ class Reporter:
         if report.when == "call" or outcome is not Outcome.PASSED:
             self.report.add(Result(name_of(report.nodeid), outcome, why_of(report), report.duration))
 
-    @pytest.hookimpl(trylast=True)
     def pytest_sessionfinish(self, session: Any, exitstatus: int) -> None:
         missing = self.report.count - len(self.report.results)
         if missing > 0 or exitstatus not in (0, 1):

@@ -60,7 +60,7 @@ def status_of(command: Sequence[str]) -> int:
     for number in ENDING:
         signal.signal(number, take)
     mark = "%d-%d" % (os.getpid(), time.time_ns())
-    # in a session of its own an interrupt of the terminal comes to this process alone, which passes it on once
+    # in a session of its own it gets an interrupt of the terminal once, from this process
     started = subprocess.Popen(command, env={**os.environ, MARK: mark}, start_new_session=True)
     try:
         return started.wait()

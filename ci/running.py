@@ -68,8 +68,8 @@ def difference(wanted: bytes, wanted_status: int, written: bytes, status: int) -
     if written != wanted:
         had, has = wanted.split(b"\n"), written.split(b"\n")
         number = next(k for k in range(max(len(had), len(has))) if had[k : k + 1] != has[k : k + 1])
-        pair = [b"".join(lines[number : number + 1])[:160].decode("utf-8", "backslashreplace") for lines in (had, has)]
-        return "line %d of the answer should be '%s', and is '%s'" % (number + 1, *pair)
+        one, other = (b"".join(it[number : number + 1])[:160].decode("utf-8", "backslashreplace") for it in (had, has))
+        return "line %d of the answer should be '%s', and is '%s'" % (number + 1, one, other)
     if status != wanted_status:
         return "status %d in place of %d" % (status, wanted_status)
     return ""
