@@ -7,8 +7,10 @@ import unit_tests
 from running import TOP, Check, Checks
 
 # each has a function `checks`
-MODULES = ("examples", "pictures", "pages", "broken", "limits", "tables", "launcher", "gate", "itself", "tools", "grammar", "apps",
-           "driving", "lints", "browser", "installed", "package", "house", "words", "spelling", "stored")
+MODULES = (
+    "examples", "pictures", "pages", "names", "broken", "limits", "tables", "launcher", "gate", "itself", "tools", "grammar",
+    "apps", "driving", "lints", "browser", "installed", "package", "house", "words", "spelling", "stored",
+)
 # those that are run only where they are asked for
 ON_REQUEST = ("memory", "out_of_memory")
 SLOW = os.path.join(TOP, "ci", "slow.txt")

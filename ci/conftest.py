@@ -9,8 +9,8 @@ import pytest
 
 import collection
 import unit_tests
-from results import Outcome, Report, Result, outcome_of
-from running import TOP, Check
+from results import Outcome, Report, Result, ended_by_skip, outcome_of
+from running import TOP, Check, Skipped
 
 
 
@@ -71,10 +71,24 @@ def pytest_collect_file(file_path: pathlib.Path, parent: Any) -> Optional[CheckM
     return module
 
 
+def with_skips(call: Any) -> Iterator[None]:
+    """A unit test that is skipped, though what it needs is here, has failed where no skip is right."""
+    raised = call.excinfo.value if call.excinfo else None
+    made: Any = yield
+    outcome, why = ended_by_skip(raised) if isinstance(raised, Skipped) else (Outcome.PASSED, "")
+    if outcome is Outcome.FAILED:
+        report = made.get_result()
+        report.outcome, report.longrepr = outcome.value, why
+
+
+pytest_runtest_makereport = pytest.hookimpl(hookwrapper=True)(with_skips)
+
+
 def name_of(nodeid: str) -> str:
-    """The name of a check, or of a unit test."""
+    """The name of a check, or of a unit test, by what pytest names it: a path from anywhere, and the name there."""
     path, _, name = nodeid.partition("::")
-    return nodeid if path.startswith(unit_tests.FOLDER) else name
+    _, is_unit, below = path.rpartition("tests/")
+    return "%s/%s::%s" % (unit_tests.FOLDER, below, name) if is_unit else name
 
 
 def dealt(items: List[Any], jobs: int) -> List[Any]:

@@ -43,7 +43,15 @@ def checks():
     yield from named("a", (waits,))
     yield "b: waits", waits
 '''.replace("\\\\n", "\\n")
-UNIT = '''def test_adds(tmp_path):
+UNIT = '''from running import Skipped
+
+def test_lacks():
+    raise Skipped("no-such-command")
+
+def test_has():
+    raise Skipped("bash", "bash is not liked")
+
+def test_adds(tmp_path):
     assert 1 + 1 == 2
     assert list(tmp_path.iterdir()) == []
 
@@ -131,11 +139,12 @@ def reports_a_lost_process() -> str:
 def runs_unit_tests() -> str:
     for way in options("2"):
         with copied(EXAMPLES, UNIT) as folder:
-            status, lines = ended(folder, *way, "tests/")
-        is_said = any("they are two" in line for line in lines)
-        if (status, lines[0].split(": ")[:2], lines[-1], is_said) != (
-            1, ["failed", "ci/tests/test_unit.py::test_errs"], "1 passed, 1 failed, 0 skipped", True
-        ):
+            status, lines = ended(folder, *way, "tests/", CI_NO_SKIP="1")
+        said = "\n".join(lines)
+        wanted = ("failed: ci/tests/test_unit.py::test_errs: ", "they are two", "\nskipped: ci/tests/test_unit.py::test_lacks: "
+                  "there is no no-such-command on PATH\n1 passed, 2 failed, 1 skipped", "failed: ci/tests/test_unit.py::"
+                  "test_has: it was skipped, though there is bash: bash is not liked\n")
+        if status != 1 or not all(part in said for part in wanted):
             return "%s: status %d, %s" % (way, status, lines)
     return ""
 

@@ -6,7 +6,7 @@ import sys
 import traceback
 from concurrent.futures import ProcessPoolExecutor, as_completed
 from concurrent.futures.process import BrokenProcessPool
-from typing import Dict, Iterator
+from typing import Dict, Iterator, List
 
 import collection
 from results import Outcome, Report, Result, tried
@@ -36,7 +36,7 @@ def side_by_side(checks: Dict[str, Check], jobs: int) -> Iterator[Result]:
                 waiting.cancel()
 
 
-def main(words: "list[str]") -> int:
+def main(words: List[str]) -> int:
     jobs, slowest = map(int, words[:2])
     checks = collection.found(words[2:])
     report = Report(len(checks))
@@ -45,7 +45,7 @@ def main(words: "list[str]") -> int:
     return report.end(slowest)
 
 
-def status_of(words: "list[str]") -> int:
+def status_of(words: List[str]) -> int:
     """The status of this process: 0 or 1 once the sums are printed, and otherwise another one."""
     try:
         return main(words)

@@ -3,7 +3,7 @@ import enum
 import os
 import sys
 import time
-from typing import List, NamedTuple
+from typing import List, NamedTuple, Tuple
 
 from running import TOP, Check, Skipped
 from vindaesk.common import progress
@@ -29,15 +29,20 @@ class Result(NamedTuple):
     seconds: float
 
 
-def outcome_of(check: Check) -> "tuple[Outcome, str]":
+def ended_by_skip(skipped: Skipped) -> Tuple[Outcome, str]:
+    """How a check ends that was skipped, and why."""
+    if os.environ.get(NO_SKIP) and skipped.is_here():
+        return Outcome.FAILED, "it was skipped, though there is %s: %s" % (skipped.needed, skipped)
+    return Outcome.SKIPPED, str(skipped)
+
+
+def outcome_of(check: Check) -> Tuple[Outcome, str]:
     """How a check ends, and why; also one that ends by a mistake of its own, or of a tool."""
     try:
         why = check()
         return (Outcome.FAILED, why) if why else (Outcome.PASSED, "")
     except Skipped as skipped:
-        if os.environ.get(NO_SKIP) and skipped.is_here():
-            return Outcome.FAILED, "it was skipped, though there is %s: %s" % (skipped.needed, skipped)
-        return Outcome.SKIPPED, str(skipped)
+        return ended_by_skip(skipped)
     except Exception as error:
         return Outcome.FAILED, "%s: %s" % (type(error).__name__, error)
     finally:

@@ -4,6 +4,7 @@ import os
 import shutil
 import subprocess
 import sys
+import unittest
 from typing import Callable, Iterable, Iterator, Sequence, Tuple, Union
 
 TOP = os.path.dirname(os.path.dirname(os.path.realpath(__file__)))
@@ -20,8 +21,9 @@ Checks = Iterator[Tuple[str, Check]]
 Word = Union[str, bytes]
 
 
-class Skipped(Exception):
-    """A check that cannot be tried here, since something is missing: a command, or a path where there is a slash in it."""
+class Skipped(unittest.SkipTest):
+    """A check that cannot be tried here, since something is missing: a command, or a path where there is a slash in it.
+    Unit tests raise it too."""
 
     def __init__(self, needed: str, reason: str = ""):
         super().__init__(reason or ("there is no %s" if "/" in needed else "there is no %s on PATH") % needed)
