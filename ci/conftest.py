@@ -56,9 +56,12 @@ def words() -> List[str]:
     return os.environ.get(WORDS, "").splitlines()
 
 
-def pytest_addoption(parser: Any) -> None:
-    said = "print what ci/checks prints, and the N slowest"
-    parser.getgroup("checks").addoption("--report-of-checks", type=int, default=None, help=said)
+def pytest_addoption(parser: Any, pluginmanager: Any) -> None:
+    group = parser.getgroup("checks")
+    group.addoption("--report-of-checks", type=int, default=None, help="print what ci/checks prints, and the N slowest")
+    # pytest's own report, which is left out then, has this option, and what says why a test fails needs it
+    if pluginmanager.is_blocked("terminal"):
+        group.addoption("--verbose", type=int, default=0)
 
 
 def pytest_collect_file(file_path: pathlib.Path, parent: Any) -> Optional[CheckModule]:
@@ -119,14 +122,16 @@ class Reporter:
     """Prints what `ci/checks` prints."""
 
     def __init__(self, config: Any):
-        self.report = Report(0)
+        self.report = Report()
+        self.is_interrupted = False
         self.slowest = config.getoption("report_of_checks")
 
     def pytest_xdist_node_collection_finished(self, ids: List[str]) -> None:
-        self.report.count = len(ids)
+        self.report.begin(len(ids))
 
     def pytest_collection_finish(self, session: Any) -> None:
-        self.report.count = len(session.items) or self.report.count
+        if session.items:
+            self.report.begin(len(session.items))
 
     def pytest_collectreport(self, report: Any) -> None:
         if report.failed:
@@ -137,7 +142,13 @@ class Reporter:
         if report.when == "call" or outcome is not Outcome.PASSED:
             self.report.add(Result(name_of(report.nodeid), outcome, why_of(report), report.duration))
 
+    def pytest_keyboard_interrupt(self) -> None:
+        self.is_interrupted = True
+        self.report.line.clear()
+
     def pytest_sessionfinish(self, session: Any, exitstatus: int) -> None:
+        if self.is_interrupted:
+            return
         missing = self.report.count - len(self.report.results)
         if missing > 0 or exitstatus not in (0, 1):
             why = "pytest ended with status %d, and %d checks have no end" % (exitstatus, missing)

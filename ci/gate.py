@@ -24,6 +24,7 @@ CALLS = [
     ("stopped", 2, False, "", 0, b"0 passed, 1 failed, 0 skipped", 2),
     ("39 passed, 0 failed", 1, True, "100 passed, 0 failed, 0 skipped", 0, b"139 passed, 1 failed, 0 skipped", 1),
     ("39 passed, 0 failed", 0, True, "stopped", 1, b"39 passed, 1 failed, 0 skipped", 1),
+    ("39 passed, 0 failed", 0, True, "stopped", 0, b"39 passed, 1 failed, 0 skipped", 1),
     ("39 passed, 0 failed", 0, True, "7 skipped\nfailed: b", 1, b"39 passed, 1 failed, 0 skipped", 1),
 ]
 PASSED = (CALLS[0][0], 0)

@@ -118,9 +118,11 @@ def reports_each_end() -> str:
 
 
 def knows_its_names() -> str:
+    for way in options("1"):
+        with copied(EXAMPLES) as folder:
+            if ended(folder, *way, "a: passes") != (0, ["1 passed, 0 failed, 0 skipped"]):
+                return "%s: %s" % (way, ended(folder, *way, "a: passes"))
     with copied(EXAMPLES) as folder:
-        if ended(folder, "--jobs", "1", "a: passes") != (0, ["1 passed, 0 failed, 0 skipped"]):
-            return "%s" % (ended(folder, "--jobs", "1", "a: passes"),)
         status, lines = ended(folder, "a: lacks", "zz")
         is_right = (status, lines[:2]) == (2, ["ci/checks: nothing is named by 'zz'; the names are", "a: passes"])
         return "" if is_right else "an unknown word: status %d, %s" % (status, lines)
@@ -130,8 +132,8 @@ def reports_a_lost_process() -> str:
     kills = EXAMPLES.replace('return ""', "os.kill(os.getpid(), signal.SIGKILL)")
     for way in options("2"):
         with copied(kills) as folder:
-            status, lines = ended(folder, *way)
-            if status == 0 or not lines[-1:] or ", 0 failed" in lines[-1]:
+            status, lines = ended(folder, *way, "a: passes")
+            if (status, lines[-1:]) != (1, ["0 passed, 1 failed, 0 skipped"]):
                 return "%s: status %d, %s" % (way, status, lines)
     return ""
 
@@ -141,7 +143,7 @@ def runs_unit_tests() -> str:
         with copied(EXAMPLES, UNIT) as folder:
             status, lines = ended(folder, *way, "tests/", CI_NO_SKIP="1")
         said = "\n".join(lines)
-        wanted = ("failed: ci/tests/test_unit.py::test_errs: ", "they are two", "\nskipped: ci/tests/test_unit.py::test_lacks: "
+        wanted = ("failed: ci/tests/test_unit.py::test_errs: ", "they are two\n", "\nskipped: ci/tests/test_unit.py::test_lacks: "
                   "there is no no-such-command on PATH\n1 passed, 2 failed, 1 skipped", "failed: ci/tests/test_unit.py::"
                   "test_has: it was skipped, though there is bash: bash is not liked\n")
         if status != 1 or not all(part in said for part in wanted):

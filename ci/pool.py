@@ -39,9 +39,13 @@ def side_by_side(checks: Dict[str, Check], jobs: int) -> Iterator[Result]:
 def main(words: List[str]) -> int:
     jobs, slowest = map(int, words[:2])
     checks = collection.found(words[2:])
-    report = Report(len(checks))
-    for result in side_by_side(checks, jobs) if jobs > 1 else one_after_the_other(checks):
-        report.add(result)
+    report = Report()
+    report.begin(len(checks))
+    try:
+        for result in side_by_side(checks, jobs) if jobs > 1 else one_after_the_other(checks):
+            report.add(result)
+    finally:
+        report.line.clear()
     return report.end(slowest)
 
 
@@ -49,6 +53,8 @@ def status_of(words: List[str]) -> int:
     """The status of this process: 0 or 1 once the sums are printed, and otherwise another one."""
     try:
         return main(words)
+    except KeyboardInterrupt:
+        return 130
     except Exception:
         traceback.print_exc()
         return 3

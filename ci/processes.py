@@ -4,6 +4,7 @@ import contextlib
 import os
 import signal
 import subprocess
+import sys
 import time
 from typing import Iterator, NoReturn, Sequence
 
@@ -69,4 +70,5 @@ def status_of(command: Sequence[str]) -> int:
             signal.signal(number, signal.SIG_IGN)
         end(("%s=%s" % (MARK, mark)).encode())
         started.wait()
+        print("ci/checks: ended by the signal %s" % signal.Signals(ended.number).name, file=sys.stderr)
         return 128 + ended.number

@@ -59,10 +59,15 @@ class Report:
     """What is printed as checks end: failures at once, those that were skipped at the end, and then the sums. On a
     terminal a line of progress is shown meanwhile."""
 
-    def __init__(self, count: int):
-        self.count = count
+    def __init__(self) -> None:
+        self.count = 0
         self.results: List[Result] = []
         self.line = progress.Line()
+
+    def begin(self, count: int) -> None:
+        """Takes note of how many checks there are."""
+        self.count = count
+        self.show()
 
     def add(self, result: Result) -> None:
         """Takes note of the end of a check."""
@@ -70,8 +75,12 @@ class Report:
         if result.outcome is Outcome.FAILED:
             self.line.clear()
             print("failed: %s: %s" % (result.name, result.why), flush=True)
+        self.show()
+
+    def show(self) -> None:
+        """Shows the line of progress."""
         failed = self.number(Outcome.FAILED)
-        said = progress.bar(len(self.results), max(self.count, len(self.results)))
+        said = progress.bar(len(self.results), max(self.count, len(self.results), 1))
         self.line.show(said + (", %d failed" % failed if failed else ""))
 
     def number(self, outcome: Outcome) -> int:
