@@ -27,7 +27,8 @@ TYPE, MINIMUM, MAXIMUM, L10N = 0x01000000, 0x01000001, 0x01000002, 0x01000003
 
 @dataclass(frozen=True)
 class AttributeFormat:
-    """The kinds of values (`Takes`), the numbers of the words of an enum or of flags by the ids of the words, and limits."""
+    """The kinds of values (`Takes`), the numbers of the words of an enum or of flags by the ids of the words, and
+    limits."""
 
     takes: int
     words: Dict[int, int]

@@ -1,5 +1,5 @@
-"""A configuration: of a device, or of the values in a table. The fields and their numbers are those of `ResTable_config`
-in Android's ResourceTypes.h; sizes are in dp, densities in dpi."""
+"""A configuration: of a device, or of the values in a table. The fields and their numbers are those of
+`ResTable_config` in Android's ResourceTypes.h; sizes are in dp, densities in dpi."""
 from dataclasses import dataclass
 from enum import IntEnum
 

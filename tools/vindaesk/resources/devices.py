@@ -1,5 +1,5 @@
-"""Configurations of devices: a phone, and others by qualifiers over it. What Android derives of a screen is derived here by
-the same rules (Configuration.reduceScreenLayout, ResourcesImpl.updateConfiguration)."""
+"""Configurations of devices: a phone, and others by qualifiers over it. What Android derives of a screen is derived
+here by the same rules (Configuration.reduceScreenLayout, ResourcesImpl.updateConfiguration)."""
 from dataclasses import replace
 
 from ..calling import Failure
@@ -30,8 +30,8 @@ def is_long(width: int, height: int) -> bool:
 
 
 def sized(base: Configuration, wanted: Configuration) -> Configuration:
-    """The width and height of a device in dp: those that are wanted, else those of the base, in the orientation and with the
-    smallest width that are wanted."""
+    """The width and height of a device in dp: those that are wanted, else those of the base, in the orientation and
+    with the smallest width that are wanted."""
     width, height = wanted.width or base.width, wanted.height or base.height
     if not wanted.width and not wanted.height:
         if wanted.smallest_width:
@@ -72,7 +72,7 @@ PHONE = derived(replace(HARDWARE, language="en", region="US", width=360, height=
 def device(qualifiers: str = "", base: Configuration = PHONE) -> Configuration:
     """A device: the base (a phone of 360 by 640 dp at 480 dpi, in US English, with API 23) with what qualifiers as
     `de-rDE-land-night` say. Failure where they are wrong, or say a density that no screen has."""
-    wanted = parse_qualifiers(qualifiers)
+    wanted = parse_qualifiers(qualifiers, is_ordered=False)
     if wanted.density in (ANYDPI, NODPI):
         raise Failure("'%s' has a density of drawables, not of a screen" % qualifiers)
     said = {name: value for name, value in vars(wanted).items() if value}

@@ -16,8 +16,8 @@ BROKEN = (zipfile.BadZipFile, zlib.error, lzma.LZMAError, EOFError, NotImplement
 
 
 def table_bytes(path: str) -> bytes:
-    """The bytes of the table of an app (apk, jar or another zip) or of a bare resources.arsc. Failure where there is none, or where it
-    is too large; OSError where the file cannot be read."""
+    """The bytes of the table of an app (apk, jar or another zip) or of a bare resources.arsc. Failure where there is
+    none, or where it is too large; OSError where the file cannot be read."""
     with open(path, "rb") as file:
         if file.read(4) != b"PK\3\4":
             size = os.fstat(file.fileno()).st_size

@@ -1,5 +1,5 @@
-"""Tables put together as Android's AssetManager2 does: packages of one id are one (an app and its split APKs), a shared library
-gets an id when it is loaded, and what the tables call each other by is turned into these ids."""
+"""Tables put together as Android's AssetManager2 does: packages of one id are one (an app and its split APKs), a
+shared library gets an id when it is loaded, and what the tables call each other by is turned into these ids."""
 from typing import Dict, Iterator, List, NamedTuple, Optional, Sequence, Tuple
 
 from ..calling import Failure
@@ -74,7 +74,8 @@ class Group:
         return self.names[kind].get(name)
 
     def named(self, kind: int) -> Dict[str, int]:
-        """The numbers of the resources of a type by their names; the first of equal names (which are obfuscated) counts."""
+        """The numbers of the resources of a type by their names; the first of equal names (which are obfuscated)
+        counts."""
         seen: Dict[int, str] = {}
         for package, chunk in self.chunks(kind):
             for index in chunk.indexes():
@@ -113,7 +114,8 @@ class Groups:
                 group.ids.update(found)
 
     def id(self, group: Group, number: int) -> int:
-        """The id of a resource that a table of a group calls by a number; the number itself where its package is not there."""
+        """The id of a resource that a table of a group calls by a number; the number itself where its package is not
+        there."""
         number = self.aliases.get(number, number)
         package = group.ids.get(number >> 24)
         return number if package is None or number < 0x10000 else (number & 0xFFFFFF) | package << 24
@@ -121,7 +123,7 @@ class Groups:
     def value(self, group: Group, it: Value) -> Value:
         """A value of a table of a group, with the id that it means here."""
         kind = TURNED.get(it.type)
-        if kind is None or it.data == 0:
+        if kind is None or it.data == 0 or (kind != it.type and it.data >> 24 not in group.ids):
             return it
         number = self.id(group, it.data)
         return it if (kind, number) == (it.type, it.data) else Value(kind, number, None, it.source)

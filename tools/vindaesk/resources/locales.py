@@ -1,7 +1,7 @@
 """Locales as Android compares them: the likely script of a language, the parents of a locale, and which of two regions
 is nearer to a third. After LocaleData.cpp of Android 10, which was read for it; the tables are in locale_data.py."""
 from functools import lru_cache
-from typing import Dict, FrozenSet, List, Optional, Sequence, Tuple
+from typing import Dict, FrozenSet, List, Sequence, Tuple
 
 from .locale_data import LIKELY_SCRIPTS, PARENTS, REPRESENTATIVES
 
@@ -45,7 +45,7 @@ def representatives() -> Dict[str, FrozenSet[Locale]]:
 def likely_script(language: str, region: str) -> str:
     """The script in which a language is written in a region, or "" where it is not known."""
     known = scripts()
-    return known.get("%s-%s" % (language, region) if region else language) or known.get(language, "")
+    return known.get("%s-%s" % (language, region) if region else language) or known.get(language) or ""
 
 
 def is_right_to_left(language: str, region: str, script: str = "") -> bool:
@@ -71,7 +71,8 @@ def ancestors(locale: Locale, script: str, stops: Sequence[Locale]) -> Tuple[Lis
 
 
 def distance(locale: Locale, script: str, requested: Sequence[Locale]) -> int:
-    """How many steps lead from a locale by a common ancestor to the first one of `requested`, which are its ancestors."""
+    """How many steps lead from a locale by a common ancestor to the first one of `requested`, which are its
+    ancestors."""
     found, index = ancestors(locale, script, requested)
     return len(found) + index - 1
 
@@ -92,8 +93,8 @@ def spanish(one: Locale, other: Locale) -> Locale:
 
 @lru_cache(maxsize=4096)
 def compare_regions(one: str, other: str, requested: Tuple[str, str, str]) -> int:
-    """Above 0 where the region `one` is nearer to what is requested (language, script, region) than `other`, below 0 where
-    it is farther, 0 where they are the same."""
+    """Above 0 where the region `one` is nearer to what is requested (language, script, region) than `other`, below 0
+    where it is farther, 0 where they are the same."""
     language, script, region = requested
     if one == other:
         return 0
@@ -104,8 +105,8 @@ def compare_regions(one: str, other: str, requested: Tuple[str, str, str]) -> in
     far = distance(right, script, found) - distance(left, script, found)
     if far:
         return far
-    chosen: Optional[FrozenSet[Locale]] = representatives().get(script, frozenset())
-    represents = (left in (chosen or ())) - (right in (chosen or ()))
+    chosen = representatives().get(script, frozenset())
+    represents = (left in chosen) - (right in chosen)
     return represents or code(right[1]) - code(left[1])
 
 

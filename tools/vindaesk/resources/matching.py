@@ -1,6 +1,7 @@
-"""Which values a device takes: the rule of Android's `ResTable_config::match`, `isBetterThan` and `isMoreSpecificThan`,
-after ResourceTypes.cpp of Android 10, which was read for it. (Later releases differ in one thing: of two densities around
-that of the device they always take the higher one. Android 6 to 10 take the lower one where it is much nearer.)
+"""Which values a device takes: the rule of Android's `ResTable_config::match`, `isBetterThan` and
+`isMoreSpecificThan`, after ResourceTypes.cpp of Android 10, which was read for it. (Later releases differ in one
+thing: of two densities around that of the device they always take the higher one. Android 6 to 10 take the lower one
+where it is much nearer.)
 
 Each part of a comparison says True, False, or None where it leaves the answer to the parts after it."""
 from typing import Callable, Optional, Sequence, Tuple
@@ -71,8 +72,8 @@ def matches(values: Configuration, device: Configuration) -> bool:
 
 
 def better_english(one: Configuration, other: Configuration, region: str) -> Answer:
-    """Of English values and values of no language, for a device in English: those of no language are taken for those of the
-    US, where most apps have them."""
+    """Of English values and values of no language, for a device in English: those of no language are taken for those
+    of the US, where most apps have them."""
 
     def near(it: str) -> bool:
         return it in ("", "US") if region == "US" else is_close_to_us_english(it)
@@ -235,7 +236,7 @@ def is_more_specific(one: Configuration, other: Configuration) -> bool:
         if bool(mine) != bool(its):
             return bool(mine)
     scores = locale_score(one) - locale_score(other)
-    if scores:
+    if scores and (one.language or one.region or other.language or other.region):
         return scores > 0
     for name in MORE_SPECIFIC:
         mine, its = getattr(one, name), getattr(other, name)

@@ -1,14 +1,15 @@
-"""Configurations as the names of resource folders write them: `de-rDE-sw600dp-land-night-xxhdpi-v23`, or with a tag of BCP 47
-`b+sr+Latn`. The order and the words are those of Android's `ConfigDescription` and of `ResTable_config::toString`."""
+"""Configurations as the names of resource folders write them: `de-rDE-sw600dp-land-night-xxhdpi-v23`, or with a tag
+of BCP 47 `b+sr+Latn`. The order and the words are those of Android's `ConfigDescription` and of
+`ResTable_config::toString`."""
 import re
 from dataclasses import replace
-from typing import Callable, Dict, List, Optional, Tuple
+from typing import Any, Callable, Dict, List, Optional, Tuple
 
 from ..calling import Failure, printable
 from .configuration import (ANYDPI, DEFAULT, MNC_ZERO, NODPI, Configuration, Direction, Hdr, Keyboard, KeysHidden, Long,
                             Navigation, NavHidden, Night, Orientation, Round, Size, Touch, UiType, WideGamut)
 
-Fields = Dict[str, object]
+Fields = Dict[str, Any]
 DENSITIES = {
     "ldpi": 120, "mdpi": 160, "tvdpi": 213, "hdpi": 240, "xhdpi": 320, "xxhdpi": 480, "xxxhdpi": 640, "anydpi": ANYDPI,
     "nodpi": NODPI,
@@ -33,7 +34,7 @@ AFTER_DENSITY: Tuple[Tuple[str, Dict[str, int]], ...] = (
     ("navigation", {"nonav": Navigation.NONAV, "dpad": Navigation.DPAD, "trackball": Navigation.TRACKBALL,
                     "wheel": Navigation.WHEEL}),
 )
-DIRECTIONS = {"ldltr": Direction.LTR, "ldrtl": Direction.RTL}
+DIRECTIONS: Dict[str, int] = {"ldltr": Direction.LTR, "ldrtl": Direction.RTL}
 GENDERS = {"neuter": 1, "feminine": 2, "masculine": 3}
 # a language is none of these words
 NOT_LANGUAGES = ("car",)
@@ -87,7 +88,8 @@ def version(part: str) -> Optional[Fields]:
 
 
 def tag(part: str) -> Optional[Fields]:
-    """A tag of BCP 47 after `b+`: a language, then perhaps a script, a region, a variant and `u+nu+` with a numbering."""
+    """A tag of BCP 47 after `b+`: a language, then perhaps a script, a region, a variant and `u+nu+` with a
+    numbering."""
     found = re.fullmatch(
         r"b\+([a-z]{2,3})(?:\+([a-z]{4}))?(?:\+([a-z]{2}|[0-9]{3}))?(?:\+([a-z0-9]{5,8}|[0-9][a-z0-9]{3}))?"
         r"(?:\+u\+nu\+([a-z0-9]{3,8}))?", part)
@@ -115,25 +117,23 @@ READERS: Tuple[Callable[[str], Optional[Fields]], ...] = (
     *(of_word(*it) for it in BEFORE_DENSITY), density, *(of_word(*it) for it in AFTER_DENSITY), screen, version,
 )
 
+TAG, REGION = READERS.index(tag), READERS.index(region)
 
-def parse_qualifiers(text: str) -> Configuration:
-    """The configuration that a folder's name gives after its first `-`; "" is the default. Failure names a part that is no
-    qualifier, or that is not where Android expects it."""
+
+def parse_qualifiers(text: str, is_ordered: bool = True) -> Configuration:
+    """The configuration that a folder's name gives after its first `-`; "" is the default. Failure names a part that
+    is no qualifier, or that is not where Android expects it, unless any order will do."""
     fields: Fields = {}
     place = 0
     for part in text.lower().split("-") if text else ():
-        found: List[Tuple[int, Fields]] = [
-            (number, it) for number, read in enumerate(READERS) for it in (read(part),) if it is not None
-        ]
-        later = [it for it in found if it[0] >= place]
-        if not later or (later[0][0] == READERS.index(region) and "language" not in fields):
+        found = [(number, it) for number, it in enumerate(read(part) for read in READERS) if it is not None]
+        number, said = next((it for it in found if it[0] >= place), (-1, {}))
+        if not found or (is_ordered and number < 0) or (number == REGION and "language" not in fields):
             why = "is after one that it has to be before" if found else "is no qualifier of resources"
             raise Failure("'%s' in '%s' %s" % (printable(part), printable(text), why))
-        place = later[0][0] + 1
-        if later[0][0] == READERS.index(tag):
-            place = READERS.index(region) + 1
-        fields.update(later[0][1])
-    return replace(DEFAULT, **fields)  # type: ignore[arg-type]
+        fields.update(said if number >= 0 else found[0][1])
+        place = max(place, (REGION if number == TAG else number) + 1)
+    return replace(DEFAULT, **fields)
 
 
 def locale_parts(it: Configuration) -> List[str]:
@@ -154,7 +154,8 @@ def word(names: Dict[str, int], number: int, field: str) -> List[str]:
 
 
 def write_qualifiers(it: Configuration) -> str:
-    """The qualifiers of a configuration as a folder's name has them, as `aapt2 dump` writes them; "" for the default."""
+    """The qualifiers of a configuration as a folder's name has them, as `aapt2 dump` writes them; "" for the
+    default."""
     parts = ["mcc%d" % it.mcc] if it.mcc else []
     parts += ["mnc%s" % ("00" if it.mnc == MNC_ZERO else it.mnc)] if it.mnc else []
     parts += locale_parts(it) + word(GENDERS, it.gender, "gender") + word(DIRECTIONS, it.direction, "direction")

@@ -1,7 +1,8 @@
-"""The resources of an app for one device: values by ids and names, through references and themes, and styles with their parents.
+"""The resources of an app for one device: values by ids and names, through references and themes, and styles with
+their parents.
 
-What Android does is done (AssetManager2 of Android 10), but for what cannot end well there: a cycle of references or of
-parents is a Failure with its chain."""
+What Android does is done (AssetManager2 of Android 10), but for what cannot end well there: a cycle of references or
+of parents is a Failure with its chain."""
 import re
 from dataclasses import dataclass
 from typing import Dict, Iterator, List, NamedTuple, Optional, Sequence, Tuple, Union
@@ -44,16 +45,25 @@ class File(NamedTuple):
 
 @dataclass(frozen=True)
 class Bag:
-    """A resource of several values: a style, an array, plurals, or the format of an attribute. The items are in the table's order, by
-    the id of an attribute or by a key of Android's own."""
+    """A resource of several values: a style, an array, plurals, or the format of an attribute. The rows are in the
+    table's order; a key is the id of an attribute, or one of Android's own. In arrays of some build tools all keys
+    are equal."""
 
     parent: int
-    items: Dict[int, Value]
+    rows: Tuple[Tuple[int, Value], ...]
     source: str = ""
+
+    @property
+    def items(self) -> Dict[int, Value]:
+        """The values by their keys; of equal keys the first counts, as for Android."""
+        found: Dict[int, Value] = {}
+        for key, it in self.rows:
+            found.setdefault(key, it)
+        return found
 
     def array(self) -> List[Value]:
         """The items of an array, in order."""
-        return list(self.items.values())
+        return [it for _, it in self.rows]
 
     def plurals(self) -> Dict[str, Value]:
         """The items of plurals by their quantities: other, zero, one, two, few, many."""
@@ -75,8 +85,8 @@ class Entry:
 
 
 class Resources:
-    """Tables together, for one device. The order of the tables is that in which Android loads them: the framework's first, then that of
-    the app, its split APKs, and shared libraries."""
+    """Tables together, for one device. The order of the tables is that in which Android loads them: the framework's
+    first, then that of the app, its split APKs, and shared libraries."""
 
     def __init__(self, tables: Sequence[Table], device: Configuration, groups: Optional[Groups] = None):
         self.tables = list(tables)
@@ -118,9 +128,9 @@ class Resources:
             value = self.groups.value(group, raw.value)
         if raw.bag is not None:
             key, item = self.groups.key, self.groups.value
-            items = {key(group, name): item(group, it) for name, it in raw.bag.items.items()}
+            rows = tuple((key(group, name), item(group, it)) for name, it in raw.bag.rows)
             parent = self.groups.id(group, raw.bag.parent) if raw.bag.parent else 0
-            bag = Bag(parent, items, found.package.source.name)
+            bag = Bag(parent, rows, found.package.source.name)
         return Entry(number, found.chunk.configuration, value, bag)
 
     def value(self, number: int) -> Optional[Value]:
@@ -141,18 +151,22 @@ class Resources:
         return [self.read(number, group, it) for it in group.all(number >> 16 & 0xFF, number & 0xFFFF)]
 
     def follow(self, value: Value, theme: Optional[Theme] = None) -> Tuple[Value, List[int]]:
-        """Where a value leads through references and the theme's attributes, and the ids on the way. Where an id is a bag, is not there, or
-        is no attribute of the theme, it ends with the reference to it. Failure for a cycle, or for more than `MAX_CHAIN` steps."""
+        """Where a value leads through attributes of the theme, and from there through references, and the ids on the
+        way. As in Android, an attribute that a reference leads to is not looked up. Where an id is a bag, is not
+        there, or is no attribute of the theme, the end is the reference to it. Failure for a cycle, or for more than
+        `MAX_CHAIN` steps."""
         way: List[int] = []
-        while value.is_reference or value.is_attribute:
+        is_referred = False
+        while value.is_reference or (value.is_attribute and not is_referred):
             if value.data in way or len(way) > MAX_CHAIN:
                 what = "lead in a circle" if value.data in way else "do not end after %d steps" % MAX_CHAIN
                 raise Failure("%s: references %s: %s" % (value.source, what, self.chain(way + [value.data])))
             way.append(value.data)
             if value.is_attribute:
                 item = theme.item(value.data) if theme else None
-                found = item.value if item and not item.value.is_null else None
+                found = item.value if item and not item.value.is_unset else None
             else:
+                is_referred = True
                 found = self.value(value.data)
             if found is None:
                 break
@@ -164,7 +178,8 @@ class Resources:
         return self.follow(value, theme)[0]
 
     def file(self, it: Union[int, Value]) -> Optional[File]:
-        """The file that a resource is (a layout, a drawable ..) by its id or by a reference to it; None where it is no file."""
+        """The file that a resource is (a layout, a drawable ..) by its id or by a reference to it; None where it is
+        no file."""
         value = Value(Type.REFERENCE, it) if isinstance(it, int) else it
         end, way = self.follow(value)
         name = self.name(way[-1]) if way else None
@@ -191,8 +206,8 @@ class Resources:
         return ", ".join(map(self.written, numbers))
 
     def find(self, name: str, kind: str = "", package: str = "") -> Optional[int]:
-        """The id of a name, as `android:dimen/app_icon_size`, `@dimen/gap`, or `gap` of a given type; of the app's package where none is
-        said. None where it is not there."""
+        """The id of a name, as `android:dimen/app_icon_size`, `@dimen/gap`, or `gap` of a given type; of the app's
+        package where none is said. None where it is not there."""
         match = WORD.fullmatch(name)
         if match is None:
             return None
@@ -217,8 +232,8 @@ class Resources:
                         yield number << 24 | it << 16 | index
 
     def style(self, number: int) -> Style:
-        """A style with what it has of its parents. Where a parent is not there, it is the `missing` one of the style. Failure for a circle of
-        parents, or for more than `MAX_PARENTS`."""
+        """A style with what it has of its parents. Where a parent is not there, it is the `missing` one of the style.
+        Failure for a circle of parents, or for more than `MAX_PARENTS`."""
         if number not in self.styles:
             chain: List[int] = []
             missing, at = 0, number

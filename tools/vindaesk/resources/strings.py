@@ -1,7 +1,7 @@
 """Pools of strings: each is decoded when it is asked for. A pool is UTF-8 or UTF-16; its styles are passed over.
 
-Android's build tools write UTF-8 in which a character beyond U+FFFF has 4 bytes, or (aapt2 from 2017 on) two halves of 3 bytes
-each; both are read. What is no Unicode becomes U+FFFD, as Android shows it."""
+Android's build tools write UTF-8 in which a character beyond U+FFFF has 4 bytes, or (aapt2 from 2017 on) two halves
+of 3 bytes each; both are read. What is no Unicode becomes U+FFFD, as Android shows it."""
 from typing import Dict, Optional
 
 from .chunks import Chunk, Kind, Source

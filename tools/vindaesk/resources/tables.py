@@ -1,7 +1,7 @@
-"""A table of resources: `resources.arsc` of an app, of Android's framework or of a shared library, which is read when something
-of it is asked for. The format is that of Android's ResourceTypes.h up to Android 14."""
+"""A table of resources: `resources.arsc` of an app, of Android's framework or of a shared library, which is read when
+something of it is asked for. The format is that of Android's ResourceTypes.h up to Android 14."""
 import struct
-from typing import Dict, Iterator, List, NamedTuple, Optional
+from typing import Dict, Iterator, List, NamedTuple, Optional, Tuple
 
 from .chunks import Chunk, Kind, Source
 from .configuration import Configuration
@@ -24,10 +24,10 @@ MAX_ITEMS = 1 << 16
 
 
 class RawBag(NamedTuple):
-    """A bag as the table has it: its parent, and its items."""
+    """A bag as the table has it: its parent, and its items with their keys, of which some are equal in arrays."""
 
     parent: int
-    items: Dict[int, Value]
+    rows: List[Tuple[int, Value]]
 
 
 class RawEntry(NamedTuple):
@@ -210,11 +210,9 @@ class Package:
         parent, count = self.source.u32(at + 8), self.source.u32(at + 12)
         if count > MAX_ITEMS or at + size + ITEM.size * count > end:
             raise self.source.failure("a bag of %d items does not fit in its chunk" % count, at)
-        items: Dict[int, Value] = {}
         value = self.table.value
-        for name, _, _, kind, data in ITEM.iter_unpack(self.source.data[at + size : at + size + ITEM.size * count]):
-            items[name] = value(kind, data)
-        return RawBag(parent, items)
+        rows = ITEM.iter_unpack(self.source.data[at + size : at + size + ITEM.size * count])
+        return RawBag(parent, [(name, value(kind, data)) for name, _, _, kind, data in rows])
 
 
 class Table:

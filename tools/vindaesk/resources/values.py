@@ -83,8 +83,9 @@ def complex_of(kind: int, data: int) -> Optional[Complex]:
 
 @dataclass(frozen=True)
 class Value:
-    """A value: its type (a plain number where Android has no name for it), its word of 32 bits, the text of a string, and the
-    file whose table has it. References of shared libraries and of staged ids are those of the resource that they mean."""
+    """A value: its type (a plain number where Android has no name for it), its word of 32 bits, the text of a string,
+    and the file whose table has it. References of shared libraries and of staged ids are those of the resource that
+    they mean."""
 
     type: int
     data: int
@@ -97,6 +98,11 @@ class Value:
         return self.data == 0 and self.type in (Type.NULL, Type.REFERENCE, Type.DYNAMIC_REFERENCE)
 
     @property
+    def is_unset(self) -> bool:
+        """Whether an item of a theme with it counts as none: a NULL that is not @empty."""
+        return self.type == Type.NULL and self.data != EMPTY
+
+    @property
     def is_empty(self) -> bool:
         """Whether it is @empty."""
         return self.type == Type.NULL and self.data == EMPTY
@@ -104,12 +110,17 @@ class Value:
     @property
     def is_reference(self) -> bool:
         """Whether it is a reference to a resource."""
-        return self.type in (Type.REFERENCE, Type.DYNAMIC_REFERENCE) and self.data != 0
+        return self.type == Type.REFERENCE and self.data != 0
+
+    @property
+    def is_foreign(self) -> bool:
+        """Whether it refers to a shared library that is not there: its word is an id of that library's own."""
+        return self.type in (Type.DYNAMIC_REFERENCE, Type.DYNAMIC_ATTRIBUTE) and self.data != 0
 
     @property
     def is_attribute(self) -> bool:
         """Whether it is a reference to an attribute of the theme."""
-        return self.type in (Type.ATTRIBUTE, Type.DYNAMIC_ATTRIBUTE)
+        return self.type == Type.ATTRIBUTE
 
     @property
     def is_string(self) -> bool:
@@ -164,8 +175,8 @@ def write_value(it: Value) -> str:
         return '"%s"' % it.text
     if it.is_null or it.is_empty:
         return "@empty" if it.is_empty else "@null"
-    if it.is_reference or it.is_attribute:
-        return "%s0x%08x" % ("?" if it.is_attribute else "@", it.data)
+    if it.is_reference or it.is_attribute or it.is_foreign:
+        return "%s0x%08x" % ("?" if it.type in (Type.ATTRIBUTE, Type.DYNAMIC_ATTRIBUTE) else "@", it.data)
     if it.type in (Type.DIMENSION, Type.FRACTION):
         found = complex_of(it.type, it.data)
         if found is not None:

@@ -1,0 +1,3 @@
+"""Apps made by aapt2."""
+def paths():
+    return []
