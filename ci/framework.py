@@ -9,13 +9,14 @@ bitmap it is the one for 160 dpi. Ids and names are those of the whole table. Va
 a watch, a car or a television are left out. The same file gives the same bytes."""
 import hashlib
 import io
+import os
 import re
 import struct
 import sys
 import zipfile
 
-import running  # noqa: F401  (finds the package of tools/)
 import table_writer
+from running import TOP
 from vindaesk.resources.devices import PHONE
 from vindaesk.resources.files import open_table
 from vindaesk.resources.packed import packed
@@ -26,8 +27,8 @@ WHOLE = ("attr", "^attr-private", "style")
 REACHED = ("dimen", "color", "integer", "bool", "fraction", "drawable", "mipmap", "array", "id")
 # pictures that are frames of animations
 FRAMES = re.compile("res/drawable-.*/(ic_media_route_connect|btn_switch_to_o)")
-NOTE = """A part of the resources of Android 10, made by ci/framework.py from a framework-res.apk whose table has the SHA-256
-%s.
+NOTE = """A part of the resources of Android 10, made by ci/framework.py from a framework-res.apk whose table has the
+SHA-256 %s.
 Copyright (C) The Android Open Source Project. Licensed under the Apache License, Version 2.0:
 http://www.apache.org/licenses/LICENSE-2.0
 """
@@ -81,7 +82,8 @@ class Part:
     def entries(self, number):
         """The configurations of a resource that are taken: of bitmaps only one."""
         entries = [it for it in self.resources.entries(number) if is_general(it.configuration)]
-        bitmaps = [it for it in entries if it.value is not None and it.value.text and not it.value.text.endswith(".xml")]
+        texts = {it.configuration: it.value.text for it in entries if it.value is not None and it.value.text}
+        bitmaps = [it for it in entries if not texts.get(it.configuration, ".xml").endswith(".xml")]
         least = sorted(bitmaps, key=lambda it: (it.configuration.smallest_width, it.configuration.orientation,
                                                 it.configuration.density != 160, it.configuration.density))
         return [it for it in entries if it not in bitmaps] + least[:1]
@@ -140,7 +142,8 @@ def framework(path):
     part.take(it for it in part.resources.ids() if part.resources.name(it).type in WHOLE)
     out = io.BytesIO()
     with zipfile.ZipFile(out, "w", zipfile.ZIP_DEFLATED, compresslevel=9) as archive:
-        for name, data in [("resources.arsc", part.table()), ("NOTICE", NOTE % part.digest())] + sorted(part.files.items()):
+        first = [("resources.arsc", part.table()), ("NOTICE", NOTE % part.digest())]
+        for name, data in first + sorted(part.files.items()):
             archive.writestr(zipfile.ZipInfo(name, DATE), data, zipfile.ZIP_DEFLATED, 9)
     return out.getvalue()
 
@@ -151,7 +154,7 @@ def main():
     data = framework(sys.argv[1])
     with open(sys.argv[2], "wb") as file:
         file.write(data)
-    print("%s: %d bytes" % (sys.argv[2], len(data)))
+    print("%s: %d bytes" % (os.path.relpath(sys.argv[2], TOP), len(data)))
 
 
 if __name__ == "__main__":

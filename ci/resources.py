@@ -1,29 +1,36 @@
 """Compares what the tools read of tables of resources with what Android's own programs say of them: `aapt2 dump
-resources`, `aapt dump --values resources`, and Android's library for resources (see android_assets.py), over all
-tables that are here: those of examples/, tables made by aapt2 for these checks, Android's framework where Debian's
-package android-framework-res is installed, and the apps below the folder that VINDAESK_APPS names."""
+resources`, `aapt2 optimize`, `aapt dump --values resources`, and Android's library for resources (see
+android_assets.py). The tables are those of examples/ and those that made_apps.py makes; where VINDAESK_APPS names a
+folder, also those of the apps below it and that of Android's framework, if Debian's package android-framework-res is
+installed. Whoever has none of these programs has none of these checks."""
 import glob
 import os
 import re
 import shutil
 import subprocess
-import sys
 import tempfile
 import zipfile
 from collections import Counter
+from dataclasses import replace
 
 import android_assets
+import framework
 import made_apps
+import random_configurations
 from running import TOP
 from vindaesk.calling import Failure
 from vindaesk.resources.devices import device
 from vindaesk.resources.files import open_table
+from vindaesk.resources.framework import PATH, open_framework
+from vindaesk.resources.matching import is_better, is_more_specific, matches
 from vindaesk.resources.packed import packed, unpacked
-from vindaesk.resources.qualifiers import write_qualifiers
+from vindaesk.resources.qualifiers import parse_qualifiers, write_qualifiers
 from vindaesk.resources.resources import Resources
+from vindaesk.resources.strings import from_utf8
 
 FRAMEWORK = "/usr/share/android-framework-res/framework-res.apk"
 SECONDS = 600
+SEED, COMPARED = 7, 500
 DEVICES = ("", "en-rGB-land", "de-rAT-sw600dp-night-hdpi", "ar-rEG-xhdpi-v17", "es-rUS-w820dp-v29", "zh-rHK-tvdpi",
            "pt-rMZ-mdpi-v8", "b+sr+Latn+RS-xxxhdpi-television-v28", "en-rUS-watch-round-ldpi-mcc310-mnc4-v25")
 MASKS = ("reference", "string", "integer", "boolean", "color", "float", "dimension", "fraction")
@@ -33,8 +40,8 @@ QUANTITIES = ("zero", "one", "two", "few", "many", "other")
 def apps():
     """The name and the path of each app that is here."""
     found = sorted(glob.glob(os.path.join(TOP, "examples", "*", "*.apk"))) + made_apps.paths()
-    found += [FRAMEWORK] if os.path.exists(FRAMEWORK) else []
     if os.environ.get("VINDAESK_APPS"):
+        found += [FRAMEWORK] if os.path.exists(FRAMEWORK) else []
         found += sorted(glob.glob(os.path.join(os.environ["VINDAESK_APPS"], "**", "*.apk"), recursive=True))
     return [(os.path.basename(it), it) for it in found if has_table(it)]
 
@@ -50,10 +57,14 @@ def has_table(path):
 def output(*command):
     """The lines that a program prints; none where it refuses."""
     ended = subprocess.run(command, stdout=subprocess.PIPE, stderr=subprocess.DEVNULL, timeout=SECONDS)
-    return ended.stdout.decode("utf-8", "surrogatepass" if False else "replace").split("\n")
+    return ended.stdout.decode("utf-8", "replace").split("\n")
 
 
 # aapt2 dump resources
+
+
+# how far aapt2 indents a type, a resource, and a configuration
+DEPTHS = {"t": 2, "r": 4, "(": 6}
 
 
 def dumped_by_aapt2(path):
@@ -61,7 +72,8 @@ def dumped_by_aapt2(path):
     found, number, key = {}, None, None
     for line in output("aapt2", "dump", "resources", path):
         # after an empty array it begins no new line
-        line = re.sub(r"^ +\[(?=\(\S*\) )", "      ", re.sub(r"^ +\[resource 0x", "    resource 0x", line))
+        joined = re.match(r" +\[(type |resource 0x|\(\S*\) )", line)
+        line = DEPTHS[joined.group(1)[0]] * " " + line.lstrip(" [") if joined else line
         if line.startswith("    resource 0x"):
             number = int(line.split()[1], 16)
             found[number, ""] = [line.split()[2]]
@@ -95,7 +107,7 @@ class Dump:
         name = self.resources.name(it.data) if it.data >> 24 != self.shared else None
         if name is None:
             return mark + ("0x%08x" % self.id(it.data) if it.data & 0xFF0000 else "")
-        return mark + (name.type + "/" + name.entry if name.package == self.package else str(name))
+        return "%s%s%s/%s" % (mark, self.prefix(name), name.type, name.entry)
 
     def item(self, it, kind):
         """A value: as the tools write it, but for the names of references and for more digits."""
@@ -113,10 +125,14 @@ class Dump:
         return str(it).replace("(type ", "(unknown ")
 
     def key(self, number):
-        name = self.resources.name(number)
+        name = self.resources.name(number) if number >> 24 != self.shared else None
         if name is None:
-            return "0x%08x" % number
-        return "%s%s(0x%08x)" % ("" if name.package == self.package else name.package + ":", name.entry, self.id(number))
+            return "0x%08x" % self.id(number)
+        return "%s%s(0x%08x)" % (self.prefix(name), name.entry, number)
+
+    def prefix(self, name):
+        """The package of a name, where it is another one."""
+        return "" if name.package == self.package else name.package + ":"
 
     def attribute(self, bag):
         form = bag.format()
@@ -124,7 +140,8 @@ class Dump:
         words += ["flags"] if form.takes & 0x20000 else []
         words += ["enum"] if form.takes & 0x10000 else []
         head = "(attr) type=" + "|".join(words) + (" size=%d" % len(form.words) if form.words else "")
-        return [head] + (["%s=0x%08x" % (self.key(key), it) for key, it in form.words.items()] if form.takes & 0x30000 else [])
+        words = form.words.items() if form.takes & 0x30000 else ()
+        return [head] + ["%s=0x%08x" % (self.key(key), it) for key, it in words]
 
     def bag(self, bag, kind):
         if kind in ("attr", "^attr-private"):
@@ -137,9 +154,10 @@ class Dump:
             return ["(array) size=%d" % len(bag.rows), "[" + ", ".join(self.item(it, kind) for it in bag.array()) + "]"]
         head = "(style) size=%d" % len(bag.rows)
         if bag.parent:
-            name = self.resources.name(bag.parent)
-            local = name and ("" if name.package == self.package else name.package + ":") + name.type + "/" + name.entry
-            head += " parent=" + ("%s (0x%08x)" % (local, self.id(bag.parent)) if name else "0x%08x" % self.id(bag.parent))
+            name = self.resources.name(bag.parent) if bag.parent >> 24 != self.shared else None
+            number = "0x%08x" % self.id(bag.parent)
+            named = name and "%s%s/%s (%s)" % (self.prefix(name), name.type, name.entry, number)
+            head += " parent=%s" % (named or number)
         return [head] + ["%s=%s" % (self.key(key), self.item(it, kind)) for key, it in bag.rows]
 
 
@@ -224,7 +242,8 @@ def as_aapt_dumps(name, path):
                 configuration = configuration_of(chunk.configuration)
                 for index in chunk.indexes():
                     raw = package.entry(chunk.place(index), chunk.end)
-                    row = (raw.value.type, raw.value.data) if raw.value else (raw.bag.parent, *(key for key, _ in raw.bag.rows))
+                    row = (raw.value.type, raw.value.data) if raw.value else (raw.bag.parent,)
+                    row += tuple(key for key, _ in raw.bag.rows) if raw.bag else ()
                     found[(configuration, (package.id or 2) << 24 | kind << 16 | index) + row] += 1
     more, less = found - wanted, wanted - found
     if more or less:
@@ -239,7 +258,6 @@ def text_of(answer):
     """The text of an answer, or None."""
     data = bytes.fromhex(answer[1:]) if answer[0] in "68" else b""
     if answer[0] == "8":
-        from vindaesk.resources.strings import from_utf8
         return from_utf8(data)
     return data.decode("utf-16-le", "replace") if answer[0] == "6" else None
 
@@ -272,7 +290,9 @@ def attribute_of(theme, number):
     value = theme.value(number)
     if value is None or value.is_attribute and number == value.data:
         return "-"
-    if value.is_reference and theme.resources.entry(value.data) is None or value.is_attribute and not is_end(theme, number):
+    if value.is_reference and theme.resources.entry(value.data) is None:
+        return "-"
+    if value.is_attribute and not is_end(theme, number):
         return "-"
     return "%02x %08x" % (value.type, value.data)
 
@@ -330,6 +350,87 @@ def as_android_chooses(name, paths):
     return "", len(asked)
 
 
+def comparisons():
+    """Each pair of random configurations for a random device: whether one matches, is better, and is more specific."""
+    questions, wanted = [], []
+    for it, pairs in random_configurations.devices(SEED, COMPARED):
+        questions.append("c %s %s" % (packed(it).hex(), android_assets.locale_tag(it)))
+        wanted.append(".")
+        for one, other in pairs:
+            questions.append("m %s %s" % (packed(one).hex(), packed(other).hex()))
+            wanted.append("%d %d %d" % (matches(one, it), is_better(one, other, it), is_more_specific(one, other)))
+    answers = android_assets.ask([apps()[0][1]], questions)
+    wrong = [it for it in zip(questions, answers, wanted) if it[1] != it[2]]
+    return "%d of %d, first %s" % (len(wrong), len(questions), wrong[0]) if wrong else ""
+
+
+def qualifiers():
+    """Each configuration that is written, read again by Android's library and by the tools."""
+    texts = made_apps.QUALIFIERS + ["x", "land-de", "rDE", "sw600", "v", "en-rUSA", "", "port-land", "mcc1", "xxdpi"]
+    texts += [write_qualifiers(one) for _, pairs in random_configurations.devices(SEED, 200) for one, _ in pairs]
+    texts = [it for it in texts if it and "=" not in it]
+    answers = android_assets.ask([apps()[0][1]], ["q %s" % it for it in texts])
+    for text, answer in zip(texts, answers):
+        try:
+            found = parse_qualifiers(text)
+        except Failure:
+            found = None
+        wanted = unpacked(bytes.fromhex(answer)) if answer != "-" else None
+        if wanted is not None and found is not None:
+            # the library adds the API level from which a qualifier is known
+            wanted = replace(wanted, sdk=found.sdk)
+        if found != wanted:
+            return "'%s' is %s, and for Android %s" % (text, found, wanted)
+    return ""
+
+
+def together():
+    """The parts of a split app, and a shared library with an app of its own."""
+    made = made_apps.folder()
+    for names in (("split.base", "split.de", "split.xxhdpi"), ("library", "kinds"), ("kinds", "library")):
+        why, _ = as_android_chooses(names[0], [os.path.join(made, it + ".apk") for it in names])
+        if why:
+            return why
+    return ""
+
+
+def optimized():
+    """What `aapt2 optimize` keeps of the densities of an app is what a device of that density takes."""
+    with tempfile.TemporaryDirectory() as folder:
+        for density in ("ldpi", "mdpi", "tvdpi", "hdpi", "xhdpi", "xxhdpi", "xxxhdpi"):
+            path = os.path.join(folder, density + ".apk")
+            many = os.path.join(made_apps.folder(), "many.apk")
+            made_apps.run("aapt2", "optimize", "--target-densities", density, "-o", path, many)
+            for it in ("", "de-land", "sw600dp-night", "en-rGB"):
+                taken = device("%s-%s" % (it, density) if it else density)
+                them = [Resources([open_table(app)], taken) for app in (many, path)]
+                for number in them[0].ids():
+                    pair = [the.entry(number) and the.entry(number).configuration for the in them]
+                    if pair[0] != pair[1]:
+                        return "%s %s: %s, in the optimized app %s" % (density, hex(number), *pair)
+    return ""
+
+
+def has_framework():
+    """The part of the framework that is with the tools says what the whole one says."""
+    tables = [open_framework(), open_table(FRAMEWORK)]
+    for it in ("", "sw600dp-land-night-hdpi", "xxxhdpi-v29", "mdpi-v21"):
+        part, whole = (Resources([table], device(it)) for table in tables)
+        for number in part.ids():
+            pair = [them.entry(number) for them in (part, whole)]
+            said = [(str(one.value), one.bag and [(key, str(value)) for key, value in one.bag.rows]) for one in pair]
+            is_bitmap = pair[0].value is not None and (pair[0].value.text or "").endswith(".png")
+            if said[0] != said[1] and not is_bitmap or part.name(number) != whole.name(number):
+                return "%s: %s in place of %s" % (part.name(number), *said)
+    made = framework.framework(FRAMEWORK)
+    with open(PATH, "rb") as file:
+        return "" if file.read() == made else "ci/framework.py makes another file"
+
+
+def chosen_alone(name, path):
+    return as_android_chooses(name, [path])
+
+
 def over_all(compare):
     """A check of a comparison over all apps."""
 
@@ -346,7 +447,13 @@ def over_all(compare):
 def checks():
     if shutil.which("aapt2"):
         yield "resources: as aapt2 dumps them", over_all(as_aapt2_dumps)
+        yield "resources: as aapt2 optimizes them", optimized
     if shutil.which("aapt"):
         yield "resources: as aapt dumps them", over_all(as_aapt_dumps)
     if android_assets.program():
-        yield "resources: as Android's library chooses them", over_all(lambda name, path: as_android_chooses(name, [path]))
+        yield "resources: as Android's library chooses them", over_all(chosen_alone)
+        yield "resources: as Android's library compares configurations", comparisons
+        yield "resources: as Android's library reads qualifiers", qualifiers
+        yield "resources: several tables together", together
+    if os.path.exists(FRAMEWORK):
+        yield "resources: the framework's part", has_framework

@@ -3,8 +3,8 @@ here by the same rules (Configuration.reduceScreenLayout, ResourcesImpl.updateCo
 from dataclasses import replace
 
 from ..calling import Failure
-from .configuration import (ANYDPI, DEFAULT, NODPI, Configuration, Direction, Hdr, Keyboard, KeysHidden, Long, Navigation,
-                            NavHidden, Night, Orientation, Round, Size, Touch, UiType, WideGamut)
+from .configuration import (ANYDPI, DEFAULT, NODPI, Configuration, Direction, Hdr, Keyboard, KeysHidden, Long,
+                            Navigation, NavHidden, Night, Orientation, Round, Size, Touch, UiType, WideGamut)
 from .locales import is_right_to_left
 from .qualifiers import parse_qualifiers
 
@@ -64,7 +64,8 @@ def derived(it: Configuration, wanted: Configuration) -> Configuration:
 # what a phone has, but for its sizes, its density and its locale
 HARDWARE = Configuration(
     round=Round.NO, wide_gamut=WideGamut.NO, hdr=Hdr.NO, ui_type=UiType.NORMAL, night=Night.NO, touch=Touch.FINGER,
-    keyboard=Keyboard.NOKEYS, keys_hidden=KeysHidden.SOFT, navigation=Navigation.NONAV, nav_hidden=NavHidden.YES, sdk=23,
+    keyboard=Keyboard.NOKEYS, keys_hidden=KeysHidden.SOFT, navigation=Navigation.NONAV, nav_hidden=NavHidden.YES,
+    sdk=23,
 )
 PHONE = derived(replace(HARDWARE, language="en", region="US", width=360, height=640, density=480), DEFAULT)
 

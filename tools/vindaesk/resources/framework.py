@@ -1,8 +1,9 @@
 """The resources of Android's framework: those of a file, or the part of them that is with the tools.
 
-That part is framework.apk, which ci/framework.py of the repository makes of Android 10's framework-res.apk (Debian's package
-android-framework-res): attributes, styles, themes, and the values, colour lists and drawables that the Material and DeviceDefault styles reach.
-Its licence is the Apache License 2.0, as its NOTICE says. What it does not have, `--framework FILE` gives."""
+That part is framework.apk, which ci/framework.py of the repository makes of Android 10's framework-res.apk (Debian's
+package android-framework-res): attributes, styles, themes, and the values, colour lists and drawables that the
+Material and DeviceDefault styles reach. Its licence is the Apache License 2.0, as its NOTICE says. What it does not
+have, `--framework FILE` gives."""
 import os
 from typing import Optional
 

@@ -2,7 +2,7 @@
 shared library gets an id when it is loaded, and what the tables call each other by is turned into these ids."""
 from typing import Dict, Iterator, List, NamedTuple, Optional, Sequence, Tuple
 
-from ..calling import Failure
+from ..calling import Failure, printable
 from .configuration import Configuration
 from .matching import is_better, matches
 from .tables import Package, RawEntry, Table, TypeChunk
@@ -100,7 +100,8 @@ class Groups:
                 number = libraries.setdefault(package.name, FIRST_LIBRARY + len(libraries))
             group = self.by_id.setdefault(number, Group(number, package.name))
             if number > 0xFF or (group.packages and (group.packages[0].id == 0) != (package.id == 0)):
-                raise Failure("%s: its package %s has the id of another shared library" % (package.source.name, package.name))
+                raise Failure("%s: its package %s has the id of a shared library"
+                              % (printable(package.source.name), printable(package.name)))
             group.packages.append(package)
             self.aliases.update(package.aliases)
         self.link()

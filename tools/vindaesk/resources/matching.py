@@ -223,8 +223,8 @@ def locale_score(it: Configuration) -> int:
 
 # in the order of their importance; the density says nothing of how specific a configuration is
 MORE_SPECIFIC = (
-    "gender", "direction", "smallest_width", "width", "height", "size", "long", "round", "hdr", "wide_gamut", "orientation",
-    "ui_type", "night", "touch", "keys_hidden", "nav_hidden", "keyboard", "navigation", "screen_width",
+    "gender", "direction", "smallest_width", "width", "height", "size", "long", "round", "hdr", "wide_gamut",
+    "orientation", "ui_type", "night", "touch", "keys_hidden", "nav_hidden", "keyboard", "navigation", "screen_width",
     "screen_height", "sdk", "minor",
 )
 

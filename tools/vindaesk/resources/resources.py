@@ -7,7 +7,7 @@ import re
 from dataclasses import dataclass
 from typing import Dict, Iterator, List, NamedTuple, Optional, Sequence, Tuple, Union
 
-from ..calling import Failure
+from ..calling import Failure, printable
 from .attribute_formats import AttributeFormat, attribute_format
 from .configuration import Configuration
 from .groups import ANDROID, APP, Choice, Found, Group, Groups
@@ -18,6 +18,8 @@ from .values import Type, Value
 # references that follow each other, as Android has it, and parents of a style
 MAX_CHAIN = 20
 MAX_PARENTS = 100
+# names of a chain that a message has
+SHOWN = 12
 # the keys of the items of arrays, and of plurals
 ARRAY = 0x02000000
 PLURALS = {0x01000004: "other", 0x01000005: "zero", 0x01000006: "one", 0x01000007: "two", 0x01000008: "few",
@@ -160,7 +162,7 @@ class Resources:
         while value.is_reference or (value.is_attribute and not is_referred):
             if value.data in way or len(way) > MAX_CHAIN:
                 what = "lead in a circle" if value.data in way else "do not end after %d steps" % MAX_CHAIN
-                raise Failure("%s: references %s: %s" % (value.source, what, self.chain(way + [value.data])))
+                raise Failure("%s: references %s: %s" % (printable(value.source), what, self.chain(way + [value.data])))
             way.append(value.data)
             if value.is_attribute:
                 item = theme.item(value.data) if theme else None
@@ -198,12 +200,18 @@ class Resources:
         return Name(group.name, kind, entry) if kind is not None and entry is not None else None
 
     def written(self, number: int) -> str:
-        """The name of an id, or the id itself where it has none."""
-        return str(self.name(number) or "0x%08x" % number)
+        """The name of an id as a message has it, or the id itself where it has none."""
+        return printable(str(self.name(number) or "0x%08x" % number))
+
+    def place(self, number: int) -> str:
+        """The file that has an id."""
+        bag = self.bag(number)
+        return bag.source if bag else "the tables"
 
     def chain(self, numbers: Sequence[int]) -> str:
         """Ids as a message names them."""
-        return ", ".join(map(self.written, numbers))
+        names = [self.written(it) for it in numbers]
+        return ", ".join(names if len(names) <= SHOWN else names[: SHOWN - 1] + ["..", names[-1]])
 
     def find(self, name: str, kind: str = "", package: str = "") -> Optional[int]:
         """The id of a name, as `android:dimen/app_icon_size`, `@dimen/gap`, or `gap` of a given type; of the app's
@@ -240,7 +248,8 @@ class Resources:
             while at:
                 if at in chain or len(chain) == MAX_PARENTS:
                     what = "are a circle" if at in chain else "are more than %d" % MAX_PARENTS
-                    raise Failure("the parents of the style %s %s: %s" % (self.written(number), what, self.chain(chain + [at])))
+                    raise Failure("%s: the parents of the style %s %s: %s" % (
+                        printable(self.place(number)), self.written(number), what, self.chain(chain + [at])))
                 bag = self.bag(at)
                 if bag is None:
                     missing = at

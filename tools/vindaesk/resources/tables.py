@@ -53,10 +53,10 @@ class TypeChunk:
         self.count = source.u32(chunk.start + 12)
         self.offsets = chunk.body
         self.entries = chunk.start + source.u32(chunk.start + 16)
-        told = source.u32(chunk.start + TYPE_HEAD)
-        if not LEAST_CONFIGURATION <= told <= size - TYPE_HEAD:
-            raise source.failure("a configuration of %d bytes does not fit in its chunk" % told, chunk.start + TYPE_HEAD)
-        self.configuration = unpacked(source.part(chunk.start + TYPE_HEAD, told, chunk.body))
+        stated = source.u32(chunk.start + TYPE_HEAD)
+        if not LEAST_CONFIGURATION <= stated <= size - TYPE_HEAD:
+            raise source.failure("a configuration of %d bytes does not fit in its chunk" % stated, chunk.start)
+        self.configuration = unpacked(source.part(chunk.start + TYPE_HEAD, stated, chunk.body))
         width = 2 if self.flags & OFFSET16 and not self.flags & SPARSE else 4
         if self.count > MAX_ITEMS or self.offsets + width * self.count > min(self.entries, chunk.end):
             raise source.failure("a type of %d resources does not fit in its chunk" % self.count, chunk.start)
