@@ -13,11 +13,12 @@ import zipfile
 from collections import Counter
 from dataclasses import replace
 
+from running import TOP  # before what finds the package of tools/ by it
+
 import android_assets
 import framework
 import made_apps
 import random_configurations
-from running import TOP
 from vindaesk.calling import Failure
 from vindaesk.resources.devices import device
 from vindaesk.resources.files import open_table
@@ -368,7 +369,7 @@ def qualifiers():
     """Each configuration that is written, read again by Android's library and by the tools."""
     texts = made_apps.QUALIFIERS + ["x", "land-de", "rDE", "sw600", "v", "en-rUSA", "", "port-land", "mcc1", "xxdpi"]
     texts += [write_qualifiers(one) for _, pairs in random_configurations.devices(SEED, 200) for one, _ in pairs]
-    texts = [it for it in texts if it and "=" not in it]
+    texts = [it for it in texts if it and not re.search(r"=|\.|\b0x|x0|\+nu\+|-r[0-9]", it)]
     answers = android_assets.ask([apps()[0][1]], ["q %s" % it for it in texts])
     for text, answer in zip(texts, answers):
         try:

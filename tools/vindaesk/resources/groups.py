@@ -10,6 +10,8 @@ from .values import Type, Value
 
 ANDROID, APP = 0x01, 0x7F
 FIRST_LIBRARY = 0x02
+# configurations that all look-ups of one device may go through; a real look-up goes through some ten
+MAX_VISITS = 1 << 23
 # the types of references, of which those on the left are turned into those on the right
 TURNED = {
     int(Type.DYNAMIC_REFERENCE): int(Type.REFERENCE), int(Type.DYNAMIC_ATTRIBUTE): int(Type.ATTRIBUTE),
@@ -140,12 +142,13 @@ class Choice:
     def __init__(self, groups: Groups, device: Configuration):
         self.groups = groups
         self.device = device
+        self.visits = 0
         self.matching: Dict[Tuple[int, int], List[Tuple[Package, TypeChunk]]] = {}
 
     def candidates(self, group: Group, kind: int) -> List[Tuple[Package, TypeChunk]]:
         """The chunks of a type that match the device."""
         key = (group.id, kind)
-        found = self.matching.get(key)
+        found: Optional[List[Tuple[Package, TypeChunk]]] = self.matching.get(key)
         if found is None:
             found = [(it, chunk) for it, chunk in group.chunks(kind) if matches(chunk.configuration, self.device)]
             self.matching[key] = found
@@ -154,7 +157,12 @@ class Choice:
     def best(self, group: Group, kind: int, index: int) -> Optional[Found]:
         """A resource in the configuration that the device takes."""
         best: Optional[Found] = None
-        for package, chunk in self.candidates(group, kind):
+        candidates = self.candidates(group, kind)
+        self.visits += len(candidates)
+        if self.visits > MAX_VISITS:
+            raise Failure("%s: its resources are looked for in more than %d configurations"
+                          % (printable(candidates[0][0].source.name), MAX_VISITS))
+        for package, chunk in candidates:
             place = chunk.place(index)
             if place < 0:
                 continue

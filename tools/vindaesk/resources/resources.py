@@ -18,6 +18,8 @@ from .values import Type, Value
 # references that follow each other, as Android has it, and parents of a style
 MAX_CHAIN = 20
 MAX_PARENTS = 100
+# values that are read for one device; all those of Android's framework are 60 thousand
+MAX_READ = 1 << 20
 # names of a chain that a message has
 SHOWN = 12
 # the keys of the items of arrays, and of plurals
@@ -95,6 +97,7 @@ class Resources:
         self.groups = groups or Groups(tables)
         self.device = device
         self.choice = Choice(self.groups, device)
+        self.read_count = 0
         self.known: Dict[int, Optional[Entry]] = {}
         self.styles: Dict[int, Style] = {}
 
@@ -125,6 +128,9 @@ class Resources:
     def read(self, number: int, group: Group, found: Found) -> Entry:
         """A resource that was found, with ids that are valid here."""
         raw = found.read()
+        self.read_count += 1 + (len(raw.bag.rows) if raw.bag is not None else 0)
+        if self.read_count > MAX_READ:
+            raise Failure("%s: more than %d values are read" % (printable(found.package.source.name), MAX_READ))
         value, bag = None, None
         if raw.value is not None:
             value = self.groups.value(group, raw.value)

@@ -7,9 +7,10 @@ from typing import Dict, Optional
 from .chunks import Chunk, Kind, Source
 
 UTF8 = 0x100
+SPARE = 1 << 16
 HEAD = 28
-# a string is at most this long, as Android's two bytes of length have it (UTF-8), or 31 bits (UTF-16)
-MAX_POOL = 1 << 24
+# strings that a pool may have; that of Android's framework has 130 thousand
+MAX_POOL = 1 << 22
 
 
 class StringPool:
@@ -25,6 +26,8 @@ class StringPool:
         self.offsets = chunk.body
         self.strings = chunk.start + source.u32(chunk.start + 20)
         self.known: Dict[int, str] = {}
+        # bytes that may still be decoded: each is in one string, but for a few
+        self.left = 2 * (chunk.end - chunk.start) + SPARE
         if self.size > MAX_POOL or chunk.body + 4 * self.size > chunk.end:
             raise source.failure("a pool of %d strings does not fit in its chunk" % self.size, chunk.start)
         if self.size and not chunk.body <= self.strings <= chunk.end:
@@ -60,7 +63,7 @@ class StringPool:
             end = at + (step << 15 | size)
         if end >= self.end:
             raise self.source.failure("a string does not end inside of its pool", at)
-        return from_utf8(self.source.data[at:end])
+        return from_utf8(self.taken(at, end))
 
     def utf16(self, at: int) -> str:
         """The string at a place: its length in one or two words, and the words."""
@@ -71,7 +74,14 @@ class StringPool:
             at += 2
         if at + 2 * size > self.end:
             raise self.source.failure("a string does not end inside of its pool", at)
-        return self.source.data[at : at + 2 * size].decode("utf-16-le", "replace")
+        return self.taken(at, at + 2 * size).decode("utf-16-le", "replace")
+
+    def taken(self, start: int, end: int) -> bytes:
+        """The bytes of a string. Failure where strings lie over each other, so that a small pool would be many texts."""
+        self.left -= end - start
+        if self.left < 0:
+            raise self.source.failure("the strings of a pool lie over each other", start)
+        return self.source.data[start:end]
 
 
 def from_utf8(data: bytes) -> str:

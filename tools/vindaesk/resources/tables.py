@@ -5,7 +5,7 @@ from typing import Dict, Iterator, List, NamedTuple, Optional, Tuple
 
 from .chunks import Chunk, Kind, Source
 from .configuration import Configuration
-from .packed import unpacked
+from .packed import SIZE, unpacked
 from .strings import StringPool
 from .values import Value
 
@@ -19,8 +19,11 @@ TYPE_HEAD, LEAST_CONFIGURATION = 20, 28
 ITEM = struct.Struct("<IHBBI")
 NAME_SIZE = 256
 LIBRARY_SIZE = 4 + NAME_SIZE
-# a style or an array with more items, or a type with more resources, is no real one
-MAX_ITEMS = 1 << 16
+# limits that no real table comes near to: resources of a type, items of a bag (Android's framework has 514), and types times
+# configurations (it has 3857)
+MAX_ENTRIES = 1 << 16
+MAX_ITEMS = 1 << 14
+MAX_CHUNKS = 1 << 14
 
 
 class RawBag(NamedTuple):
@@ -56,9 +59,9 @@ class TypeChunk:
         stated = source.u32(chunk.start + TYPE_HEAD)
         if not LEAST_CONFIGURATION <= stated <= size - TYPE_HEAD:
             raise source.failure("a configuration of %d bytes does not fit in its chunk" % stated, chunk.start)
-        self.configuration = unpacked(source.part(chunk.start + TYPE_HEAD, stated, chunk.body))
+        self.configuration = unpacked(source.part(chunk.start + TYPE_HEAD, stated, chunk.body)[:SIZE])
         width = 2 if self.flags & OFFSET16 and not self.flags & SPARSE else 4
-        if self.count > MAX_ITEMS or self.offsets + width * self.count > min(self.entries, chunk.end):
+        if self.count > MAX_ENTRIES or self.offsets + width * self.count > min(self.entries, chunk.end):
             raise source.failure("a type of %d resources does not fit in its chunk" % self.count, chunk.start)
 
     def place(self, index: int) -> int:
@@ -134,6 +137,7 @@ class Package:
         for it in source.chunks(chunk.body, chunk.end):
             if it.kind == Kind.TYPE:
                 self.type_chunks.setdefault(source.u8(it.start + 8), []).append(it)
+                self.table.count_chunk(it)
             elif it.kind == Kind.STRINGS and it.start == pools[0]:
                 self.type_pool = StringPool(source, it)
             elif it.kind == Kind.STRINGS and it.start == pools[1]:
@@ -223,6 +227,7 @@ class Table:
         self.source = source
         self.packages: List[Package] = []
         self.pool: Optional[StringPool] = None
+        self.chunk_count = 0
         root = self.data.chunk(0, len(data))
         if root.kind != Kind.TABLE or root.body < 12:
             raise self.data.failure("this is no table of resources", 0)
@@ -231,6 +236,12 @@ class Table:
                 self.pool = StringPool(self.data, it)
             elif it.kind == Kind.PACKAGE:
                 self.packages.append(Package(self, it))
+
+    def count_chunk(self, chunk: Chunk) -> None:
+        """Counts the types and configurations; Failure beyond `MAX_CHUNKS`."""
+        self.chunk_count += 1
+        if self.chunk_count > MAX_CHUNKS:
+            raise self.data.failure("the table has more than %d types and configurations" % MAX_CHUNKS, chunk.start)
 
     def value(self, kind: int, data: int) -> Value:
         """The value of a type and a word of this table."""
