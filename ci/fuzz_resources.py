@@ -17,7 +17,7 @@ from running import TOP  # before what finds the package of tools/ by it
 
 import made_apps
 import made_tables
-from vindaesk.calling import Failure
+from vindaesk.common.failures import Failure
 from vindaesk.resources.devices import device
 from vindaesk.resources.files import table_bytes
 from vindaesk.resources.resources import Bag, Resources

@@ -11,7 +11,7 @@ from running import TOP
 PACKAGE = os.path.join(TOP, "tools", "vindaesk")
 # from the lowest; those of one row do not use each other
 LAYERS = (
-    ("common",), ("provenance",), ("program",), ("scripts",), ("layouts",), ("pictures",), ("views",),
+    ("common",), ("provenance",), ("program",), ("scripts",), ("layouts", "resources"), ("pictures",), ("views",),
     ("apps", "building", "installing", "lint", "pages", "session", "testing"), ("command_line",),
 )
 

@@ -19,12 +19,12 @@ import android_assets
 import framework
 import made_apps
 import random_configurations
-from vindaesk.calling import Failure
+from vindaesk.common.failures import Failure
 from vindaesk.resources.devices import device
 from vindaesk.resources.files import open_table
 from vindaesk.resources.framework import PATH, open_framework
 from vindaesk.resources.matching import is_better, is_more_specific, matches
-from vindaesk.resources.packed import packed, unpacked
+from vindaesk.resources.packed import order, packed, unpacked
 from vindaesk.resources.qualifiers import parse_qualifiers, write_qualifiers
 from vindaesk.resources.resources import Resources
 from vindaesk.resources.strings import from_utf8
@@ -385,6 +385,17 @@ def qualifiers():
     return ""
 
 
+def ordered():
+    """aapt2 writes the configurations of a type in the order of `order`."""
+    table = open_table(os.path.join(made_apps.folder(), "many.apk"))
+    for package in table.packages:
+        for kind in package.type_chunks:
+            keys = [order(it.configuration) for it in package.chunks(kind)]
+            if keys != sorted(keys):
+                return "type %s" % package.type_name(kind)
+    return ""
+
+
 def together():
     """The parts of a split app, and a shared library with an app of its own."""
     made = made_apps.folder()
@@ -449,6 +460,7 @@ def checks():
     if shutil.which("aapt2"):
         yield "resources: as aapt2 dumps them", over_all(as_aapt2_dumps)
         yield "resources: as aapt2 optimizes them", optimized
+        yield "resources: as aapt2 orders configurations", ordered
     if shutil.which("aapt"):
         yield "resources: as aapt dumps them", over_all(as_aapt_dumps)
     if android_assets.program():

@@ -3,7 +3,8 @@ size of a head, and a size, as `ResChunk_header` of Android's ResourceTypes.h ha
 import struct
 from typing import Iterator, NamedTuple
 
-from ..calling import Failure, printable
+from ..common.failures import Failure
+from ..common.messages import printable
 
 U16 = struct.Struct("<H")
 U32 = struct.Struct("<I")

@@ -2,7 +2,7 @@
 here by the same rules (Configuration.reduceScreenLayout, ResourcesImpl.updateConfiguration)."""
 from dataclasses import replace
 
-from ..calling import Failure
+from ..common.failures import Failure
 from .configuration import (ANYDPI, DEFAULT, NODPI, Configuration, Direction, Hdr, Keyboard, KeysHidden, Long,
                             Navigation, NavHidden, Night, Orientation, Round, Size, Touch, UiType, WideGamut)
 from .locales import is_right_to_left

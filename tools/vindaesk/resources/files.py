@@ -6,7 +6,8 @@ import zipfile
 import zlib
 from typing import BinaryIO
 
-from ..calling import Failure, printable
+from ..common.failures import Failure
+from ..common.messages import printable
 from .tables import Table
 
 NAME = "resources.arsc"

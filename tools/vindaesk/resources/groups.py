@@ -2,7 +2,8 @@
 shared library gets an id when it is loaded, and what the tables call each other by is turned into these ids."""
 from typing import Dict, Iterator, List, NamedTuple, Optional, Sequence, Tuple
 
-from ..calling import Failure, printable
+from ..common.failures import Failure
+from ..common.messages import printable
 from .configuration import Configuration
 from .matching import is_better, matches
 from .tables import Package, RawEntry, Table, TypeChunk

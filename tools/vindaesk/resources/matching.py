@@ -8,6 +8,7 @@ from typing import Callable, Optional, Sequence, Tuple
 
 from .configuration import ANYDPI, Configuration, KeysHidden, Size
 from .locales import compare_regions, is_close_to_us_english, likely_script
+from .packed import order
 
 MEDIUM = 160
 TAGALOG = ("tl", "fil")
@@ -246,9 +247,12 @@ def is_more_specific(one: Configuration, other: Configuration) -> bool:
 
 
 def best(candidates: Sequence[Configuration], device: Configuration) -> Optional[int]:
-    """The number of the configuration that a device takes, or None where none of them matches."""
+    """The number of the configuration that a device takes, or None where none of them matches. They are compared in the
+    order in which aapt2 writes them into a table: where a language is weighed against other qualifiers, Android's
+    comparison depends on the order."""
     found: Optional[int] = None
-    for number, it in enumerate(candidates):
+    for number in sorted(range(len(candidates)), key=lambda it: order(candidates[it])):
+        it = candidates[number]
         if matches(it, device) and (found is None or is_better(it, candidates[found], device)):
             found = number
     return found

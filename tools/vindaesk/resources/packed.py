@@ -60,3 +60,12 @@ def packed(it: Configuration) -> bytes:
         it.numbering.encode("latin-1"),
     )
     return struct.pack("<I", SIZE) + fields[4:]
+
+
+def order(it: Configuration) -> Tuple[object, ...]:
+    """By this aapt2 orders the configurations of a type in a table (`ResTable_config::compare`)."""
+    data = packed(it)
+    imsi, locale, screen, keys, size, version = struct.unpack_from("<6I", data, 4)
+    layout, ui, smallest, dp = struct.unpack_from("<BBHI", data, 28)
+    return (imsi, locale, data[36:40], data[40:48], data[53:61], screen, keys, size, version, layout, data[48], data[49],
+            ui, smallest, dp)

@@ -5,7 +5,8 @@ import re
 from dataclasses import replace
 from typing import Any, Callable, Dict, List, Optional, Tuple
 
-from ..calling import Failure, printable
+from ..common.failures import Failure
+from ..common.messages import printable
 from .configuration import (ANYDPI, DEFAULT, MNC_ZERO, NODPI, Configuration, Direction, Hdr, Keyboard, KeysHidden, Long,
                             Navigation, NavHidden, Night, Orientation, Round, Size, Touch, UiType, WideGamut)
 

@@ -7,7 +7,8 @@ import re
 from dataclasses import dataclass
 from typing import Dict, Iterator, List, NamedTuple, Optional, Sequence, Tuple, Union
 
-from ..calling import Failure, printable
+from ..common.failures import Failure
+from ..common.messages import printable
 from .attribute_formats import AttributeFormat, attribute_format
 from .configuration import Configuration
 from .groups import ANDROID, APP, Choice, Found, Group, Groups
@@ -18,7 +19,7 @@ from .values import Type, Value
 # references that follow each other, as Android has it, and parents of a style
 MAX_CHAIN = 20
 MAX_PARENTS = 100
-# values that are read for one device; all those of Android's framework are 60 thousand
+# values that are kept for one device, in resources, styles and themes; all of Android's framework are some 200 thousand
 MAX_READ = 1 << 20
 # names of a chain that a message has
 SHOWN = 12
@@ -100,6 +101,7 @@ class Resources:
         self.read_count = 0
         self.known: Dict[int, Optional[Entry]] = {}
         self.styles: Dict[int, Style] = {}
+        self.no_theme = Theme(self, (), {})
 
     def for_device(self, device: Configuration) -> "Resources":
         """The same tables for another device; what was found in them is not looked for again."""
@@ -128,9 +130,7 @@ class Resources:
     def read(self, number: int, group: Group, found: Found) -> Entry:
         """A resource that was found, with ids that are valid here."""
         raw = found.read()
-        self.read_count += 1 + (len(raw.bag.rows) if raw.bag is not None else 0)
-        if self.read_count > MAX_READ:
-            raise Failure("%s: more than %d values are read" % (printable(found.package.source.name), MAX_READ))
+        self.count(1 + (len(raw.bag.rows) if raw.bag is not None else 0), found.package.source.name)
         value, bag = None, None
         if raw.value is not None:
             value = self.groups.value(group, raw.value)
@@ -140,6 +140,12 @@ class Resources:
             parent = self.groups.id(group, raw.bag.parent) if raw.bag.parent else 0
             bag = Bag(parent, rows, found.package.source.name)
         return Entry(number, found.chunk.configuration, value, bag)
+
+    def count(self, values: int, source: str) -> None:
+        """Counts values that are kept for the device; Failure beyond `MAX_READ`."""
+        self.read_count += values
+        if self.read_count > MAX_READ:
+            raise Failure("%s: more than %d values are read" % (printable(source), MAX_READ))
 
     def value(self, number: int) -> Optional[Value]:
         """The value of an id, which may be a reference; None for a bag too."""
@@ -272,11 +278,12 @@ class Resources:
             bag = self.bag(at)
             if bag is not None:
                 items.update((key, Item(it, at)) for key, it in bag.items.items())
+        self.count(len(items), self.place(number))
         return Style(number, tuple(chain), items, missing)
 
     def theme(self, *styles: int) -> Theme:
         """The theme of some styles, each over those before it."""
-        theme = Theme(self, (), {})
+        theme = self.no_theme
         for it in styles:
             theme = theme.applied(it)
         return theme

@@ -34,18 +34,22 @@ class Theme:
         self.resources = resources
         self.styles = styles
         self.items = items
+        # the themes with one more style over this one
+        self.known: Dict[Tuple[int, bool], "Theme"] = {}
 
     def applied(self, style: int, force: bool = True) -> "Theme":
         """The theme with a style over it, as `android:theme` of a view has it; without force, what the theme has
         already stays."""
-        new = self.resources.style(style).items
-        items = dict(self.items)
-        if force:
-            items.update(new)
-        else:
-            kept = {key for key, it in items.items() if not it.value.is_unset}
+        found = self.known.get((style, force))
+        if found is None:
+            new = self.resources.style(style).items
+            kept = set() if force else {key for key, it in self.items.items() if not it.value.is_unset}
+            items = dict(self.items)
             items.update((key, it) for key, it in new.items() if key not in kept)
-        return Theme(self.resources, self.styles + (style,), items)
+            self.resources.count(len(items), self.resources.place(style))
+            found = Theme(self.resources, self.styles + (style,), items)
+            self.known[style, force] = found
+        return found
 
     def item(self, attribute: int) -> Optional[Item]:
         """What the theme says of an attribute, which may be a reference or another attribute."""

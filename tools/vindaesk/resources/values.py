@@ -5,7 +5,7 @@ from enum import Enum, IntEnum
 from fractions import Fraction
 from typing import Optional
 
-from ..calling import Failure
+from ..common.failures import Failure
 
 
 class Type(IntEnum):
