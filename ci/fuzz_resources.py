@@ -27,14 +27,15 @@ RUNS, SEED, SHORT = 20000, 1, 300
 # seconds that one run may take, and bytes of the tables that are changed
 SLOW, LARGEST = 5, 200000
 # numbers that are likely to do harm
-NUMBERS = (0, 1, 3, 4, 7, 8, 0x7F, 0x80, 0xFF, 0x100, 0x7FFF, 0x8000, 0xFFFF, 0x10000, 0x7FFFFFFF, 0x80000000, 0xFFFFFFFC,
-           0xFFFFFFFF)
+NUMBERS = (0, 1, 3, 4, 7, 8, 0x7F, 0x80, 0xFF, 0x100, 0x7FFF, 0x8000, 0xFFFF, 0x10000, 0x7FFFFFFF, 0x80000000,
+           0xFFFFFFFC, 0xFFFFFFFF)
 DEVICES = [device(it) for it in ("", "de-rAT-sw600dp-night-hdpi", "ar-television-v29")]
 
 
 def seeds(paths):
     """The tables that are changed."""
-    found = [table_bytes(it) for it in paths or made_apps.paths() + glob.glob(os.path.join(TOP, "examples", "*", "*.arsc"))]
+    own = made_apps.paths() + sorted(glob.glob(os.path.join(TOP, "examples", "*", "*.arsc")))
+    found = [table_bytes(it) for it in paths or own]
     found += [] if paths else list(made_tables.tables().values())
     return [it for it in found if len(it) <= LARGEST]
 

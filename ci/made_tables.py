@@ -1,5 +1,5 @@
-"""Tables that table_writer.py makes of forms that Debian's aapt2 does not write: compact entries, offsets of 16 bits, staged ids,
-shared libraries by name, and texts of both forms of UTF-8."""
+"""Tables that table_writer.py makes of forms that Debian's aapt2 does not write: compact entries, offsets of 16 bits,
+staged ids, shared libraries by name, and texts of both forms of UTF-8."""
 import table_writer
 from table_writer import Bag, Package, Pool, Value
 from vindaesk.resources.packed import packed
@@ -34,9 +34,9 @@ def filled(package):
     return package
 
 
-def library():
+def library(name="org.example.library"):
     """A shared library with a text, an attribute, and a style that has it."""
-    package = Package(0, "org.example.library")
+    package = Package(0, name)
     package.type(1, "attr")
     package.type(2, "string")
     package.type(3, "style")
@@ -71,7 +71,7 @@ def staged():
 
 def tables():
     """The tables by their names."""
-    forms = {form: table_writer.table([filled(Package(0x7F, "org.example", form))]) for form in ("dense", "sparse", "short")}
+    forms = {it: table_writer.table([filled(Package(0x7F, "org.example", it))]) for it in ("dense", "sparse", "short")}
     forms["compact"] = table_writer.table([filled(Package(0x7F, "org.example", is_compact=True))])
     forms["compact short"] = table_writer.table([filled(Package(0x7F, "org.example", "short", True))])
     forms["utf16"] = table_writer.table([filled(Package(0x7F, "org.example"))], Pool(is_utf8=False))

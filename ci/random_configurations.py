@@ -5,8 +5,9 @@ from vindaesk.resources.configuration import DEFAULT, Configuration
 from vindaesk.resources.locale_data import REPRESENTATIVES
 
 LOCALES = [tuple(it.split("_")) for it in """
-    _ _ en_ en_US en_GB en_AU en_001 en_PR es_ es_US es_MX es_419 es_ES es_AR pt_ pt_BR pt_PT pt_AO zh_ zh_TW zh_HK zh_MO
-    zh_CN sr_ sr_RS fil_ tl_ ar_EG ar_MA ar_015 ar_ xx_YY xx_ de_AT de_ fr_CA fr_ """.split()]
+    _ _ en_ en_US en_GB en_AU en_001 en_PR es_ es_US es_MX es_419 es_ES es_AR pt_ pt_BR pt_PT pt_AO zh_ zh_TW zh_HK
+    zh_MO zh_CN sr_ sr_RS fil_ tl_ ar_EG ar_MA ar_015 ar_ xx_YY xx_ de_AT de_ fr_CA fr_
+""".split()]
 KNOWN = [it.partition("-") for words in REPRESENTATIVES.values() for it in words.split()]
 VALUES = {
     "mcc": (310, 311), "mnc": (4, 0xFFFF), "direction": (1, 2), "smallest_width": (320, 360, 600),

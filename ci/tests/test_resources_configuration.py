@@ -1,21 +1,26 @@
 """Configurations: qualifiers, devices, and the choice by Android's rule."""
 import os
+from dataclasses import replace
 
 import android_choices
 import pytest
 import random_configurations
 from vindaesk.common.failures import Failure
-from vindaesk.resources.configuration import (ANYDPI, DEFAULT, MNC_ZERO, Configuration, Direction, KeysHidden, Long, Night,
-                                              Orientation, Size, UiType)
+from vindaesk.resources.configuration import (ANYDPI, DEFAULT, MNC_ZERO, Configuration, Direction, KeysHidden, Long,
+                                              Night, Orientation, Size, UiType)
 from vindaesk.resources.devices import PHONE, device
 from vindaesk.resources.matching import best, better_density, is_better, is_more_specific, matches
 from vindaesk.resources.packed import packed, unpacked
 from vindaesk.resources.qualifiers import parse_qualifiers, write_qualifiers
 
-ANSWERS = os.path.join(os.path.dirname(os.path.realpath(__file__)), "android_choices.txt")
+ANSWERS, QUALIFIERS = (os.path.join(os.path.dirname(os.path.realpath(__file__)), "android_%s.txt" % it)
+                       for it in ("choices", "qualifiers"))
 # as `aapt2 dump configurations` prints them
-WRITTEN = """mcc310 mcc310-mnc4 en en-rUS fil-rPH b+sr+Latn b+sr+Latn+RS b+en+US+posix ldrtl sw600dp-w820dp-h480dp-large-long-round-widecg-highdr
-square-television-night-tvdpi-stylus-keyssoft-12key-navhidden-wheel-640x480-v21 260dpi nodpi anydpi-v21 car vrheadset watch port-land""".split()
+WRITTEN = """
+    mcc310 mcc310-mnc4 en en-rUS fil-rPH b+sr+Latn b+sr+Latn+RS b+en+US+posix ldrtl
+    sw600dp-w820dp-h480dp-large-long-round-widecg-highdr 260dpi nodpi anydpi-v21 car vrheadset watch
+    square-television-night-tvdpi-stylus-keyssoft-12key-navhidden-wheel-640x480-v21
+""".split()
 
 
 def chosen(folders, of):
@@ -24,9 +29,18 @@ def chosen(folders, of):
     return None if index is None else folders[index]
 
 
-@pytest.mark.parametrize("text", [it for it in WRITTEN if it != "port-land"])
+@pytest.mark.parametrize("text", WRITTEN)
 def test_qualifiers_are_written_as_they_are_read(text):
     assert write_qualifiers(parse_qualifiers(text)) == text
+
+
+def test_numbers_are_androids():
+    """The bytes of each qualifier, by Android's own library, which adds the API level that knows it."""
+    with open(QUALIFIERS, encoding="ascii") as file:
+        rows = [it.split() for it in file.read().splitlines()]
+    assert len(rows) > 80
+    for text, wanted in rows:
+        assert replace(parse_qualifiers(text), sdk=0) == replace(unpacked(bytes.fromhex(wanted)), sdk=0), text
 
 
 def test_a_long_name():
@@ -105,6 +119,8 @@ def test_the_example_of_androids_documentation():
     (["es", "b+es+419"], "es-rAR", "b+es+419"),
     (["es", "es-rUS"], "es-rMX", "es-rUS"),
     (["pt", "pt-rPT"], "pt-rAO", "pt-rPT"),
+    (["de-rAT", "de-rDE"], "de-rCH", "de-rDE"),
+    (["fr-rGA", "fr-rCM"], "fr-rCH", "fr-rCM"),
     (["zh", "zh-rTW"], "zh-rHK", "zh-rTW"),
     (["zh"], "zh-rHK", None),
     (["sr", "b+sr+Latn"], "b+sr+Latn", "b+sr+Latn"),
@@ -118,7 +134,7 @@ def test_choice(folders, of, wanted):
 def test_densities_between():
     # ((2 * 240) - 300) * 480 = 86400 is less than 300 * 300 = 90000, so the higher one is scaled down
     assert better_density(480, 240, 300) is True
-    assert better_density(640, 240, 260) is False
+    assert better_density(640, 240, 260) is False and better_density(480, 240, 280) is False
     assert better_density(0, 120, 160) is True
 
 

@@ -30,6 +30,7 @@ def refused(data, why):
 def test_no_table():
     refused(b"", "a chunk is cut short (at byte 0)")
     refused(b"\3\0\10\0\10\0\0\0", "this is no table of resources")
+    refused(b"\2\0\14\0\15\0\0\0" + bytes(8), "a chunk of kind 0002 has a head of 12 and a size of 13 bytes")
     refused(b"\0" * 64, "a chunk of kind 0000 has a head of 0 and a size of 0 bytes")
 
 
@@ -147,7 +148,8 @@ def test_archives(tmp_path):
 def test_a_bomb(tmp_path):
     bomb = archive(tmp_path / "c.apk", "resources.arsc", bytes(files.MAX_TABLE + 1))
     assert os.path.getsize(bomb) < 200000
-    assert measured(lambda: files.open_table(bomb)).endswith("its resources.arsc has more than %d bytes" % files.MAX_TABLE)
+    why = "its resources.arsc has more than %d bytes" % files.MAX_TABLE
+    assert measured(lambda: files.open_table(bomb)).endswith(why)
 
 
 def test_a_long_list_of_files(tmp_path):

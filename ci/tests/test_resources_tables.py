@@ -43,7 +43,8 @@ def test_emoji_is_not_there_by_day():
 
 
 def test_configurations_of_a_table():
-    assert {(it.language, it.night) for it in configurations(Table(MADE["dense"], "a"))} == {("", 0), ("", 2), ("de", 0)}
+    found = {(it.language, it.night) for it in configurations(Table(MADE["dense"], "a"))}
+    assert found == {("", 0), ("", 2), ("de", 0)}
 
 
 def test_a_library_and_its_client():
@@ -57,6 +58,14 @@ def test_a_library_and_its_client():
     assert both.find("org.example.library:attr/tint") == 0x02010000 and both.app == 0x7F
 
 
+def test_two_libraries():
+    """Each gets an id, and what it says of its own is of this id."""
+    both = Resources([Table(made_tables.library(it), it) for it in ("one", "two")], device())
+    assert both.packages == {0x02: "one", 0x03: "two"}
+    assert both.value(0x03020001).data == 0x03020000 and both.find("two:string/shared") == 0x03020000
+    assert list(both.bag(0x03030000).items) == [0x03010000]
+
+
 def test_a_client_alone():
     alone = resources("client")
     value = alone.value(0x7F010000)
@@ -66,7 +75,7 @@ def test_a_client_alone():
 
 def test_staged_ids():
     staged = resources("staged")
-    assert staged.resolve(staged.value(0x7F010001)).text == "final"
+    assert staged.value(0x7F010001).data == 0x7F010000 and staged.resolve(staged.value(0x7F010001)).text == "final"
     assert staged.value(0x7FFE0000).text == "final" and str(staged.name(0x7FFE0000)) == "org.example.staged:string/text"
 
 
@@ -89,11 +98,17 @@ def test_texts():
     assert from_utf8(b"a\xff\xed\xa0\xbd") == "a\ufffd" + "\ufffd" * 3 and from_utf8(b"\xed\xa0\xbd") == "\ufffd"
 
 
+class ShortPool(table_writer.Pool):
+    """A pool of which lengths have 15 bits."""
+
+    def length(self, number):
+        return super().length(number & 0x7FFF)
+
+
 def test_long_texts():
     """Lengths in two parts, and one whose upper bits the build tools do not write."""
     for size in (0x7F, 0x80, 0x7FFF, 0x8000, 0x12345):
-        pool = table_writer.Pool()
-        pool.length = lambda number, of=pool: table_writer.Pool.length(of, number & 0x7FFF if number >= 0x8000 else number)
+        pool = ShortPool()
         package = table_writer.Package(0x7F, "a")
         package.type(1, "string")
         package.put(0x10000, made_tables.configuration(""), "long", table_writer.Value(3, "x" * size))

@@ -28,7 +28,8 @@ def app(numbers=(), styles=()):
 
 
 def test_references():
-    it = app([(DECIMAL, 7), (REFERENCE, NUMBER), (REFERENCE, NUMBER + 1), (REFERENCE, NUMBER + 99), (REFERENCE, STYLE)], [(0, [])])
+    it = app([(DECIMAL, 7), (REFERENCE, NUMBER), (REFERENCE, NUMBER + 1), (REFERENCE, NUMBER + 99), (REFERENCE, STYLE)],
+             [(0, [])])
     assert it.resolve(it.value(NUMBER + 2)).data == 7
     assert it.follow(it.value(NUMBER + 2))[1] == [NUMBER + 1, NUMBER]
     # where it is not there, or is a bag, the reference is the end
@@ -40,7 +41,8 @@ def test_a_circle_of_references():
     it = app([(REFERENCE, NUMBER + 1), (REFERENCE, NUMBER + 2), (REFERENCE, NUMBER)])
     with pytest.raises(Failure) as caught:
         it.resolve(it.value(NUMBER))
-    assert str(caught.value) == "app.arsc: references lead in a circle: app:integer/n1, app:integer/n2, app:integer/n0, app:integer/n1"
+    assert str(caught.value) == ("app.arsc: references lead in a circle: "
+                                 "app:integer/n1, app:integer/n2, app:integer/n0, app:integer/n1")
 
 
 def test_references_without_end():
@@ -76,7 +78,8 @@ def test_a_circle_of_parents():
     it = app(styles=[(STYLE + 1, []), (STYLE, [])])
     with pytest.raises(Failure) as caught:
         it.style(STYLE)
-    assert str(caught.value) == "app.arsc: the parents of the style app:style/S0 are a circle: app:style/S0, app:style/S1, app:style/S0"
+    assert str(caught.value) == ("app.arsc: the parents of the style app:style/S0 are a circle: "
+                                 "app:style/S0, app:style/S1, app:style/S0")
 
 
 def test_too_many_parents():
@@ -97,7 +100,8 @@ def themed():
 def test_attributes_of_a_theme():
     theme = themed().theme(STYLE)
     assert [theme.value(ATTRIBUTE + at).data for at in range(4)] == [1, 1, 7, 7]
-    assert theme.value(ATTRIBUTE + 4) is None and theme.value(ATTRIBUTE + 5).is_empty and theme.value(ATTRIBUTE + 7) is None
+    assert theme.value(ATTRIBUTE + 4) is None and theme.value(ATTRIBUTE + 5).is_empty
+    assert theme.value(ATTRIBUTE + 7) is None
     # an attribute that a reference leads to stays, as in Android
     assert theme.value(ATTRIBUTE + 6).is_attribute
 
@@ -105,10 +109,20 @@ def test_attributes_of_a_theme():
 def test_a_theme_over_another():
     theme = themed().theme(STYLE)
     over = theme.applied(STYLE + 1)
-    assert [over.value(ATTRIBUTE + at).data for at in (0, 1, 2, 4)] == [2, 2, 7, 9] and over.styles == (STYLE, STYLE + 1)
+    assert [over.value(ATTRIBUTE + at).data for at in (0, 1, 2, 4)] == [2, 2, 7, 9]
+    assert over.styles == (STYLE, STYLE + 1)
     under = theme.applied(STYLE + 1, force=False)
     assert [under.value(ATTRIBUTE + at).data for at in (0, 1, 4)] == [1, 1, 9]
     assert theme.value(ATTRIBUTE).data == 1
+
+
+def test_what_stays_without_force():
+    """All but NULLs that are not @empty."""
+    it = app(styles=[(0, [(ATTRIBUTE, (DECIMAL, 0)), (ATTRIBUTE + 1, (NULL, 1)), (ATTRIBUTE + 2, (NULL, 0))]),
+                     (0, [(ATTRIBUTE + at, (DECIMAL, 5)) for at in range(3)])])
+    under = it.theme(STYLE).applied(STYLE + 1, force=False)
+    assert [(under.value(ATTRIBUTE + at).type, under.value(ATTRIBUTE + at).data) for at in range(3)] == [
+        (DECIMAL, 0), (NULL, 1), (DECIMAL, 5)]
 
 
 def test_attributes_in_a_circle():

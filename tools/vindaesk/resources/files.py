@@ -35,8 +35,8 @@ def check_list(file: BinaryIO, path: str) -> None:
 
 
 def table_bytes(path: str) -> bytes:
-    """The bytes of the table of an app (apk, jar or another zip) or of a bare resources.arsc. Failure where there is none,
-    or where it is too large; OSError where the file cannot be read."""
+    """The bytes of the table of an app (apk, jar or another zip) or of a bare resources.arsc. Failure where there is
+    none, or where it is too large; OSError where the file cannot be read."""
     with open(path, "rb") as file:
         if file.read(4) != b"PK\3\4":
             file.seek(0)

@@ -67,5 +67,5 @@ def order(it: Configuration) -> Tuple[object, ...]:
     data = packed(it)
     imsi, locale, screen, keys, size, version = struct.unpack_from("<6I", data, 4)
     layout, ui, smallest, dp = struct.unpack_from("<BBHI", data, 28)
-    return (imsi, locale, data[36:40], data[40:48], data[53:61], screen, keys, size, version, layout, data[48], data[49],
-            ui, smallest, dp)
+    words = (data[36:40], data[40:48], data[53:61])
+    return (imsi, locale, *words, screen, keys, size, version, layout, data[48], data[49], ui, smallest, dp)

@@ -77,7 +77,8 @@ class StringPool:
         return self.taken(at, at + 2 * size).decode("utf-16-le", "replace")
 
     def taken(self, start: int, end: int) -> bytes:
-        """The bytes of a string. Failure where strings lie over each other, so that a small pool would be many texts."""
+        """The bytes of a string. Failure where strings lie over each other, so that a small pool would be many
+        texts."""
         self.left -= end - start
         if self.left < 0:
             raise self.source.failure("the strings of a pool lie over each other", start)

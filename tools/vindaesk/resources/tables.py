@@ -19,8 +19,8 @@ TYPE_HEAD, LEAST_CONFIGURATION = 20, 28
 ITEM = struct.Struct("<IHBBI")
 NAME_SIZE = 256
 LIBRARY_SIZE = 4 + NAME_SIZE
-# limits that no real table comes near to: resources of a type, items of a bag (Android's framework has 514), and types times
-# configurations (it has 3857)
+# limits far from what real tables have: resources of a type, items of a bag (Android's framework has 514), and types
+# times configurations (it has 3857)
 MAX_ENTRIES = 1 << 16
 MAX_ITEMS = 1 << 14
 MAX_CHUNKS = 1 << 14
