@@ -8,7 +8,7 @@ import random_configurations
 from vindaesk.common.failures import Failure
 from vindaesk.resources.configuration import (ANYDPI, DEFAULT, MNC_ZERO, Configuration, Direction, KeysHidden, Long,
                                               Night, Orientation, Size, UiType)
-from vindaesk.resources.devices import PHONE, device
+from vindaesk.resources.devices import PHONE, device, is_long, screen_size
 from vindaesk.resources.matching import best, better_density, is_better, is_more_specific, matches
 from vindaesk.resources.packed import packed, unpacked
 from vindaesk.resources.qualifiers import parse_qualifiers, write_qualifiers
@@ -79,6 +79,13 @@ def test_the_phone():
     assert (PHONE.smallest_width, PHONE.size, PHONE.long) == (360, Size.NORMAL, Long.YES)
     assert (PHONE.orientation, PHONE.direction, PHONE.ui_type) == (Orientation.PORT, Direction.LTR, UiType.NORMAL)
     assert (PHONE.screen_width, PHONE.screen_height, PHONE.keys_hidden) == (1920, 1080, KeysHidden.SOFT)
+
+
+def test_long_screens():
+    """Longer than 5 to 3, but for one dp, and at least 470 dp."""
+    assert is_long(480, 800) and is_long(800, 481) and not is_long(482, 800) and not is_long(200, 469)
+    assert [screen_size(*it) for it in ((320, 426), (320, 470), (480, 640), (720, 960), (960, 719))] == [
+        Size.SMALL, Size.NORMAL, Size.LARGE, Size.XLARGE, Size.LARGE]
 
 
 def test_devices():
