@@ -71,7 +71,7 @@ class Part:
         return hashlib.sha256(self.archive.read("resources.arsc")).hexdigest()
 
     def of_material(self):
-        """What the Material styles say with their parents, but for styles."""
+        """What the Material styles say with their parents, except styles."""
         for number in self.resources.ids("style"):
             if re.search("Material|DeviceDefault", self.resources.name(number).entry):
                 for item in self.resources.style(number).items.values():

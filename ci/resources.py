@@ -111,7 +111,7 @@ class Dump:
         return "%s%s%s/%s" % (mark, self.prefix(name), name.type, name.entry)
 
     def item(self, it, kind):
-        """A value: as the tools write it, but for the names of references and for more digits."""
+        """A value: as the tools write it, except for the names of references and for more digits."""
         if kind == "id":
             return "(id)"
         if it.is_reference or it.is_attribute or it.is_foreign:

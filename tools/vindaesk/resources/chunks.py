@@ -66,7 +66,7 @@ class Source:
         return int(U32.unpack_from(self.data, at)[0])
 
     def part(self, start: int, size: int, end: int) -> bytes:
-        """So many bytes, which end at `end` or before."""
+        """A number of bytes, which end at `end` or before."""
         if not (0 <= start and 0 <= size <= end - start and end <= len(self.data)):
             raise self.failure("%d bytes do not fit here" % size, start)
         return self.data[start : start + size]

@@ -14,7 +14,7 @@ LOCALE = ("language", "region", "script", "variant", "numbering")
 
 
 def screen_size(width: int, height: int) -> int:
-    """The screen size that Android gives to a screen of so many dp."""
+    """The screen size that Android gives to a screen of a width and a height in dp."""
     short, long = sorted((width, height))
     if long < 470:
         return Size.SMALL
@@ -24,7 +24,7 @@ def screen_size(width: int, height: int) -> int:
 
 
 def is_long(width: int, height: int) -> bool:
-    """Whether Android calls a screen of so many dp long."""
+    """Whether Android calls a screen of a width and a height in dp long."""
     short, long = sorted((width, height))
     return long >= 470 and long * 3 // 5 >= short - 1
 
@@ -61,7 +61,7 @@ def derived(it: Configuration, wanted: Configuration) -> Configuration:
     )
 
 
-# what a phone has, but for its sizes, its density and its locale
+# what a phone has, except its sizes, its density and its locale
 HARDWARE = Configuration(
     round=Round.NO, wide_gamut=WideGamut.NO, hdr=Hdr.NO, ui_type=UiType.NORMAL, night=Night.NO, touch=Touch.FINGER,
     keyboard=Keyboard.NOKEYS, keys_hidden=KeysHidden.SOFT, navigation=Navigation.NONAV, nav_hidden=NavHidden.YES,

@@ -1,7 +1,7 @@
 """The resources of an app for one device: values by ids and names, through references and themes, and styles with
 their parents.
 
-What Android does is done (AssetManager2 of Android 10), but for what cannot end well there: a cycle of references or
+What Android does is done (AssetManager2 of Android 10), except for what cannot end well there: a cycle of references or
 of parents is a Failure with its chain."""
 import re
 from dataclasses import dataclass

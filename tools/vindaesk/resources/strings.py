@@ -26,7 +26,7 @@ class StringPool:
         self.offsets = chunk.body
         self.strings = chunk.start + source.u32(chunk.start + 20)
         self.known: Dict[int, str] = {}
-        # bytes that may still be decoded: each is in one string, but for a few
+        # bytes that may still be decoded: each is in one string, except a few
         self.left = 2 * (chunk.end - chunk.start) + SPARE
         if self.size > MAX_POOL or chunk.body + 4 * self.size > chunk.end:
             raise source.failure("a pool of %d strings does not fit in its chunk" % self.size, chunk.start)
@@ -95,7 +95,7 @@ def from_utf8(data: bytes) -> str:
 
 
 def is_halves(data: bytes) -> bool:
-    """Whether bytes are UTF-8 but for halves of characters."""
+    """Whether bytes are UTF-8 except for halves of characters."""
     try:
         data.replace(b"\xc0\x80", b"\0").decode("utf-8", "surrogatepass")
         return True

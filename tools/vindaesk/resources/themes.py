@@ -56,7 +56,7 @@ class Theme:
         return self.items.get(attribute)
 
     def value(self, attribute: int) -> Optional[Value]:
-        """What the theme says of an attribute, through other attributes and references as far as they lead; None
+        """What the theme says of an attribute, through other attributes and references to where they lead; None
         where it says nothing, or @null."""
         item = self.items.get(attribute)
         if item is None or item.value.is_unset:
