@@ -16,7 +16,7 @@ PYTEST = "/usr/lib/python3/dist-packages/pytest/__init__.py"
 PACKAGE = os.path.join(TOP, "tools", "vindaesk")
 # from the lowest; those of one row do not use each other
 LAYERS = (
-    ("common",), ("provenance",), ("program",), ("scripts",), ("layouts",), ("pictures",), ("views",),
+    ("common",), ("provenance",), ("program",), ("scripts",), ("layouts", "resources"), ("pictures",), ("views",),
     ("apps", "building", "installing", "lint", "pages", "session", "testing"), ("command_line",),
 )
 
