@@ -13,6 +13,7 @@ MODULES = (
 )
 # those that are run only where they are asked for
 ON_REQUEST = ("memory", "out_of_memory")
+# what takes longest, by its name: ci/checks --slowest 40 | sed -n 's/^[0-9.]* seconds: //p' > ci/slow.txt
 SLOW = os.path.join(TOP, "ci", "slow.txt")
 
 
@@ -21,7 +22,7 @@ def of_module(name: str) -> Checks:
     try:
         yield from importlib.import_module(name).checks()
     except Exception as error:
-        yield "ci/%s.py" % name, ("its checks are not to be had: %s: %s" % (type(error).__name__, error)).format
+        yield "ci/%s.py" % name, ("its checks cannot be loaded: %s: %s" % (type(error).__name__, error)).format
 
 
 def every(modules: Sequence[str]) -> Iterator[Tuple[str, Check]]:

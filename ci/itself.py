@@ -12,6 +12,7 @@ from typing import Dict, Iterator, List, Tuple
 
 import collection
 import ways
+from launcher import goes_on
 from running import SECONDS, TOP, Checks, Skipped, named
 
 OWN = ("checks", "ways.py", "collection.py", "conftest.py", "pool.py", "processes.py", "results.py", "running.py", "unit_tests.py")
@@ -161,17 +162,6 @@ def writes_a_report() -> str:
     wanted = {"a: passes": [], "a: fails": ["failure"], "a: breaks": ["failure"], "a: lacks": ["skipped"],
               "a: has": ["skipped"]}
     return "" if found == wanted else "it has %s" % found
-
-
-def goes_on(pid: int) -> bool:
-    """Whether a process is still there after some seconds."""
-    for _ in range(500):
-        with contextlib.suppress(OSError), open("/proc/%d/stat" % pid) as file:
-            if file.read().rpartition(") ")[2][0] != "Z":
-                time.sleep(0.01)
-                continue
-        return False
-    return True
 
 
 def waited_for(path: str, count: int) -> List[int]:

@@ -2,6 +2,7 @@
 cannot be tried here. Whoever imports this finds the package of tools/ too."""
 import os
 import shutil
+import signal
 import subprocess
 import sys
 import unittest
@@ -72,11 +73,17 @@ def unknown_word(words: Sequence[str], names: Sequence[str], command: str) -> No
 
 
 def run(command: Sequence[Word], given: bytes, folder: str) -> Tuple[bytes, int]:
-    """What a command writes over the given bytes, and its status: below 0 for a signal, as `subprocess` has it."""
-    ended = subprocess.run(
-        command, input=given, stdout=subprocess.PIPE, stderr=subprocess.DEVNULL, cwd=folder, timeout=SECONDS
-    )
-    return ended.stdout, ended.returncode
+    """What a command writes over the given bytes, and its status: below 0 for a signal, as `subprocess` has it. Where it
+    takes too long it ends with all that it has started."""
+    with subprocess.Popen(
+        command, stdin=subprocess.PIPE, stdout=subprocess.PIPE, stderr=subprocess.DEVNULL, cwd=folder, start_new_session=True
+    ) as started:
+        try:
+            written, _ = started.communicate(given, timeout=SECONDS)
+        except BaseException:
+            os.killpg(started.pid, signal.SIGKILL)
+            raise
+    return written, started.returncode
 
 
 def difference(wanted: bytes, wanted_status: int, written: bytes, status: int) -> str:
