@@ -38,9 +38,17 @@ def run() -> NoReturn:
         status = NOT_BUILT
     except KeyboardInterrupt:
         status = -foreground.signal.SIGINT
+    leave(status)
+
+
+def leave(status: int) -> NoReturn:
+    """Ends the process at once: what Python does at its end takes some milliseconds, and nothing is left to be written."""
+    try:
+        sys.stderr.flush()
+    except OSError:
+        pass
     if status < 0:
         foreground.end_by(-status)
-    # what Python does at its end takes as long as all before, and nothing is left to be written
     os._exit(status)
 
 
