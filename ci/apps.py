@@ -10,7 +10,8 @@ import zipfile
 from running import PROGRAM, TOP
 from tools import first, place, unlike
 from vindaesk.common import files
-from vindaesk.layouts import attributes, compiler, documents, resource_names, source_reader, source_writer, values
+from vindaesk.layouts import attributes, compiler, documents, source_reader, source_writer, values
+from vindaesk.scripts import resource_names
 
 INBOX = os.path.join(TOP, "examples", "inbox")
 APP = os.path.join(INBOX, "inbox.apk")

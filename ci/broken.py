@@ -12,7 +12,8 @@ import tempfile
 from functools import partial
 
 from running import PROGRAM, TOP, difference, run
-from vindaesk.layouts import compiler, resource_names, source_reader
+from vindaesk.layouts import compiler, source_reader
+from vindaesk.scripts import resource_names
 
 GREATEST = 0xFFFFFFFF
 READ = ""

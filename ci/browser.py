@@ -40,7 +40,8 @@ def data_of(page):
 
 def records():
     with place() as it:
-        said = "page: line 16: refused 28 NoView: remove v9\npage: line 20: refused 31 Syntax: x\n"
+        said = ("page: standard input:16:8: 28 NoView: no view has this number or id\n"
+                "page: standard input:20:1: 31 Syntax: no line begins with 'x'\n")
         found = it.call("page", "-", "a.html", "--title", "a <b>", given=TOUCHED)
         page = it.read("a.html")
         if unlike(found, 1, b"", said) or OUTSIDE.search(page) or b"<title>a &lt;b></title>" not in page:
@@ -72,7 +73,7 @@ def limits():
         text = UNSETTLED + "frame\nremove v1\nframe\n"
         found = it.call("page", "-", "-", given=text)
         lines = [step["line"] for step in data_of(found[1])["steps"]]
-        return unlike(found, 1, None, "line 12: refused 34 NoRoot: frame") or ("" if lines == [5, 10] else "%s" % lines)
+        return unlike(found, 1, None, "standard input:12:1: 34 NoRoot: the tree has no root") or ("" if lines == [5, 10] else "%s" % lines)
 
 
 def wrong_scripts():

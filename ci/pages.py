@@ -27,7 +27,8 @@ from functools import partial
 
 from running import PROGRAM, TOP, difference, run
 from vindaesk.common import files
-from vindaesk.layouts import compiler, documents, resource_names, source_reader
+from vindaesk.layouts import compiler, documents, source_reader
+from vindaesk.scripts import resource_names
 
 ARROW = "→"
 INDENTED = ("    ", "\t")

@@ -207,7 +207,7 @@ def composes_windows():
         blue = red.replace("in 0", "in 1").replace("ff0000", "0000ff")
         text = "at 0 0 0\n%sat 1 1 0\nin 2 frame\n%s" % (red, blue)
         found = it.call("screenshot", "-", "a.png", "--stack", "3x2", given=text)
-        why = unlike(found, 1, b"", "screenshot: line 7: refused 43 NoPane: in 2 frame\n")
+        why = unlike(found, 1, b"", "screenshot: standard input:7:4: 43 NoPane: no window of this number is open\n")
         wanted = png.Picture(3, 2, [b"\xff\0\0" + b"\0\0\xff" * 2] * 2)
         return why or ("" if png.parsed(it.read("a.png")) == wanted else "the picture of the windows is wrong")
 
@@ -216,14 +216,14 @@ def reports_refused_lines():
     with place() as it:
         text = "# one\nad root View 1 1\n" + RED + "frame" + " " * 1020 + "\n\nbounds\nré\x07t"
         found = it.call("screenshot", "-", "a.png", given=text)
-        said = ["line 2: refused 31 Syntax: ad root View 1 1", "line 7: refused 32 LongLine: frame" + " " * 155 + " ..",
-                "line 10: refused 31 Syntax: ré\\x07t"]
-        why = unlike(found, 1, b"", "".join("screenshot: %s\n" % line for line in said))
+        said = ["2:1: 31 Syntax: no line begins with 'ad'; did you mean 'add'?",
+                "7:1025: 32 LongLine: the line has more than 1024 bytes", "10:1: 31 Syntax: no line begins with 'ré\\x07t'"]
+        why = unlike(found, 1, b"", "".join("screenshot: standard input:%s\n" % line for line in said))
         if why or it.names() != ["a.png"]:
             return why or "files: %s" % it.names()
         found = it.call("tree", "-", given="\n" * 100 + "x\n" * 60 + RED)
         lines = found[2].splitlines()
-        ends = ["tree: line 101: refused 31 Syntax: x", "tree: 10 more lines are refused"]
+        ends = ["tree: standard input:101:1: 31 Syntax: no line begins with 'x'", "tree: 10 more lines are refused"]
         if (len(lines), lines[::50]) != (51, ends):
             return "of 60 refused lines it says '%s'" % found[2]
         return unlike(found, 1, b"v1 View 0 0 2 2 bg #ffff0000\n")
@@ -276,7 +276,8 @@ def takes_frames():
         text = UNSETTLED.replace("frame\n", "bg v1 #ff00ff00\nframe\nbounds\n")
         text += "bg v1 #ff0000ff\nframe\nremove v1\nframe\n"
         found = it.call("screenshot", "-", "--frames", "made/in", "last.png", given=text)
-        said = "line 13: refused 36 Unsettled: bounds\nscreenshot: line 17: refused 34 NoRoot: frame\n"
+        said = ("standard input:13:1: 36 Unsettled: the last frame has not settled\n"
+                "screenshot: standard input:17:1: 34 NoRoot: the tree has no root\n")
         why = unlike(found, 1, b"", "screenshot: " + said)
         if why:
             return why
@@ -343,7 +344,7 @@ def follows_views():
         if why or unlike(found, 0):
             return why or unlike(found, 0)
         whole = json.loads(found[1].decode())
-        wanted = {"number": 3, "parent": 2, "depth": 3, "class": "TextView", "id": None, "text": "é\n\\ z",
+        wanted = {"number": 3, "parent": 2, "depth": 3, "class": "TextView", "id": None, "id_name": None, "text": "é\n\\ z",
                   "bounds": [0, 0, 50, 100], "window": [0, -30, 50, 70], "scroll": None, "visibility": "invisible",
                   "background": "#00000000"}
         if (whole["window"], whole["views"][2]) != ([100, 100], wanted):

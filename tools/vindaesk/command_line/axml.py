@@ -15,7 +15,7 @@ from typing import Optional, Sequence, Tuple
 
 from ..common import failures, files, messages
 from ..layouts import compiler, documents, source_reader, source_writer
-from ..layouts.resource_names import Names
+from ..scripts.resource_names import Names
 from . import arguments
 
 

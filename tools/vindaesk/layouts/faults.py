@@ -17,7 +17,7 @@ from ..scripts.refusals import REFUSALS
 from ..scripts.replies import Part, Refusal
 from . import attributes, compiler, documents, values
 from .documents import ANDROID, Attribute, End, Node, Start
-from .resource_names import Names
+from ..scripts.resource_names import Names
 
 ELEMENT = re.compile(rb" element ([1-9][0-9]*)$")
 MEMBER = re.compile(rb" e([1-9][0-9]*)")

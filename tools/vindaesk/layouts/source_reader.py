@@ -5,7 +5,7 @@ from xml.parsers import expat
 from ..common.failures import Failure, WRONG
 from . import attributes, values
 from .documents import Attribute, End, Namespace, Node, STRING, Start, Text
-from .resource_names import Names
+from ..scripts.resource_names import Names
 from .values import Unfit
 
 # more than any source whose compiled form is read

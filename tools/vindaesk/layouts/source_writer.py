@@ -7,7 +7,7 @@ from xml.sax.saxutils import escape
 from ..common.failures import Failure, NOT_RUN
 from . import attributes, values
 from .documents import ANDROID, Attribute, End, Namespace, Node, Start, Text
-from .resource_names import Names
+from ..scripts.resource_names import Names
 
 HEAD = '<?xml version="1.0" encoding="utf-8"?>'
 NAME = re.compile(r"[A-Za-z_][\w.-]*")

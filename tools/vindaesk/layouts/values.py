@@ -12,7 +12,7 @@ from .attributes import Form
 from .documents import (
     BOOLEAN, COLOURS, DIMENSION, FLOAT, FRACTION, HEXADECIMAL, NULL, REFERENCE, STRING, THEME, Value, WHOLE,
 )
-from .resource_names import Names, Unnamed
+from ..scripts.resource_names import Names, Unnamed
 
 NAMED = re.compile(r"@(\+?)(?:([A-Za-z_][\w.]*):)?(\w+)/([\w.$-]+)", re.ASCII)
 BY_NUMBER = re.compile(r"@(?:0x)?([0-9A-Fa-f]{1,8})")

@@ -26,7 +26,7 @@ class Finding(NamedTuple):
 def laid_out(made: Script, screen: Screen, refused: Refused) -> Tuple[Page, str]:
     """What a script leaves on a screen, and the screen in words."""
     parts, dpi = screens.parts_on(made.lines, screen)
-    views = placement.views_after(parts, made.folder, refused)
+    views = placement.views_after(parts, made, refused)
     width, _ = script.last_window([line for part in parts for line in part.lines]) or (0, 0)
     shown = Page(rules.seen_in(views), text_sizes.needs(parts, made.folder, views), dpi)
     return shown, "%d dpi, %g dp" % (dpi, round(width * PLAIN_DPI / dpi, 1))

@@ -39,7 +39,7 @@ class Seen(NamedTuple):
     def name(self) -> str:
         """Number, class, id and text of the view, as messages have them."""
         text = '"%s"' % self.view.text if self.view.text else None
-        return " ".join(filter(None, ["v%d" % self.view.number, self.view.kind, placement.name_of(self.view.id), text]))
+        return " ".join(filter(None, ["v%d" % self.view.number, self.view.kind, placement.id_of(self.view), text]))
 
 
 class Page(NamedTuple):

@@ -74,8 +74,8 @@ def view_record(it: Placed) -> Record:
 class Recording:
     """What there is to show of a script, put together as answers come: at most a number of frames."""
 
-    def __init__(self, folder: str, most: int):
-        self.tree = view_tree.Tree(folder)
+    def __init__(self, made: Script, most: int):
+        self.tree = view_tree.Tree(made.folder, made.ids)
         self.most = most
         self.pictures, self.views = Pool(), Pool()
         self.steps: List[Record] = []
@@ -129,7 +129,7 @@ class Recording:
 
 def recorded(made: Script, refused: Refused, most: int) -> Recording:
     """What there is to show of a script. Refused lines are reported on the way."""
-    found = Recording(made.folder, most)
+    found = Recording(made, most)
     for part, answer in replies.answers(list(parts_of(made.lines)), made.folder):
         if part.first:
             refused.add_all(part, answer)

@@ -5,7 +5,7 @@ from typing import Dict, List, Optional, Tuple
 
 from ..common.failures import Failure, NOT_RUN
 from ..common.messages import shown
-from ..scripts.grammar import guess
+from .grammar import guess
 
 LINE = re.compile(r"(?:([A-Za-z_][\w.]*):)?(\w+)/([\w.$-]+) *= *(?:0x)?([0-9A-Fa-f]{8})", re.ASCII)
 # the package of what an app has itself, and where the ids of its views begin where there are none yet
