@@ -234,7 +234,147 @@ def wrong_configurations():
         return "" if it.names() == ["a.script", "a.toml"] else "files: %s" % it.names()
 
 
+CARD = """window 60 40
+add root FrameLayout match match
+bg v1 #ffeceff1
+add v1 TextView wrap wrap
+id v2 @id/reply
+text v2 %s
+frame
+bounds
+"""
+
+
+def put_cards(it):
+    """Three cases, of which two fail: one by its picture, one by both; and one that has no answer yet."""
+    it.put("ids.txt", IDS)
+    it.put("vindaesk.toml", "picture = true\n[small]\nwindow = [60, 40]\n[large]\nwindow = [80, 40]\n")
+    for name in ("a", "b"):
+        it.put(name + ".script", CARD % "Reply")
+    it.call("runall", ".", "--accept")
+    it.put("a.script", CARD % "Answer")
+    it.put("b.toml", "picture = true\n[small]\nwindow = [60, 40]\n[large]\nwindow = [80, 40]\n[new]\ndpi = 160\n")
+    it.put("b.script", CARD.replace("frame", "size v2 30 16\nframe") % "Reply")
+
+
+def last_line(found):
+    """The last line that a tool wrote."""
+    return found[1].decode().rstrip("\n").split("\n")[-1]
+
+
+def leaves_a_report():
+    with place() as it:
+        put_cards(it)
+        found = it.call("runall", ".", "--report", "out", "--junit", "j.xml")
+        why = unlike(found, 1, None, "out/index.html shows what failed\n")
+        why = why or ("" if last_line(found) == "0 passed, 5 failed" else last_line(found))
+        made = sorted(os.listdir(os.path.join(it.folder, "out")))
+        wanted = ["a@large", "a@small"]
+        names = [name + "." + kind + ".png" for name in wanted for kind in ("difference", "found", "wanted")]
+        # only the answer is another one
+        names += ["b@large.found.png", "b@large.wanted.png", "b@new.found.png", "b@small.found.png", "b@small.wanted.png"]
+        names += ["failures.json", "index.html"]
+        why = why or ("" if made == names else "files: %s" % made)
+        rows = json.loads(it.read("out/failures.json"))
+        regions = [row["regions"] for row in rows if row["name"] == "./a@small"][0]
+        view = 'v2 TextView @id/reply "Answer"'
+        why = why or ("" if regions and all(it["view"] == view for it in regions) else "regions: %s" % regions)
+        junit = it.read("j.xml").decode()
+        link = "[[ATTACHMENT|%s]]" % os.path.join(it.folder, "out/a@small.found.png")
+        why = why or ("" if "out/index.html#a@small\n" in junit and link in junit else "JUnit has no link: %s" % junit)
+        page = it.read("out/index.html").decode()
+        why = why or ("" if page.count("data:image/png;base64,") == 11 else "the page has not all pictures")
+        why = why or ("" if "runall . --accept ./a@small" in page else "the page does not show how to accept")
+        it.call("runall", ".", "--accept")
+        why = why or unlike(it.call("runall", ".", "--report", "out"), 0, b"5 passed, 0 failed\n", "")
+        made = sorted(os.listdir(os.path.join(it.folder, "out")))
+        why = why or ("" if made == ["failures.json", "index.html"] else "left of before: %s" % made)
+        it.put("x.png", "")
+        return why or unlike(it.call("runall", ".", "--report", "."), 2, b"", ". has files that are of no report\n")
+
+
+def accepts_some():
+    with place() as it:
+        put_cards(it)
+        calls = [
+            (("--accept-new",), "1 passed, 4 failed"), (("--accept", "a@small"), "1 passed, 0 failed"),
+            (("--accept", "./b@la*", "b@small"), "2 passed, 0 failed"), ((), "4 passed, 1 failed"),
+            (("--failed",), "0 passed, 1 failed"), (("--accept", "--failed"), "1 passed, 0 failed"),
+            (("--failed",), "0 passed, 0 failed"), ((), "5 passed, 0 failed"),
+        ]
+        home = {"XDG_CACHE_HOME": os.path.join(it.folder, "cache")}
+        for words, wanted in calls:
+            found = it.call("runall", ".", *words, **home)
+            if last_line(found) != wanted:
+                return "%s: it writes %s%s" % (words, found[1], found[2])
+        it.put("a.script", CARD % "Other")
+        why = unlike(it.call("runall", "--accept", ".", **home), 0, None, "")
+        why = why or unlike(it.call("runall", ".", "--accept", "b@smal"), 2, b"", "no case is named 'b@smal'; did you mean 'b@small'?\n")
+        listed = b"./a@large\n./b@large\n"
+        why = why or unlike(it.call("runall", ".", "-k", "LARGE", "--list"), 0, listed, "")
+        why = why or unlike(it.call("runall", ".", "-k", "x", "--list"), 2, b"", "no name of 5 cases has x\n")
+        it.put("b@old.png", "")
+        why = why or unlike(it.call("runall", ".", "--list"), 0, None, "b@old.png is of no configuration of its script\n")
+        return why or unlike(it.call("runall"), 2, b"", "the following arguments are required: DIR")
+
+
+def takes_configurations_of_the_call():
+    with place() as it:
+        it.put("a.script", ROOT)
+        it.put("x.lines", "")
+        words = ("--window", "40x20,80x20", "--dpi", "160", "--direction", "rtl", "--values", "x.lines", "--picture")
+        names = ["a@40x20-160dpi-rtl-x", "a@80x20-160dpi-rtl-x"]
+        accepted = "".join("accepted: ./%s\n" % name for name in names) + "2 passed, 0 failed\n"
+        why = unlike(it.call("runall", ".", *words, "--accept"), 0, accepted.encode(), "")
+        why = why or ("" if b"v2 70 0 80 10" in it.read(names[1] + ".answer") else "another answer")
+        said = {("--window", "9"): "'9' is no size in dp, as 360x640", ("--direction", "up"): "'up' is not ltr or rtl",
+                ("--picture",): "--picture needs one of --window", ("--dpi", "9"): "'9' is no number from 40 to 1000"}
+        return why or first(unlike(it.call("runall", ".", *more), 2, b"", what) for more, what in said.items())
+
+
+def keeps_the_sum():
+    """Places that cannot be written are known before the run, and pipes are no scripts."""
+    with place() as it:
+        it.put("a.script", RED)
+        it.put("a.answer", "v1\nsettled 0\n")
+        said = {("--junit", "no/x.xml"): "no/x.xml cannot be written: No such file", ("--junit", "-"): "--junit takes a file",
+                ("--junit", "."): ". cannot be written: it is no file", ("--report", "a.script"): "a.script cannot be made: File exists"}
+        why = first(unlike(it.call("runall", ".", *words), 2, b"", what) for words, what in said.items())
+        os.mkfifo(os.path.join(it.folder, "b.script"))
+        it.put("b.answer", "x")
+        started = it.start("tools/runall", ".")
+        out, said = started.communicate(timeout=20)
+        why = why or ("" if out == b"1 passed, 0 failed\n" and b"./b.script is no file, and is not run" in said else "%r" % out)
+        os.unlink(os.path.join(it.folder, "a.answer"))
+        os.mkfifo(os.path.join(it.folder, "a.answer"))
+        started = it.start("tools/runall", "a.script")
+        out, _ = started.communicate(timeout=20)
+        return why or ("" if b"a.answer is no file\n0 passed, 1 failed\n" in out else "%r" % out)
+
+
+def finds_regions():
+    with place() as it:
+        it.put("ids.txt", IDS)
+        it.put("a.script", CARD % "Reply")
+        it.call("screenshot", "a.script", "a.png")
+        changed = (CARD % "Reply").replace("frame", "add v1 View 4 4\nmargins v3 40 30 0 0\nbg v3 #ff0000ff\nbg v2 #ffffffff\nframe")
+        it.put("b.script", changed)
+        it.call("screenshot", "b.script", "b.png")
+        before, after = (png.parsed(it.read(name)).rows for name in ("a.png", "b.png"))
+        text = sum(before[y][3 * x : 3 * x + 3] != after[y][3 * x : 3 * x + 3] for y in range(8) for x in range(30))
+        plain = [b"  0 0 30 8: %d pixels" % text, b"  40 30 44 34: 16 pixels"]
+        views = [b' in v2 TextView @id/reply "Reply"', b" in v3 View"]
+        found = it.call("picdiff", "a.png", "b.png")
+        lines = found[1].split(b"\n")
+        why = "" if lines[1:3] == plain and found[0] == 1 else "it writes %r" % found[1]
+        found = it.call("picdiff", "a.png", "b.png", "--script", "b.script")
+        lines = found[1].split(b"\n")
+        why = why or ("" if lines[1:3] == [one + other for one, other in zip(plain, views)] else "it writes %r" % found[1])
+        return why
+
+
 def checks():
     for check in (names_everywhere, unknown_names, keeps_names, includes_files, refuses_includes, tries_configurations,
-                  draws_configurations, wrong_configurations):
+                  draws_configurations, wrong_configurations, leaves_a_report, accepts_some,
+                  takes_configurations_of_the_call, keeps_the_sum, finds_regions):
         yield "golden tests: " + check.__name__.replace("_", " "), check

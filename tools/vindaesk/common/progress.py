@@ -16,7 +16,7 @@ def width() -> int:
 
 def bar(done: int, of: int) -> str:
     """How far things are, as a bar and in numbers."""
-    filled = BAR * done // of
+    filled = BAR * done // of if of else BAR
     return "[%s%s] %d of %d" % ("#" * filled, "." * (BAR - filled), done, of)
 
 

@@ -7,11 +7,11 @@ where it is not 0, and NAME.png the picture of a script's last frame.
 import difflib
 import os
 import subprocess
-import time
 from typing import Callable, Iterable, Iterator, List, NamedTuple, Optional
 
 from ..common import files
 from ..common.failures import Failure, NOT_RUN
+from ..common.messages import say
 from ..pictures import difference, frames, png
 from ..pictures.png import Picture
 from ..program import process
@@ -78,30 +78,26 @@ class Pictures(NamedTuple):
     why: str
 
 
-class Result(NamedTuple):
-    """How a case went: why it failed, or nothing; whether its files were written; and how long it took, in seconds."""
-
-    case: Case
-    why: str
-    is_accepted: bool
-    seconds: float
-
-
-def is_file(path: str) -> bool:
-    """Whether a path is that of a file, and not of a pipe or a device, which might never end."""
-    return os.path.isfile(path)
+def stored(path: str) -> bytes:
+    """The bytes of a file of a case. One that is a pipe or a device might never end."""
+    if os.path.exists(path) and not os.path.isfile(path):
+        raise Failure("%s is no file" % path, NOT_RUN)
+    return files.read(path)
 
 
 def cases_of(path: str, given: Optional[List[Configuration]] = None) -> List[Case]:
     """The cases of a file: of a script one in each configuration, its own ones or those that are given; and itself,
     where it has none, or an answer of its own."""
     stem, ending = os.path.splitext(path)
-    if ending == SCRIPT and is_file(path):
+    if ending == SCRIPT and not os.path.isfile(path):
+        say("%s is no file, and is not run" % path)
+        return []
+    if ending == SCRIPT:
         of = configurations.of_script(path) if given is None else given
         plain = [Case(stem, True)] if not of or (given is None and os.path.exists(stem + ".answer")) else []
         return plain + [Case(stem, True, it) for it in of]
     case = Case(stem, False)
-    is_case = ending == LAYOUT and is_file(path) and case.has(".answer") and not os.path.exists(stem + SCRIPT)
+    is_case = ending == LAYOUT and os.path.isfile(path) and case.has(".answer") and not os.path.exists(stem + SCRIPT)
     return [case] if is_case else []
 
 
@@ -132,7 +128,7 @@ def orphans(cases: Iterable[Case]) -> List[str]:
 
 def written_status(case: Case) -> int:
     """The status that a case should end with."""
-    text = files.read(case.file(".status")) if case.has(".status") else b"0"
+    text = stored(case.file(".status")) if case.has(".status") else b"0"
     if not text.strip().isdigit():
         raise Failure("%s has no number" % case.file(".status"), NOT_RUN)
     return int(text)
@@ -154,7 +150,7 @@ def run(case: Case, seconds: float) -> Written:
     if not case.is_script:
         written, status = process.ran(["dump", os.path.basename(case.source())], b"", folder, seconds)
         return Written(answers.of_dump(written, names.beside(folder)), status, written)
-    text = files.read(case.source())
+    text = stored(case.source())
     if is_plain(text) and not case.configuration:
         written, status = process.ran(["run"], text, folder, seconds)
         # a state may have ids, and a list may have their names
@@ -199,7 +195,7 @@ def pictures(case: Case) -> Pictures:
     """The pictures of a case that has one, and how they differ, or nothing."""
     name, wanted, found, whys = case.file(".png"), None, None, []
     try:
-        wanted = png.read(files.read(name), name) if case.has(".png") else None
+        wanted = png.read(stored(name), name) if case.has(".png") else None
         whys += [] if wanted else [missing(case, ".png")]
     except Failure as failure:
         whys.append(str(failure))
@@ -215,22 +211,31 @@ def pictures(case: Case) -> Pictures:
     return Pictures(wanted, found, "\n".join(whys))
 
 
+def picture_problem(case: Case, seconds: float) -> str:
+    """How the picture of today is not the stored one, or nothing."""
+    return pictures(case).why if case.has_picture() else ""
+
+
 def text_problem(case: Case, written: Written) -> str:
     """How the answer of today or its status is not the stored one, or nothing."""
     if written.status not in ENDED and not (case.has(".answer") and written.status == written_status(case)):
-        return str(process.failed(written.status))
+        raise process.failed(written.status)
     if not case.has(".answer"):
         return missing(case, ".answer")
-    wanted, status = files.read(case.file(".answer")), written_status(case)
+    wanted, status = stored(case.file(".answer")), written_status(case)
     if wanted not in (written.answer, written.plain):
         return diff(wanted, written.answer, case.file(".answer"))
     return "status %d in place of %d" % (written.status, status) if written.status != status else ""
 
 
+def answer_problem(case: Case, seconds: float) -> str:
+    """How the answer or the status of today is not the stored one, or nothing."""
+    return text_problem(case, run(case, seconds))
+
+
 def problem(case: Case, seconds: float) -> str:
     """Why a case fails, or nothing."""
-    why = text_problem(case, run(case, seconds))
-    return why or (pictures(case).why if case.has_picture() else "")
+    return answer_problem(case, seconds) or picture_problem(case, seconds)
 
 
 def accept(case: Case, seconds: float) -> str:
@@ -247,22 +252,16 @@ def accept(case: Case, seconds: float) -> str:
     return ""
 
 
+def too_long(seconds: float) -> str:
+    """What is said of a run that was ended after a number of seconds."""
+    return "it takes more than %g seconds" % seconds
+
+
 def reason(act: Callable[[Case, float], str], case: Case, seconds: float) -> str:
     """Why an act on a case fails, or nothing."""
     try:
         return act(case, seconds)
     except subprocess.TimeoutExpired:
-        return "it takes more than %g seconds" % seconds
+        return too_long(seconds)
     except Failure as failure:
         return str(failure)
-
-
-def tried(case: Case, seconds: float, accepts: bool = False) -> Result:
-    """How a case goes; where it fails and that is to be accepted, its files are written."""
-    begun = time.monotonic()
-    why = reason(problem, case, seconds)
-    is_accepted = False
-    if why and accepts:
-        why = reason(accept, case, seconds)
-        is_accepted = not why
-    return Result(case, why, is_accepted, time.monotonic() - begun)

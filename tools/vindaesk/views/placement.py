@@ -87,6 +87,31 @@ def id_of(view: View) -> Optional[str]:
     return view.id_name or name_of(view.id)
 
 
+def title(view: View) -> str:
+    """Number, class, id and text of a view, as messages have them."""
+    text = json.dumps(view.text, ensure_ascii=False) if view.text else None
+    return " ".join(filter(None, ["v%d" % view.number, view.kind, id_of(view), text]))
+
+
+def seen(views: List[Placed]) -> List[Placed]:
+    """The views that are laid out and visible, as all around them, in preorder."""
+    found: Dict[int, Placed] = {}
+    for it in views:
+        parent = it.view.parent
+        if it.bounds and it.window and it.view.visibility == "visible" and (not parent or parent.number in found):
+            found[it.view.number] = it
+    return list(found.values())
+
+
+def view_at(views: List[Placed], box: Box) -> Optional[View]:
+    """The last view in preorder that is seen and has the whole of a box of the window in it."""
+    found = None
+    for it in seen(views):
+        if it.window and it.window[0] <= box[0] and it.window[1] <= box[1]:
+            found = it.view if box[2] <= it.window[2] and box[3] <= it.window[3] else found
+    return found
+
+
 def record(it: Placed) -> Dict[str, object]:
     """A view as JSON has it."""
     view = it.view
@@ -116,8 +141,7 @@ def as_json(window: Window, views: List[Placed]) -> str:
 def text_line(it: Placed) -> str:
     """A view as a line: what is as in a new view is left out, and the place in the window where it is the bounds."""
     view = it.view
-    words = ["v%d" % view.number, view.kind, id_of(view)]
-    words.append(json.dumps(view.text, ensure_ascii=False) if view.text else None)
+    words: List[Optional[str]] = [title(view)]
     words.append("%d %d %d %d" % it.bounds if it.bounds else "none")
     words.append("at %d %d %d %d" % it.window if it.window and it.window != it.bounds else None)
     words.append("scroll %d" % it.scroll if it.scroll is not None else None)
