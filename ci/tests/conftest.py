@@ -2,6 +2,5 @@
 import os
 import sys
 
-sys.path.insert(0, os.path.dirname(os.path.dirname(os.path.abspath(__file__))))
-
-import running  # noqa: E402,F401
+CI = os.path.dirname(os.path.dirname(os.path.abspath(__file__)))
+sys.path[:0] = [CI, os.path.join(os.path.dirname(CI), "tools")]

@@ -52,7 +52,8 @@ def add(found: argparse.ArgumentParser) -> None:
     group.add_argument("--direction", metavar="D,..", type=directions, default=[], help="ltr, rtl")
     group.add_argument("--locale", metavar="L,..", type=arguments.names, default=[],
                        help="files of values by their names: resources-L.lines")
-    group.add_argument("--values", metavar="FILE,..", type=arguments.names, default=[], help="files of lines with values")
+    group.add_argument("--values", metavar="FILE,..", type=arguments.names, default=[],
+                       help="files of lines with values")
     group.add_argument("--night", action="store_true", help="with the values of the night, resources-night.lines")
     group.add_argument("--picture", action="store_true", help="each has a picture")
 

@@ -4,8 +4,8 @@ It has the picture of each frame that settles, with the views beside it; the bou
 that is pointed at or chosen; the touches after each frame, drawn over its picture; and a slider over the frames. Layout
 files are taken from the folder of the script.
 
-With --config NAME the script is carried out in a configuration of NAME.toml or vindaesk.toml beside it; with several, or
-all, each has a page OUT@NAME.html.
+With --config NAME the script is carried out in a configuration of NAME.toml or vindaesk.toml beside it; with several,
+or all, each has a page OUT@NAME.html.
 
 Each line that is refused is reported on standard error, and makes the status 1; the page is written all the same. Where
 no frame has settled, the status is 1 and nothing is written.

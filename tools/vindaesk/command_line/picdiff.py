@@ -1,8 +1,8 @@
 """How many pixels of two PNG files differ, by how much at most, and within which box.
 
 The box is left, top, right and bottom, the last two exclusive. Where there are several regions apart from each other,
-each has a line with its own box; with --script the view that is there is named. OUT.png shows the first picture dimmed, and red pixels
-where the second one differs. One of the files may be - for standard input.
+each has a line with its own box; with --script the view that is there is named. OUT.png shows the first picture dimmed,
+and red pixels where the second one differs. One of the files may be - for standard input.
 
 The status is 0 where no pixel differs, 1 where some do, and 2 where the sizes differ or a file is broken.
 """

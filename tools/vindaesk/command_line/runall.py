@@ -21,6 +21,7 @@ from ..program import process
 from ..testing import cases, junit, last_failures, report, selection, trials
 from ..testing.cases import Case
 from ..testing.configurations import Configuration
+from ..testing.report import Failed, Sum
 from ..testing.trials import Result, Task
 from . import arguments, matrix
 
@@ -137,15 +138,25 @@ def run(given: argparse.Namespace, mine: List[Case]) -> List[Result]:
     return results
 
 
+def write_report(given: argparse.Namespace, results: List[Result]) -> None:
+    """Writes the page of what failed."""
+    command = [messages.tool("runall"), *given.folders, *matrix.words(given), "--accept"]
+    failed = [
+        Failed(it.case.name(), it.why, it.seconds, it.evidence, report.command_to_accept(command, [it.case.name()]))
+        for it in results if it.evidence
+    ]
+    passed, seconds = sum(not it.why for it in results), sum(it.seconds for it in results)
+    path = report.write(given.report, failed, Sum(passed, seconds, report.command_to_accept(command, [])))
+    if failed:
+        messages.say("%s shows what failed" % path)
+
+
 def finish(given: argparse.Namespace, results: List[Result]) -> int:
     """Prints the sum, and writes the reports. Returns the status."""
     failed: Set[Case] = {it.case for it in results if it.why}
     last_failures.keep([it.case for it in results if not it.why], failed)
     if given.report:
-        command = [messages.tool("runall"), *given.folders, *matrix.words(given), "--accept"]
-        path = report.write(given.report, results, command)
-        if failed:
-            messages.say("%s shows what failed" % path)
+        write_report(given, results)
     print("%d passed, %d failed" % (len(results) - len(failed), len(failed)), flush=True)
     if given.junit:
         files.replace(given.junit, junit.written(results))

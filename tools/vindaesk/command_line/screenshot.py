@@ -4,8 +4,8 @@ Carries out the script, asks for the picture of its last frame by lines `pixels`
 the last frame is not seen. Layout files are taken from the folder of the script. With --stack the script is one of a
 stack of windows, and lines `compose` ask for the picture.
 
-With --config NAME the script is carried out in a configuration of NAME.toml or vindaesk.toml beside it; with several, or
-all, each has a picture OUT@NAME.png.
+With --config NAME the script is carried out in a configuration of NAME.toml or vindaesk.toml beside it; with several,
+or all, each has a picture OUT@NAME.png.
 
 Each line that is refused is reported on standard error, and makes the status 1; the picture is written all the same.
 Where there is no window, no frame, or the last one has not settled, the status is 1 and nothing is written.

@@ -33,6 +33,7 @@ def main(words: Optional[Sequence[str]] = None) -> int:
         return 0
     refused = Refused(made)
     views = placement.views_of(made, refused)
-    text = placement.as_json(script.last_window(made.lines) or (0, 0), views) if given.json else placement.as_text(views)
+    window = script.last_window(made.lines) or (0, 0)
+    text = placement.as_json(window, views) if given.json else placement.as_text(views)
     files.write("-", text.encode())
     return refused.end()

@@ -14,8 +14,8 @@ SETTINGS = (b"dpi", b"res")
 
 
 class Finding(NamedTuple):
-    """A line that is refused: its file and number, the column of the word that is meant, both from 1, the number and the
-    name of the refusal, and why."""
+    """A line that is refused: its file and number, the column of the word that is meant, both from 1, number and name of
+    the refusal, and why."""
 
     file: str
     line: int

@@ -22,8 +22,8 @@ class Region(NamedTuple):
 
 
 class Difference(NamedTuple):
-    """How many pixels differ, the greatest difference of a channel, the box around them, and the regions that they make,
-    from the top."""
+    """How many pixels differ, the greatest difference of a channel, the box around them, and their regions, from the
+    top."""
 
     pixels: int
     greatest: int

@@ -60,8 +60,8 @@ def read(path: str, ids: Optional[str] = None) -> Script:
 
 
 def named(lines: Sequence[Line], path: str, ids: Optional[str] = None, is_strict: bool = True) -> Script:
-    """The script of lines that were written, with ids in the place of their names. A name without an id is a failure; or
-    it stays, if the call is not strict."""
+    """The script of lines that were written, with ids in the place of their names. A name without an id is a failure, or
+    stays, if the call is not strict."""
     own = os.path.dirname(path) if path != "-" else ""
     known = names.beside(own, ids)
     made = [known.expanded(line.text) for line in lines]
@@ -110,12 +110,13 @@ class Includer:
         self.count += 1
         chain = [*around, path]
         same = next((place for place, it in enumerate(around) if os.path.realpath(it) == os.path.realpath(path)), None)
+        if same is not None:
+            chain = chain[same:]
+            raise failure(at, ", which includes ".join([chain[0] + " includes " + chain[1], *chain[2:]]))
         if not name:
             raise failure(at, "the name of a file is missing")
         if os.path.isabs(name):
             raise failure(at, "%s is no path from the folder of this file" % name)
-        if same is not None:
-            raise failure(at, ", which includes ".join([chain[same] + " includes " + chain[same + 1], *chain[same + 2 :]]))
         if len(around) > MAX_DEPTH or self.count > MAX_INCLUDES:
             raise failure(at, "files include others more than %d deep, or %d times" % (MAX_DEPTH, MAX_INCLUDES))
         if not os.path.isfile(path):

@@ -140,8 +140,8 @@ class Session:
     """One program, which is started with it and ends with it. In a `with` statement it ends at its end."""
 
     def __init__(self, folder: str = ".", ids: Optional[str] = None):
-        """Starts the program. Layout files are those of the folder, and names of ids those of its ids.txt, or of a list by
-        its path."""
+        """Starts the program. Layout files are those of the folder, and names of ids those of its ids.txt, or of a list
+        by its path."""
         self._ids = names.beside(folder, ids)
         self._process = subprocess.Popen(
             [process.path(), "run"], stdin=subprocess.PIPE, stdout=subprocess.PIPE, stderr=subprocess.DEVNULL,
@@ -367,8 +367,12 @@ class Session:
 
     def tree(self) -> List[Node]:
         """All views in preorder, each with its place in its parent and in the window."""
+        return [node_of(it) for it in self.placed()]
+
+    def placed(self) -> List[Placed]:
+        """The same with more of each view, for tools."""
         lines = self._carried_out(b"bounds", self._until_mark)
-        return [node_of(it) for it in placement.all_placed(self._views.root, lines)]
+        return placement.all_placed(self._views.root, lines)
 
     def in_window(self, view: str) -> Optional[Box]:
         """Where a view lies in the window, which it may leave, in pixels; None where it has no bounds."""

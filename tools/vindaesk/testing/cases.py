@@ -154,7 +154,8 @@ def run(case: Case, seconds: float) -> Written:
     if is_plain(text) and not case.configuration:
         written, status = process.ran(["run"], text, folder, seconds)
         # a state may have ids, and a list may have their names
-        kept = answers.of_run(written, Script([], folder, (), names.beside(folder))) if b"state " in written else written
+        is_named = b"state " in written
+        kept = answers.of_run(written, Script([], folder, (), names.beside(folder))) if is_named else written
         return Written(kept, status, written)
     of = made(case)
     written, status = process.ran(["run"], script.joined(of.lines), folder, seconds)
@@ -191,6 +192,16 @@ def missing(case: Case, ending: str) -> str:
     return "it has no %s; --accept writes one" % os.path.basename(case.file(ending))
 
 
+def compared(name: str, wanted: Optional[Picture], found: Optional[Picture], tolerance: int = 0) -> str:
+    """How two pictures differ, of which the first one is in a file of this name; nothing where they do not."""
+    if not wanted or not found or wanted == found:
+        return ""
+    if wanted[:2] != found[:2]:
+        return "%s is %d by %d, and the picture %d by %d" % (name, *wanted[:2], *found[:2])
+    apart, _ = difference.compared(wanted, found, tolerance)
+    return "%s: %s" % (name, difference.in_words(apart)) if apart.pixels else ""
+
+
 def pictures(case: Case) -> Pictures:
     """The pictures of a case that has one, and how they differ, or nothing."""
     name, wanted, found, whys = case.file(".png"), None, None, []
@@ -203,12 +214,7 @@ def pictures(case: Case) -> Pictures:
         found = picture(case)
     except Failure as failure:
         whys.append(str(failure))
-    if wanted and found and wanted != found:
-        if wanted[:2] != found[:2]:
-            whys.append("%s is %d by %d, and the picture %d by %d" % (name, *wanted[:2], *found[:2]))
-        else:
-            whys.append("%s: %s" % (name, difference.in_words(difference.compared(wanted, found)[0])))
-    return Pictures(wanted, found, "\n".join(whys))
+    return Pictures(wanted, found, "\n".join(filter(None, [*whys, compared(name, wanted, found)])))
 
 
 def picture_problem(case: Case, seconds: float) -> str:

@@ -1,6 +1,6 @@
 """The configurations in which a script is tried: windows, densities, directions and values.
 
-They are in NAME.toml beside NAME.script, or in vindaesk.toml for all scripts of a folder that have no file of their own.
+They are in NAME.toml beside NAME.script, or in vindaesk.toml for all scripts of a folder that have none of their own.
 Each table is a configuration by its name; `matrix` has names of tables that are combined:
 
     picture = true
@@ -198,8 +198,8 @@ def chosen(path: str, names: Sequence[str]) -> List[Configuration]:
 
 
 def value_files(it: Configuration, folder: str) -> List[str]:
-    """The files of lines that give resources their values, in the order in which they are carried out: of each file that
-    is named, or of resources.lines, first itself, and then those of its locale and of the night beside it."""
+    """The files of lines that give resources their values, in the order in which they are carried out: of each file
+    that is named, or of resources.lines, first itself, and then those of its locale and of the night beside it."""
     of = ["-" + it.locale] if it.locale else []
     of += ["-night"] if it.night else []
     of += ["-%s-night" % it.locale] if it.locale and it.night else []

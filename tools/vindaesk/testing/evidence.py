@@ -1,7 +1,8 @@
 """What a case that fails leaves: the pictures wanted and found and their difference as files, where these differ and in
 which views, and the text of the difference."""
 import os
-from typing import Dict, List, NamedTuple, Optional
+from functools import partial
+from typing import Callable, Dict, List, NamedTuple, Optional
 
 from ..common import files
 from ..common.failures import Failure
@@ -11,7 +12,7 @@ from ..scripts.replies import Refused
 from ..views import placement
 from ..views.placement import Placed
 from . import cases
-from .cases import Case
+from .cases import Case, Pictures
 
 WANTED, FOUND, DIFFERENCE = ".wanted.png", ".found.png", ".difference.png"
 # how many regions are listed
@@ -27,8 +28,8 @@ class Region(NamedTuple):
 
 
 class Evidence(NamedTuple):
-    """What is kept of a failure: its text, why the pictures differ, and the files by their endings, whose names begin with
-    `path`."""
+    """What is kept of a failure: its text, why the pictures differ, and the files by their endings, whose names begin
+    with `path`; and where they differ."""
 
     text: str
     pictures: str
@@ -74,21 +75,25 @@ def without_pictures(text: str, path: str) -> Evidence:
     return Evidence(text, "", path, [], [], 0)
 
 
-def kept(case: Case, text: str, path: str) -> Evidence:
-    """Keeps what a case that failed leaves, in files whose names begin with a path. Without a picture there is the text
-    alone."""
-    if not case.has_picture():
-        return without_pictures(text, path)
-    made = cases.pictures(case)
+def of_pictures(text: str, made: Pictures, views: Callable[[], List[Placed]], path: str) -> Evidence:
+    """Keeps the pictures of a failure in files whose names begin with a path; the views are asked for where they are
+    needed."""
     parts: Dict[str, Optional[Picture]] = {WANTED: made.wanted, FOUND: made.found}
     rows: List[Region] = []
     more = 0
     if made.wanted and made.found and made.wanted != made.found and made.wanted[:2] == made.found[:2]:
         found, parts[DIFFERENCE] = difference.compared(made.wanted, made.found)
-        rows = regions_in(found, views_of(case))
+        rows = regions_in(found, views())
         more = len(found.regions) - len(rows)
     there = {ending: picture for ending, picture in parts.items() if picture}
     os.makedirs(os.path.dirname(path) or ".", exist_ok=True)
     for ending, picture in there.items():
         files.replace(path + ending, png.written(picture))
     return Evidence(text, made.why, path, list(there), rows, more)
+
+
+def kept(case: Case, text: str, path: str) -> Evidence:
+    """Keeps what a case that failed leaves. Without a picture there is the text alone."""
+    if not case.has_picture():
+        return without_pictures(text, path)
+    return of_pictures(text, cases.pictures(case), partial(views_of, case), path)

@@ -21,8 +21,7 @@ def attachments(result: Result) -> str:
     of = result.evidence
     if of is None:
         return ""
-    page = os.path.join(os.path.dirname(of.path), report.link(result))
-    rows = [page, *("[[ATTACHMENT|%s]]" % os.path.abspath(of.path + ending) for ending in of.endings)]
+    rows = [report.link(of), *("[[ATTACHMENT|%s]]" % os.path.abspath(of.path + ending) for ending in of.endings)]
     return "    <system-out>%s</system-out>\n" % escape(plain("\n".join(rows)))
 
 

@@ -4,13 +4,13 @@ import json
 import os
 import re
 import shlex
-from typing import Dict, Iterable, List, Optional, Sequence, Set
+from typing import Dict, Iterable, List, NamedTuple, Optional, Sequence, Set
 
 from ..common import embedding, files
 from ..common.failures import Failure, NOT_RUN
 from . import evidence
 from .cases import Case
-from .trials import Result
+from .evidence import Evidence
 
 TEMPLATE = os.path.join(os.path.dirname(os.path.abspath(__file__)), "report.html")
 PAGE, LIST = "index.html", "failures.json"
@@ -59,10 +59,29 @@ def places(cases: Sequence[Case], folder: str) -> Dict[Case, str]:
     return found
 
 
-def link(result: Result) -> str:
-    """Where the page shows a failure, from the folder."""
-    path = result.evidence.path if result.evidence else ""
-    return "%s#%s" % (PAGE, os.path.basename(path))
+class Failed(NamedTuple):
+    """A failure: the name of what failed, why, how long it took in seconds, what it left, and the call that accepts
+    it."""
+
+    name: str
+    why: str
+    seconds: float
+    evidence: Evidence
+    accept: str
+
+
+class Sum(NamedTuple):
+    """How many passed, how long all took together in seconds, and the call that accepts all failures."""
+
+    passed: int
+    seconds: float
+    accept: str
+
+
+def link(of: Evidence) -> str:
+    """Where the page shows a failure."""
+    folder, name = os.path.split(of.path)
+    return os.path.join(folder, PAGE) + "#" + name
 
 
 def picture_url(path: str, room: List[int]) -> Optional[str]:
@@ -72,32 +91,27 @@ def picture_url(path: str, room: List[int]) -> Optional[str]:
     return "data:image/png;base64," + base64.b64encode(body).decode() if room[0] >= 0 else None
 
 
-def record(result: Result, room: List[int]) -> Record:
+def listed(it: Failed) -> Record:
+    """A failure as the list has it."""
+    of = it.evidence
+    return {
+        "name": it.name, "why": it.why, "seconds": round(it.seconds, 3),
+        "files": [os.path.basename(of.path) + ending for ending in of.endings],
+        "regions": [{"box": row.box, "pixels": row.pixels, "view": row.view} for row in of.regions],
+    }
+
+
+def record(it: Failed, room: List[int]) -> Record:
     """A failure as the page has it."""
-    of = result.evidence
-    assert of is not None
+    of = it.evidence
     images = {}
     for ending in PICTURES:
         path = of.file(ending)
         images[ending.split(".")[1]] = picture_url(path, room) if path else None
-    text = of.text or ("" if of.pictures else result.why)
+    text = of.text or ("" if of.pictures else it.why)
     return {
-        "name": result.case.name(), "anchor": os.path.basename(of.path), "text": text[:MAX_TEXT],
-        "cut": max(0, len(text) - MAX_TEXT), "why": of.pictures, "images": images,
-        "files": [os.path.basename(of.path) + it for it in of.endings],
-        "regions": [{"box": it.box, "pixels": it.pixels, "view": it.view} for it in of.regions],
-        "more": of.more_regions, "seconds": round(result.seconds, 3),
-    }
-
-
-def listed(result: Result) -> Record:
-    """A failure as the list has it."""
-    of = result.evidence
-    assert of is not None
-    return {
-        "name": result.case.name(), "why": result.why, "seconds": round(result.seconds, 3),
-        "files": [os.path.basename(of.path) + it for it in of.endings],
-        "regions": [{"box": it.box, "pixels": it.pixels, "view": it.view} for it in of.regions],
+        **listed(it), "anchor": os.path.basename(of.path), "text": text[:MAX_TEXT], "cut": max(0, len(text) - MAX_TEXT),
+        "why": of.pictures, "images": images, "more": of.more_regions, "accept": it.accept,
     }
 
 
@@ -106,17 +120,12 @@ def command_to_accept(command: Sequence[str], names: Iterable[str]) -> str:
     return " ".join(shlex.quote(it) for it in [*command, *names])
 
 
-def write(folder: str, results: Sequence[Result], command: Sequence[str]) -> str:
-    """Writes the page and the list of all results; `command` is the call to which names of cases are added to accept
-    them. Returns the path of the page."""
-    failed = [it for it in results if it.why and it.evidence]
+def write(folder: str, failed: Sequence[Failed], whole: Sum) -> str:
+    """Writes the page and the list. Returns the path of the page."""
     room = [MAX_BYTES]
-    shown = [record(it, room) for it in failed[:MAX_SHOWN]]
-    for it in shown:
-        it["accept"] = command_to_accept(command, [str(it["name"])])
     data: Record = {
-        "failures": shown, "others": [it.case.name() for it in failed[MAX_SHOWN:]], "passed": len(results) - len(failed),
-        "accept": command_to_accept(command, []), "seconds": round(sum(it.seconds for it in results), 1),
+        "failures": [record(it, room) for it in failed[:MAX_SHOWN]], "others": [it.name for it in failed[MAX_SHOWN:]],
+        "passed": whole.passed, "accept": whole.accept, "seconds": round(whole.seconds, 1),
     }
     files.replace(os.path.join(folder, LIST), (json.dumps([listed(it) for it in failed], indent=1) + "\n").encode())
     path = os.path.join(folder, PAGE)

@@ -20,8 +20,8 @@ class Task(NamedTuple):
 
 
 class Result(NamedTuple):
-    """How a case went: why it failed, or nothing; whether its files were written; how long it took, in seconds; and what
-    the failure left."""
+    """How a case went: why it failed, or nothing; whether its files were written; how long it took, in seconds; and
+    what the failure left."""
 
     case: Case
     why: str
