@@ -49,7 +49,7 @@ def put_suite(it):
     it.put("a.script", CARD % "Reply")
     it.put("b.script", CARD % "Reply")
     # of another tool
-    it.put("other.script", "tell application")
+    it.put("other.script", "display dialog")
     it.put("c.xml", "<a/>")
     it.put("vindaesk.toml", "")
     it.put("test_a.py", TEST)
