@@ -2,6 +2,7 @@
 import json
 import os
 import re
+import time
 
 import chromium
 from tools import RED, UNSETTLED, WITHOUT, place, unlike
@@ -134,6 +135,29 @@ def is_shown(browser):
     return "" if log[:1] == ["line 17: down 0 80 100 → done yes"] and len(log) == 3 else "touches: %s" % log
 
 
+def keeps_its_place(browser):
+    """How the window scrolls by itself, or the page does not follow the mouse and its address."""
+    browser.value("chosen = views[views.length - 1].number; document.activeElement.blur(); scrollTo(0, 0)")
+    for act in ("document.getElementById('after').click()", "choose(5, false)", "document.getElementById('before').click()"):
+        browser.value(act)
+        if browser.value("scrollY"):
+            return "after %s it has scrolled by %s" % (act, browser.value("scrollY"))
+    browser.value("location.hash = '#2/v2'")
+    left, top, width = stage(browser)
+    point = "new PointerEvent('%s', {clientX: %f, clientY: %f, bubbles: true})"
+    over = point % ("pointermove", left + width * 80 / 160, top + width * 30 / 160)
+    browser.value("document.getElementById('stage').dispatchEvent(%s)" % over)
+    pointed = facts(browser)["Number"]
+    browser.value("document.getElementById('stage').dispatchEvent(%s)" % (point % ("pointerleave", 0, 0)))
+    browser.value("location.hash = '#3/v3'")
+    time.sleep(0.2)
+    found = (pointed, facts(browser)["Number"], browser.value("document.getElementById('frame').value"))
+    if found != ("v4", "v3", "3"):
+        return "of the mouse, and of the address, it shows %s" % (found,)
+    browser.value("document.querySelector('#zoom [value=\"1\"]').click()")
+    return "" if stage(browser)[2] == 160 else "at 1:1 the picture is %s pixels wide" % stage(browser)[2]
+
+
 def shows():
     if not chromium.COMMAND:
         print("note: no page is opened in a browser, since there is no chromium on PATH")
@@ -141,16 +165,16 @@ def shows():
     with place() as it:
         it.call("page", "-", "a.html", given=TOUCHED)
         for width, is_dark in ((1200, False), (360, True)):
-            with chromium.Browser(width, 800, is_dark) as browser:
+            with chromium.Browser(width, 500, is_dark) as browser:
                 browser.open(os.path.join(it.folder, "a.html"))
-                why = is_shown(browser)
+                why = is_shown(browser) or keeps_its_place(browser)
                 if browser.value("document.documentElement.scrollWidth > innerWidth"):
                     why = why or "it is wider than the window"
                 dark = browser.value("getComputedStyle(document.body).backgroundColor")
                 if (dark == "rgb(15, 19, 24)") != is_dark:
                     why = why or "its background is %s" % dark
                 unnamed = browser.value("[...document.querySelectorAll('button, input, [role=tree]')].filter(it => "
-                                        "!it.ariaLabel && !it.getAttribute('aria-labelledby')).length")
+                                        "!it.ariaLabel && !it.getAttribute('aria-labelledby') && !(it.labels || []).length).length")
                 if why or unnamed:
                     return "%d pixels wide: %s" % (width, why or "%d parts have no name" % unnamed)
         return ""
