@@ -241,10 +241,10 @@ def unpacks():
     with place() as it:
         why = unlike(it.call("unpack", APP, "made/in"), 0, None, "")
         found = it.call("unpack", APP, "made/in")
-        wanted = LISTED + "resources.script has 9 values, and 1 that no line can say\n"
+        wanted = LISTED + "resources.lines has 9 values, and 1 that no line can say\n"
         why = why or unlike(found, 0, wanted.encode(), "")
-        if why or it.read("made/in/resources.script").decode() != LINES:
-            return why or "resources.script is '%s'" % it.read("made/in/resources.script").decode()
+        if why or it.read("made/in/resources.lines").decode() != LINES:
+            return why or "resources.lines is '%s'" % it.read("made/in/resources.lines").decode()
         for name, body in app_layouts():
             stem = re.sub(r"res/layout(-\w+)?/(\w+)", r"\2\1", name)
             if it.read(os.path.join("made/in", stem)) != body:

@@ -55,7 +55,7 @@ def touching():
     for view in range(3, 203):
         made += ["add v2 View match 40", "bg v%d #ff%06x" % (view, view * 4099 % (1 << 24))]
     made += ["hook v%d size v%d match 41" % (view, view + 1) for view in range(3, 27)]
-    made += ["frame", "frame", "down 0 5 5", "move 0 5 1", "up 0", "scroll v1 0 900", "save", "scroll v1 0 0", "restore"]
+    made += ["frame", "frame", "down 0 5 5", "move 0 5 1", "up 0", "scroll v1 900", "save", "scroll v1 0", "restore"]
     return lines(*made, "frame", "bounds v3", "digest", "remove v2", "restore 01")
 
 

@@ -16,7 +16,7 @@ from ..scripts.grammar import CLASSES, guess
 from ..scripts.refusals import REFUSALS
 from ..scripts.replies import Part, Refusal
 from . import attributes, compiler, documents, values
-from .documents import ANDROID, Attribute, End, Node, Start
+from .documents import ANDROID, REFERENCE, Attribute, End, Node, Start
 from ..scripts.resource_names import Names
 
 ELEMENT = re.compile(rb" element ([1-9][0-9]*)$")
@@ -25,6 +25,7 @@ OFFSET = re.compile(rb" at ([0-9]+)$")
 UNRESOLVED, THEME, BAD_VALUE, DUPLICATE, NO_SIZE, CYCLE, UNKNOWN_CLASS = 12, 13, 14, 16, 17, 18, 23
 OF_ATTRIBUTES = (UNRESOLVED, THEME, BAD_VALUE, DUPLICATE)
 SIZES = ("layout_width", "layout_height")
+KINDS = {"color": "a colour", "dimen": "a dimension", "text": "a text"}
 NOT_XML, MISSING = 5, 39
 # how many files are looked into
 MOST = 100
@@ -90,7 +91,18 @@ class Files:
         elif number in OF_ATTRIBUTES:
             culprit = self.culprit(found[0], number)
             places += ": " + shown(culprit) if culprit else ""
+            why = self.other_kind(culprit) or why if culprit and number == BAD_VALUE else why
         return messages.printable("%s: %s: %s" % (name, places, why))
+
+    def other_kind(self, it: Attribute) -> str:
+        """What is said where an attribute names a resource whose value is of a kind that it cannot have."""
+        name = b"@%x" % it.value.word
+        for line in reversed(self.settings) if it.value.kind == REFERENCE else ():
+            words = [word for word in line.split(b" ") if word]
+            if words[0] == b"res" and b"@" + words[1][1:].lstrip(b"0").lower() == name:
+                kind = KINDS.get(words[2].decode("utf-8", "replace"), "another value")
+                return "this resource is %s; here has to be %s" % (kind, values.said(attributes.form_of(it.namespace, it.name)))
+        return ""
 
     def culprit(self, start: Start, number: int) -> Optional[Attribute]:
         """The attribute for which an element is refused; nothing where that cannot be found."""

@@ -106,6 +106,8 @@ class Includer:
 
     def inner(self, name: str, at: Line, around: Sequence[str]) -> List[Line]:
         """The lines of the file that a line includes."""
+        if "\0" in name:
+            raise failure(at, "no file has a name with the byte 0 in it")
         path = os.path.normpath(os.path.join(os.path.dirname(around[-1]) if around[-1] != "-" else "", name))
         self.count += 1
         chain = [*around, path]
