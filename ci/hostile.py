@@ -11,13 +11,14 @@ from functools import partial
 
 import apps
 from running import TOP
-from tools import RED, coded, first, place, unlike
+from tools import RED, coded, place, unlike
+from vindaesk.apps import unpacker
 from vindaesk.common import toml
 from vindaesk.common.failures import Failure
 from vindaesk.layouts import compiler, documents, source_reader, source_writer
 from vindaesk.layouts.documents import ANDROID, Namespace, Start
 from vindaesk.pictures import png
-from vindaesk.scripts import resource_names, script
+from vindaesk.scripts import names, resource_names, script
 from vindaesk.testing import configurations
 
 EXAMPLES = os.path.join(TOP, "examples")
@@ -109,9 +110,9 @@ def writes_no_other_attributes():
 
 
 def reads_large_pictures():
-    """A picture of four million pixels, by each filter; and one that is larger than any screen."""
-    side = 1500
-    row = bytes(range(250)) * (3 * side // 250)
+    """A picture of a million pixels, by each filter; and one that is larger than any screen."""
+    side = 1000
+    row = bytes(range(250)) * 12
     for kind in range(1, 5):
         text = coded(2, [row] * side, [kind] * side)
         why = quickly(lambda: "" if png.parsed(text).rows[-1] == row else "another picture")
@@ -136,28 +137,25 @@ def archive(files):
 
 
 def unpacks_odd_apps():
-    with open(os.path.join(EXAMPLES, "page.xml"), "rb") as file:
-        page = file.read()
+    source = HEAD + 'android:background="@7f040000"/>'
+    nodes, _ = source_reader.read(source.encode(), "a.xml", resource_names.Names())
+    page = compiler.compiled(nodes)
     with place() as it:
         it.put("a.apk", archive({"res/layout/a%d.xml" % number: b"" for number in range(10001)}))
-        why = unlike(it.call("unpack", "a.apk", "made"), 2, b"", "a.apk cannot be unpacked: it has more than 10000 layouts\n")
-        it.put("b.apk", archive({"res/layout/a b.xml": page, "res/layout/a_b.xml": page, "resources.arsc": bytes(1 << 24) + b"x"}))
+        said = "a.apk cannot be unpacked: it has more than 10000 layouts\n"
+        why = unlike(it.call("unpack", "a.apk", "made"), 2, b"", said)
+        table = bytes(1 << 24) + b"x"
+        it.put("b.apk", archive({"res/layout/a b.xml": page, "res/layout/a_b.xml": page, "resources.arsc": table}))
         listed = b"a_b.xml is res/layout/a_b.xml\na_b-2.xml is res/layout/a b.xml\n"
-        said = "no values are written: resources.arsc has more than 16777216 bytes\n"
-        why = why or unlike(it.call("unpack", "b.apk", "made"), 1, None, "")[:0]
-        found = it.call("unpack", "b.apk", "made")
-        # without a resource that the layouts name, the table is not asked for
-        is_listed = found[1].startswith(listed)
-        return why or ("" if is_listed and (found[0], said in found[2]) in ((1, True), (0, False)) else "%s" % (found,))
+        said = "unpack: no values are written: resources.arsc has more than 16777216 bytes\n"
+        return why or unlike(it.call("unpack", "b.apk", "made"), 1, listed, said)
 
 
 def names_files_of_apps():
     """A drawable that a layout names is no text, and `check` says which kind is wanted."""
-    answer = 'app 7f040000 text "res/drawable/pill.xml"'.split(" ", 1)[1]
-    from vindaesk.apps import unpacker
-
-    found = [unpacker.line_of(answer, {"res/drawable/pill.xml"}), unpacker.line_of(answer, {"other"})]
-    wanted = [(b"# @7f040000 is the file res/drawable/pill.xml", False), (b"res @7f040000 text res/drawable/pill.xml", True)]
+    answer, path = '7f040000 text "res/drawable/pill.xml"', "res/drawable/pill.xml"
+    found = [unpacker.line_of(answer, {path}), unpacker.line_of(answer, {"other"})]
+    wanted = [(b"# @7f040000 is the file " + path.encode(), False), (b"res @7f040000 text " + path.encode(), True)]
     if found != wanted:
         return "%s" % found
     with place() as it:
@@ -165,7 +163,8 @@ def names_files_of_apps():
         nodes, _ = source_reader.read(source.encode(), "a.xml", resource_names.Names())
         it.put("a.xml", compiler.compiled(nodes))
         found = it.call("check", "-", given="window 9 9\nres @7F040000 text x\ninflate a.xml\n")
-        return unlike(found, 1, None, "") or ("" if b"this resource is a text; here has to be a colour" in found[1] else "%r" % found[1])
+        said = b"this resource is a text; here has to be a colour"
+        return unlike(found, 1, None, "") or ("" if said in found[1] else "%r" % found[1])
 
 
 def says_byte_order_mark():
@@ -192,7 +191,8 @@ def changed(draw, text):
         elif act == 2:
             made[at:at] = made[at : at + size]
         elif act == 3:
-            made[at:at] = draw.choice((b"\xff\xff\xff\xff", b"\0\0\0\0", b"<", b">", b"&#0;", b"\"", b"@", b"\n", b"=", b"[", b"\xc3"))
+            made[at:at] = draw.choice((b"\xff\xff\xff\xff", b"\0\0\0\0", b"<", b">", b"&#0;", b"\"", b"@", b"\n", b"=", b"[",
+                                        b"\xc3"))
         else:
             made[at : at + 4] = struct.pack("<I", draw.choice((0, 1, 0x7FFFFFFF, 0x80000000, 0xFFFFFFFF)))
     return bytes(made)
@@ -228,14 +228,14 @@ def picture(text):
 
 def seeds():
     """Each reader with texts that it takes, and the failures that it may end with."""
-    names = ("a.xml", "page.xml")
+    layouts = ("a.xml", "page.xml")
     sources = [apps.SOURCE.encode()] if hasattr(apps, "SOURCE") else []
     sources += [(HEAD + 'android:text="a\\u00e9" android:gravity="left|top"><a b="c">t</a></View>').encode()]
     pictures = [coded(kind, [bytes(12)] * 4, (1, 2, 3, 4)) for kind in (0, 2, 4, 6)]
     tables = [b"picture = true\nmatrix = [['a'], ['b', 'c']]\n[a]\nwindow = [1, 2]\n[b]\n[c]\ndpi = 160\nvalues = ['x']\n"]
     lists = [b"app:id/title = 0x7f080000\nid/a=7f080001\n# x\nandroid:id/b = 0x01020000\n"]
     scripts = [RED.encode(), b"include a b\nid v1 @id/x\ntext v1 @id/y\nhook v1 bg @android:id/text1 #ff000000\n"]
-    dumps = [documents.printed(name, EXAMPLES)[0] for name in names]
+    dumps = [documents.printed(name, EXAMPLES)[0] for name in layouts]
     texts = ["\n".join(lines).encode() for lines in dumps if lines]
     return {
         "sources of layouts": (source, sources, (Failure,)),
@@ -243,7 +243,7 @@ def seeds():
         "configurations": (configured, tables, (Failure,)),
         "lists of ids": (lambda text: resource_names.Names(text, "ids.txt"), lists, (Failure,)),
         "scripts": (included, scripts, (Failure,)),
-        "names of ids": (lambda text: [resource_names.Names(lists[0], "x"), script.names.NONE.expanded(text)], scripts, (Failure,)),
+        "names of ids": (names.NONE.expanded, scripts, (Failure,)),
         "documents": (compiled_again, texts, (Failure, ValueError, KeyError, IndexError)),
     }
 
@@ -288,5 +288,5 @@ def checks():
     for check in (takes_large_sources, refuses_odd_sources, notes_slips, writes_no_other_attributes, reads_large_pictures,
                   unpacks_odd_apps, names_files_of_apps, says_byte_order_mark, archives_at_random):
         yield "hostile: " + check.__name__.replace("_", " "), check
-    for name in ("sources of layouts", "pictures", "configurations", "lists of ids", "scripts", "names of ids", "documents"):
+    for name in seeds():
         yield "fuzz: " + name, partial(fuzzed, name)

@@ -16,7 +16,7 @@ import time
 import xml.etree.ElementTree
 import zlib
 
-from running import SECONDS, TOP
+from running import PROGRAM, SECONDS, TOP
 from vindaesk.pictures import png
 
 EXAMPLES = os.path.join(TOP, "examples")
@@ -527,6 +527,45 @@ def shows_progress():
         return "" if out.endswith(b"1 passed, 1 failed\n") and b"of 2" not in out else "it writes %r" % out
 
 
+def shows_long_work():
+    """What a terminal shows of a tool that waits for a slow program; nothing of it stays."""
+    with place() as it:
+        real = os.environ.get("VINDAESK_PROGRAM") or PROGRAM
+        slow = it.stand_in("'%s' \"$@\" | while IFS= read -r it; do printf '%%s\\n' \"$it\"; sleep 0.4; done" % real)
+        it.put("a.script", RED + "frame\n" * 8)
+        for words in (("tree", "a.script"), ("screenshot", "a.script", "--frames", "made"), ("page", "a.script", "-")):
+            mine, theirs = pty.openpty()
+            started = it.start("tools/" + words[0], *words[1:], stderr=theirs, **slow)
+            os.close(theirs)
+            started.communicate(timeout=SECONDS)
+            shown = os.read(mine, 4096).decode()
+            os.close(mine)
+            if started.returncode or not re.search(r"\] \d+ of \d+ parts of the script", shown) or shown[-4:] != "\r\x1b[K":
+                return "%s: status %d, it shows %r" % (words, started.returncode, shown)
+        return ""
+
+
+def closed_streams():
+    """Each tool whose standard input, output or error is closed: it ends with a sentence, or as it should."""
+    with place() as it:
+        it.put("a.script", RED)
+        it.put("a.png", png.written(png.Picture(2, 2, [b"\xff\0\0" * 2] * 2)))
+        it.copy(os.path.join(EXAMPLES, "page.xml"))
+        calls = {"screenshot": "a.script b.png", "picdiff": "a.png a.png", "tree": "a.script", "runall": "a.script",
+                 "check": "a.script", "axml": "--text page.xml -", "lint": "a.script", "page": "a.script -",
+                 "unpack": os.path.join(EXAMPLES, "inbox/inbox.apk") + " made", "install": "prefix"}
+        for tool in TOOLS:
+            for closed in ("<&-", ">&-", "2>&-", "<&- >&- 2>&-"):
+                line = "exec '%s' %s %s" % (os.path.join(TOP, "tools", tool), calls[tool], closed)
+                ended = subprocess.run(["bash", "-c", line], cwd=it.folder, stdout=subprocess.PIPE, stderr=subprocess.PIPE)
+                said = ended.stderr.decode()
+                if "Traceback" in said or ended.returncode not in (0, 1, 2, 4):
+                    return "%s %s: status %d, '%s'" % (tool, closed, ended.returncode, said)
+        line = "exec '%s' a.script >&-" % os.path.join(TOP, "tools", "tree")
+        ended = subprocess.run(["bash", "-c", line], cwd=it.folder, stderr=subprocess.PIPE)
+        return unlike((ended.returncode, b"", ended.stderr.decode()), 4, b"", "tree: standard output: ")
+
+
 def unknown_words():
     """The checks and the benchmark, by a word that names nothing."""
     with place() as it:
@@ -543,5 +582,6 @@ def unknown_words():
 def checks():
     for check in (helps, lacks_program, takes_pictures, composes_windows, reports_refused_lines, lacks_pictures, lacks_files,
                   takes_frames, ends_with_the_program, can_be_interrupted, follows_views, follows_files, reads_png,
-                  refuses_broken_pictures, compares_pictures, runs_all, runs_all_that_break, shows_progress, unknown_words):
+                  refuses_broken_pictures, compares_pictures, runs_all, runs_all_that_break, shows_progress, shows_long_work, closed_streams,
+                  unknown_words):
         yield "the tools: " + check.__name__.replace("_", " "), check

@@ -3,6 +3,7 @@ import os
 import re
 from typing import Container, Dict, Iterable, Iterator, List, NamedTuple, Optional, Tuple
 
+from ..common import progress
 from ..common.failures import Failure
 from ..common.messages import shown
 from ..layouts import attributes, dimensions, documents
@@ -88,7 +89,7 @@ def named(names: List[str], folder: str, refused: Dict[str, str]) -> List[int]:
     """The resources that known attributes of a folder's layouts name, in order, but ids of views. The layouts that are
     refused are noted."""
     found: Dict[int, None] = {}
-    for name in names:
+    for name in progress.counted(names, len(names), "layouts"):
         lines, why = documents.printed(name, folder)
         if lines is None:
             refused[name] = why

@@ -2,6 +2,8 @@
 import os
 import sys
 
+from . import progress
+
 
 def printable(text: str) -> str:
     """A text whose control characters are escaped."""
@@ -24,4 +26,5 @@ def tool(name: str) -> str:
 
 def say(sentence: str) -> None:
     """Writes a sentence on standard error, after the tool's name."""
+    progress.clear()
     print("%s: %s" % (os.path.basename(sys.argv[0]), printable(sentence)), file=sys.stderr)

@@ -4,6 +4,7 @@ import os
 import types
 from typing import Dict, Iterable, List, NamedTuple, Tuple
 
+from ..common import progress
 from ..common.failures import Failure, NOT_RUN
 from ..scripts import script
 from ..scripts.replies import Refused
@@ -51,7 +52,8 @@ def found_on(
 ) -> Dict[Finding, List[str]]:
     """What rules find, each with the screens on which they do. Refused lines are reported on the way."""
     found: Dict[Finding, List[str]] = {}
-    for screen in wanted:
+    screens_of = list(wanted)
+    for screen in progress.counted(screens_of, len(screens_of), "screens"):
         shown, name = laid_out(made, screen, refused)
         for finding in findings_of(shown, chosen):
             found.setdefault(finding, []).append(name)

@@ -2,6 +2,7 @@
 import itertools
 from typing import Dict, List, NamedTuple, Tuple
 
+from ..common import progress
 from .png import Picture
 
 # a pixel that differs, in the picture of a difference
@@ -88,7 +89,8 @@ def compared(before: Picture, after: Picture, tolerance: int = 0) -> Tuple[Diffe
     count, greatest = 0, 0
     left, top, right, bottom = before.width, before.height, 0, 0
     rows, cells = [], Cells()
-    for number, (one, other) in enumerate(zip(before.rows, after.rows)):
+    pairs = progress.counted(zip(before.rows, after.rows), before.height, "rows of both pictures")
+    for number, (one, other) in enumerate(pairs):
         found, most = marks(one, other, tolerance) if one != other else ([], 0)
         rows.append(dimmed(one, found))
         if found:

@@ -5,6 +5,7 @@ import struct
 import zlib
 from typing import Iterator, List, NamedTuple, Tuple
 
+from ..common import progress
 from ..common.failures import Failure, NOT_RUN
 
 SIGNATURE = b"\x89PNG\r\n\x1a\n"
@@ -170,7 +171,7 @@ def parsed(file: bytes) -> Picture:
         raise ValueError("it has not 8 bits a channel, or is interlaced")
     if not 0 < width * height <= MAX_PIXELS:
         raise ValueError("it has no pixel, or more than %d" % MAX_PIXELS)
-    rows = rows_of(b"".join(body), width, height, BYTES[form])
+    rows = progress.counted(rows_of(b"".join(body), width, height, BYTES[form]), height, "rows of a picture")
     return Picture(width, height, [colours(row, form, palette) for row in rows])
 
 

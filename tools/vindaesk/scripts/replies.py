@@ -6,6 +6,7 @@ comes a line that is always refused: its refusal has its number, and ends the re
 import re
 from typing import Dict, Iterator, List, NamedTuple, Sequence, Tuple
 
+from ..common import progress
 from ..common.failures import Failure, WRONG
 from ..common.messages import say, tool
 from ..program import process
@@ -105,7 +106,13 @@ class Refused:
 
 
 def answers(parts: Sequence[Part], folder: str, form: str = "run") -> Iterator[Tuple[Part, Answer]]:
-    """Each part with its answer, as it comes, of a script that the program runs in this form."""
+    """Each part with its answer, as it comes, of a script that the program runs in this form. A terminal shows how many
+    there were, where they take long."""
+    return progress.counted(answered(parts, folder, form), len(parts), "parts of the script")
+
+
+def answered(parts: Sequence[Part], folder: str, form: str) -> Iterator[Tuple[Part, Answer]]:
+    """The same without that."""
     whole = script.joined([line for part in parts for line in (*part.lines, MARK)])
     left = iter(parts)
     part = next(left, None)
