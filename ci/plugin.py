@@ -2,6 +2,7 @@
 fixtures, what is accepted, processes of pytest-xdist, and the reports."""
 import json
 import os
+import shutil
 import subprocess
 import sys
 
@@ -100,5 +101,54 @@ def runs_suites():
         return "" if "pytest a.script::small --vindaesk-accept" in page else "the page does not show how to accept"
 
 
+def commands_of(name, mark):
+    """The lines of a recipe of docs/ci/ that have a mark, from there on."""
+    with open(os.path.join(TOP, "docs", "ci", name), encoding="utf-8") as file:
+        return [line.split(mark, 1)[1].strip() for line in file if mark in line]
+
+
+def recipe_for_github():
+    """The commands of the recipe with pytest; it installs a package, in the place of which the plugin is named here."""
+    command = python()
+    commands = commands_of("pytest.yml", "run: ")
+    if len(commands) != 2 or not commands[0].startswith("python3 -m pip install pytest pytest-xdist "):
+        return "commands: %s" % commands
+    if not command or not has_xdist(command):
+        return ""
+    with place() as it:
+        os.mkdir(os.path.join(it.folder, "screens"))
+        for name in ("card.script", "card.answer", "card.png"):
+            shutil.copy(os.path.join(TOP, "examples", name), os.path.join(it.folder, "screens"))
+        shutil.copy(os.path.join(TOP, "docs", "examples", "test_card.py"), os.path.join(it.folder, "screens"))
+        it.put("screens/ids.txt", IDS)
+        words = commands[1].split(" ")
+        if words[:3] != ["python3", "-m", "pytest"]:
+            return "commands: %s" % commands
+        status, text = call(it, command, *words[3:])
+        if status or summed(text) != "2 passed" or "report.xml" not in it.names():
+            return "status %d: %s" % (status, text)
+        it.put("screens/card.script", it.read("screens/card.script").replace(b"Reply", b"Reply!"))
+        status, text = call(it, command, *words[3:])
+        return "" if status == 1 and "report/index.html shows what failed" in text else "status %d: %s" % (status, text)
+
+
+def recipe_for_gradle():
+    """The commands of the tasks for Gradle, which is not there to run them."""
+    commands = [json.loads("[%s]" % it.rstrip(")").replace("runall.get()", '"runall"'))
+                for it in commands_of("vindaesk.gradle.kts", "commandLine(")]
+    with place() as it:
+        os.mkdir(os.path.join(it.folder, "screens"))
+        it.put("screens/a.script", (CARD % "Reply").replace("@id/reply", "@7f080002"))
+        wanted = [(1, b"0 passed, 1 failed"), (0, b"1 passed, 0 failed"), (0, b"1 passed, 0 failed")]
+        for words, (status, last) in zip([*commands, commands[0]], wanted):
+            found = it.call(*words)
+            if (found[0], found[1].splitlines()[-1]) != (status, last):
+                return "%s: %s" % (words, found)
+        made = sorted(os.listdir(os.path.join(it.folder, "build")))
+        return "" if made == ["screens", "screens.xml"] else "files: %s" % made
+
+
 def checks():
     yield "pytest: runs suites", runs_suites
+    yield "pytest: the recipe for GitHub", recipe_for_github
+    yield "pytest: the recipe for Gradle", recipe_for_gradle

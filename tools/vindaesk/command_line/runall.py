@@ -173,8 +173,8 @@ def main(words: Optional[Sequence[str]] = None) -> int:
     if not mine:
         messages.say("none of these cases failed when it was run last")
     process.path()
-    if given.junit:
-        files.check_place(given.junit)
     if given.report:
         report.prepare(given.report)
+    if given.junit:
+        files.check_place(given.junit)
     return finish(given, run(given, mine))

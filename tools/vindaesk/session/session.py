@@ -142,6 +142,7 @@ class Session:
     def __init__(self, folder: str = ".", ids: Optional[str] = None):
         """Starts the program. Layout files are those of the folder, and names of ids those of its ids.txt, or of a list
         by its path."""
+        self._folder = folder
         self._ids = names.beside(folder, ids)
         self._process = subprocess.Popen(
             [process.path(), "run"], stdin=subprocess.PIPE, stdout=subprocess.PIPE, stderr=subprocess.DEVNULL,
@@ -184,9 +185,11 @@ class Session:
         return [it.decode() for it in replies]
 
     def script(self, text: str) -> List[str]:
-        """Carries out the lines of a script, and returns all replies; the first line that is refused ends it."""
-        lines = script.lines_in(text.encode("utf-8", "surrogateescape"))
-        return [reply for line in lines for reply in self.line(line.decode("utf-8", "surrogateescape"))]
+        """Carries out the lines of a script, and of the files that it includes from the session's folder, and returns all
+        replies; the first line that is refused ends it."""
+        whole = text.encode("utf-8", "surrogateescape")
+        lines = script.Includer().lines(os.path.join(self._folder, "(session)"), whole, [])
+        return [reply for line in lines for reply in self.line(line.text.decode("utf-8", "surrogateescape"))]
 
     def _one(self, text: str) -> str:
         """Carries out a line that has one reply, which needs no mark after it."""
