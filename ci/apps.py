@@ -6,8 +6,9 @@ import os
 import re
 import struct
 import zipfile
+from typing import Dict, Iterable, Iterator, Tuple
 
-from running import PROGRAM, TOP
+from running import PROGRAM, TOP, Checks, named
 from tools import first, place, unlike
 from vindaesk.common import files
 from vindaesk.layouts import attributes, compiler, documents, source_reader, source_writer, values
@@ -48,7 +49,7 @@ BROKEN = {
 }
 
 
-def page_attributes():
+def page_attributes() -> Iterator[Tuple[str, str]]:
     """The names of the table of docs/FORMATS.md, and of each whether it takes a reference that is an id."""
     with open(os.path.join(TOP, "docs", "FORMATS.md"), encoding="utf-8") as file:
         text = file.read()
@@ -63,7 +64,7 @@ def page_attributes():
             yield name, cells[1]
 
 
-def has_page_attributes():
+def has_page_attributes() -> str:
     """The table of attributes has the names of the page, and of each what it takes."""
     said = {"dimension": "length", "float": "float", "colour": "colour", "boolean": "boolean", "string": "string"}
     wanted = dict(page_attributes())
@@ -79,7 +80,7 @@ def has_page_attributes():
     return ""
 
 
-def app_layouts():
+def app_layouts() -> Iterator[Tuple[str, bytes]]:
     """The layouts of the app: the path and the bytes of each."""
     with zipfile.ZipFile(APP) as app:
         for name in sorted(app.namelist()):
@@ -87,7 +88,7 @@ def app_layouts():
                 yield name, app.read(name)
 
 
-def compiles_as_the_build_tools():
+def compiles_as_the_build_tools() -> str:
     """The same bytes, and so the same lines of `dump`."""
     with place() as it:
         for name, wanted in app_layouts():
@@ -97,7 +98,7 @@ def compiles_as_the_build_tools():
         return "" if it.names() == ["a.xml"] else "files: %s" % it.names()
 
 
-def makes_sources():
+def makes_sources() -> str:
     """A source of each layout of the app, of which the same file is made again."""
     with place() as it:
         for name, wanted in app_layouts():
@@ -109,7 +110,7 @@ def makes_sources():
         return ""
 
 
-def elements(nodes):
+def elements(nodes: Iterable[documents.Node]) -> Iterator[Tuple[object, ...]]:
     """The nodes of a document but namespaces, without lines, and attributes in order of their names."""
     for node in nodes:
         if isinstance(node, documents.Start):
@@ -119,7 +120,7 @@ def elements(nodes):
             yield type(node).__name__, node[1:]
 
 
-def makes_sources_of_examples():
+def makes_sources_of_examples() -> str:
     """The same elements, whose attributes other tools have put in another order."""
     for path in sorted(glob.glob(os.path.join(TOP, "examples", "*.xml"))):
         if os.path.exists(path[: -len("xml")] + "status"):
@@ -133,7 +134,7 @@ def makes_sources_of_examples():
     return ""
 
 
-def keeps_ids():
+def keeps_ids() -> str:
     with place() as it:
         source = '<View xmlns:android="http://schemas.android.com/apk/res/android" android:id="@+id/%s" />'
         it.put("made", "")
@@ -147,9 +148,9 @@ def keeps_ids():
                 return why or "the list is '%s'" % it.read(ids).decode()
         it.put("list.txt", "# of another tool\n\nx.y:id/last = 0x7f0a0007\nx.y:dimen/gap = 7f0b0000\n")
         why = unlike(it.call("axml", "-", "-", "--ids", "list.txt", given=source % "new"), 0)
-        wanted = b"x.y:id/last = 0x7f0a0007\nx.y:id/new = 0x7f0a0008\nx.y:dimen/gap = 0x7f0b0000\n"
-        if why or it.read("list.txt") != wanted:
-            return why or "the list is '%s'" % it.read("list.txt")
+        wanted = "x.y:id/last = 0x7f0a0007\nx.y:id/new = 0x7f0a0008\nx.y:dimen/gap = 0x7f0b0000\n"
+        if why or it.read("list.txt").decode() != wanted:
+            return why or "the list is '%s'" % it.read("list.txt").decode()
         for line in ("x", "id/a = 0x0", "id/a = 0x00000000", "id/a = 0x7f080000\nid/b = 0x7f080000"):
             it.put("list.txt", line)
             found = it.call("axml", "-", "-", "--ids", "list.txt", given=source % "new")
@@ -157,7 +158,7 @@ def keeps_ids():
         return why
 
 
-def reports_wrong_sources():
+def reports_wrong_sources() -> str:
     with place() as it:
         for text, said in WRONG.items():
             found = it.call("axml", "-", "a.xml", given=HEAD + text + "/>")
@@ -176,7 +177,7 @@ def reports_wrong_sources():
         return ""
 
 
-def lacks_layouts():
+def lacks_layouts() -> str:
     with place() as it:
         os.mkdir(os.path.join(it.folder, "folder"))
         it.put("a.xml", HEAD + "/>")
@@ -201,8 +202,9 @@ def lacks_layouts():
         return why or ("" if not {"b.xml", "made"} & set(it.names()) else "files: %s" % it.names())
 
 
-def has_page_values():
+def has_page_values() -> str:
     """Texts of values that are kept in more than one way, with their types and words, as Android keeps them."""
+    names = resource_names.Names()
     wanted = {
         "1.5dp": (5, 0x00C00021), "-3.25dp": (5, 0xFE600021), "0.0001in": (5, 0x00034734), "70000.7px": (5, 0x01117000),
         "100.3dp": (5, 0x32266621), "1e1dp": (5, 0x00000A01), "+.5dip": (5, 0x40000031), "#8f00": (0x1E, 0x88FF0000),
@@ -211,11 +213,12 @@ def has_page_values():
         "?01010036": (2, 0x01010036), "50%p": (6, 0x40000031),
     }
     for text, value in wanted.items():
-        found = values.read(text, attributes.ANY, resource_names.Names())
+        found = values.read(text, attributes.ANY, names)
         if (found.kind, found.word) != value:
             return "'%s' is %02x %08x" % (text, found.kind, found.word)
-        if found != values.read(values.shown(found, attributes.ANY, resource_names.Names()), attributes.ANY, resource_names.Names()):
-            return "'%s' is written as '%s'" % (text, values.shown(found, attributes.ANY, resource_names.Names()))
+        shown = values.shown(found, attributes.ANY, names)
+        if shown is None or found != values.read(shown, attributes.ANY, names):
+            return "'%s' is written as '%s'" % (text, shown)
     return ""
 
 
@@ -237,7 +240,7 @@ res @7f020002 dimen 1 px
 """
 
 
-def unpacks():
+def unpacks() -> str:
     with place() as it:
         why = unlike(it.call("unpack", APP, "made/in"), 0, None, "")
         found = it.call("unpack", APP, "made/in")
@@ -254,7 +257,7 @@ def unpacks():
         return unlike(it.call("check", "made/in/show.script"), 0, b"", "")
 
 
-def unpacks_without_values():
+def unpacks_without_values() -> str:
     """By a program without `lookup`, and of an app without a table."""
     with place() as it:
         variables = it.stand_in('[ "$1" = lookup ] && exit 2; exec %s "$@"' % PROGRAM)
@@ -271,7 +274,7 @@ def unpacks_without_values():
         return why or ("" if made == ["every.xml", "inbox-land.xml", "inbox.xml"] else "files: %s" % made)
 
 
-def app(entries, packing=zipfile.ZIP_DEFLATED):
+def app(entries: Dict[str, bytes], packing: int = zipfile.ZIP_DEFLATED) -> bytes:
     """An archive with these files."""
     made = io.BytesIO()
     with zipfile.ZipFile(made, "w", packing) as archive:
@@ -280,7 +283,7 @@ def app(entries, packing=zipfile.ZIP_DEFLATED):
     return made.getvalue()
 
 
-def names_layouts():
+def names_layouts() -> str:
     """Names that no line can say, or that come twice; a layout that is broken."""
     with place() as it:
         whole = dict(app_layouts())["res/layout-land/inbox.xml"]
@@ -295,7 +298,7 @@ def names_layouts():
         return unlike(found, 1, None, "unpack: res/layout/a b.xml is refused 1 Truncated at 0\n")
 
 
-def broken_apps():
+def broken_apps() -> Iterator[Tuple[bytes, str]]:
     """Archives that cannot be unpacked, and what is said of each."""
     with open(APP, "rb") as file:
         whole = file.read()
@@ -321,7 +324,7 @@ def broken_apps():
     yield bytes(damaged), "'%s' is broken: Bad CRC-32" % layout
 
 
-def refuses_broken_apps():
+def refuses_broken_apps() -> str:
     with place() as it:
         for number, (file, said) in enumerate(broken_apps(), 1):
             it.put("a.apk", file)
@@ -339,8 +342,9 @@ def refuses_broken_apps():
         return first(unlike(it.call("unpack", *words), 2, b"", said) for words, said in calls.items())
 
 
-def checks():
-    for check in (has_page_attributes, has_page_values, compiles_as_the_build_tools, makes_sources,
-                  makes_sources_of_examples, keeps_ids, reports_wrong_sources, lacks_layouts, unpacks,
-                  unpacks_without_values, names_layouts, refuses_broken_apps):
-        yield "layouts and apps: " + check.__name__.replace("_", " "), check
+def checks() -> Checks:
+    yield from named("layouts and apps", (
+        has_page_attributes, has_page_values, compiles_as_the_build_tools, makes_sources, makes_sources_of_examples,
+        keeps_ids, reports_wrong_sources, lacks_layouts, unpacks, unpacks_without_values, names_layouts,
+        refuses_broken_apps
+    ))

@@ -10,8 +10,9 @@ import os
 import struct
 import tempfile
 from functools import partial
+from typing import Iterator, Tuple
 
-from running import PROGRAM, TOP, difference, run
+from running import PROGRAM, TOP, Checks, difference, named, run
 from vindaesk.layouts import compiler, source_reader
 from vindaesk.scripts import resource_names
 
@@ -50,7 +51,7 @@ NAMESPACE = 'xmlns:android="http://schemas.android.com/apk/res/android"'
 MAX_DEPTH = 32
 
 
-def fields():
+def fields() -> Iterator[Tuple[int, str, str]]:
     """Of each number its place, and how a file is refused in which it is 0, and in which it is the greatest."""
     for at in CHUNKS:
         yield at + 4, "2 BadChunk at %d" % at, "2 BadChunk at %d" % at
@@ -61,7 +62,7 @@ def fields():
     yield from POOL
 
 
-def answer(why):
+def answer(why: str) -> Tuple[bytes, int]:
     """What is written where the file is refused, and where it is read, and the status."""
     before = ["v1", "settled 0", ROOT, DIGEST]
     if why:
@@ -72,7 +73,7 @@ def answer(why):
     return "\n".join([*before, *after, ""]).encode(), 1 if why else 0
 
 
-def over(file, script):
+def over(file: bytes, script: bytes) -> Tuple[bytes, int]:
     """What a script writes where this is the file a.xml, and the status."""
     with tempfile.TemporaryDirectory() as folder:
         with open(os.path.join(folder, "a.xml"), "wb") as made:
@@ -80,7 +81,7 @@ def over(file, script):
         return run([PROGRAM, "run"], script, folder)
 
 
-def replaced(at, number, why):
+def replaced(at: int, number: int, why: str) -> str:
     """Why a file with another number at this place fails, or nothing."""
     with open(os.path.join(TOP, "examples", "a.xml"), "rb") as file:
         whole = file.read()
@@ -88,37 +89,37 @@ def replaced(at, number, why):
     return difference(*answer(why), *over(made, INFLATING))
 
 
-def compiled(source):
+def compiled(source: str) -> bytes:
     """The file of this source."""
     nodes, wrong = source_reader.read(source.encode(), "a.xml", resource_names.Names(b"", "ids"))
     assert not wrong, wrong
     return compiler.compiled(nodes)
 
 
-def nested(count):
+def nested(count: int) -> bytes:
     """A file of `count` views, each of them around the next."""
     return compiled(FRAME % NAMESPACE + FRAME % "" * (count - 1) + "</FrameLayout>" * count)
 
 
-def refuses_too_many():
+def refuses_too_many() -> str:
     """The first view that is too deep is named, and none of the file is added."""
     script = b"window 8 8\ninflate a.xml\nbounds\nadd root View 1 1\nframe\nbounds\n"
     wanted = b"line 2: refused 20 Depth element %d\nline 3: refused 34 NoRoot\nv1\nsettled 0\nv1 0 0 1 1\n"
     return difference(wanted % (MAX_DEPTH + 1), 1, *over(nested(MAX_DEPTH + 1), script))
 
 
-def adds_as_many_as_fit():
+def adds_as_many_as_fit() -> str:
     script = b"window 8 8\ninflate a.xml\nadd v%d View 1 1\nframe\nbounds v%d\n" % (MAX_DEPTH, MAX_DEPTH)
     wanted = b"inflated v1 v%d ignored 0\nline 3: refused 20 Depth\nsettled 0\nv%d 0 0 8 8\n" % (MAX_DEPTH, MAX_DEPTH)
     return difference(wanted, 1, *over(nested(MAX_DEPTH), script))
 
 
-def counts_the_views_around():
+def counts_the_views_around() -> str:
     wanted = answer("20 Depth element %d" % MAX_DEPTH)
     return difference(*wanted, *over(nested(MAX_DEPTH), INFLATING))
 
 
-def reports_the_first_element_that_is_refused():
+def reports_the_first_element_that_is_refused() -> str:
     """The second element refers to a resource, and the third is no view: which is refused depends on the resource."""
     inside = '<View %s="1px" %s="@7f050001"/><style %s="1px" %s="1px"/>' % (SIZES * 2)
     script = b"window 8 8\ninflate a.xml\nres @7f050001 dimen 1 px\ninflate a.xml\nbounds\n"
@@ -127,7 +128,7 @@ def reports_the_first_element_that_is_refused():
     return difference(wanted, 1, *over(compiled(FRAME % NAMESPACE + inside + "</FrameLayout>"), script))
 
 
-def reports_a_circle_by_its_elements():
+def reports_a_circle_by_its_elements() -> str:
     """The second element and the fourth are each to the right of the other: by ids, of which the last view counts."""
     tied = 'android:id="@7f08000%d" android:layout_toRightOf="@7f08000%d"'
     size = '%s="1px" %s="1px"' % SIZES
@@ -139,11 +140,10 @@ def reports_a_circle_by_its_elements():
     return difference(wanted, 1, *over(compiled(group + inside + "</RelativeLayout>"), script))
 
 
-def checks():
+def checks() -> Checks:
     for at, of_zero, of_greatest in fields():
         yield "broken files: 0 at %d" % at, partial(replaced, at, 0, of_zero)
         yield "broken files: the greatest number at %d" % at, partial(replaced, at, GREATEST, of_greatest)
     for check in (refuses_too_many, adds_as_many_as_fit, counts_the_views_around):
         yield "broken files: nested views, " + check.__name__.replace("_", " "), check
-    for check in (reports_the_first_element_that_is_refused, reports_a_circle_by_its_elements):
-        yield "broken files: " + check.__name__.replace("_", " "), check
+    yield from named("broken files", (reports_the_first_element_that_is_refused, reports_a_circle_by_its_elements))

@@ -1,10 +1,12 @@
-"""Tries tools/page: what it writes, and, where Chromium is on PATH, what a browser shows of it."""
+"""Tries tools/page: what it writes, and what Chromium shows of it."""
 import json
 import os
 import re
 import time
+from typing import Any, Dict, List
 
 import chromium
+from running import Checks, Skipped
 from tools import RED, UNSETTLED, WITHOUT, place, unlike
 
 TOUCHED = """window 160 120
@@ -33,13 +35,13 @@ down 3 10 10
 OUTSIDE = re.compile(rb"""<[a-z][^>]*\s(?:src|href)\s*=|url\(|@import|https?:(?!//www\.w3\.org/2000/svg)""")
 
 
-def data_of(page):
+def data_of(page: bytes) -> Any:
     """The data of a page."""
     text = page.split(b'<script id="data" type="application/json">')[1].split(b"</script>")[0]
     return json.loads(text.decode())
 
 
-def records():
+def records() -> str:
     with place() as it:
         said = ("page: standard input:16:8: 28 NoView: no view has this number or id\n"
                 "page: standard input:20:1: 31 Syntax: no line begins with 'x'\n")
@@ -60,7 +62,7 @@ def records():
         return next(("%r in place of %r" % pair for pair in zip(made, wanted) if pair[0] != pair[1]), "")
 
 
-def limits():
+def limits() -> str:
     with place() as it:
         text = RED + "bg v1 #ff00ff00\nframe\n" * 4
         said = "the page has the first 2 frames, and 3 more are left out"
@@ -77,7 +79,7 @@ def limits():
         return unlike(found, 1, None, "standard input:12:1: 34 NoRoot: the tree has no root") or ("" if lines == [5, 10] else "%s" % lines)
 
 
-def wrong_scripts():
+def wrong_scripts() -> str:
     with place() as it:
         os.mkdir(os.path.join(it.folder, "folder"))
         for text, why in WITHOUT.items():
@@ -95,20 +97,20 @@ def wrong_scripts():
         return why or ("" if it.names() == ["folder", "program"] else "files: %s" % it.names())
 
 
-def facts(browser):
+def facts(browser: chromium.Browser) -> Dict[str, str]:
     """What the page says of the chosen view."""
     names, values = (browser.value("[...document.querySelectorAll('#facts %s')].map(it => it.textContent)" % name)
                      for name in ("dt", "dd"))
     return dict(zip(names, values))
 
 
-def stage(browser):
+def stage(browser: chromium.Browser) -> List[float]:
     """Left, top and width of the picture in the browser's window."""
     box = "document.getElementById('stage').getBoundingClientRect()"
     return [browser.value("%s.%s" % (box, side)) for side in ("left", "top", "width")]
 
 
-def is_shown(browser):
+def is_shown(browser: chromium.Browser) -> str:
     """How what a browser shows of a page is not as it should be."""
     browser.value("document.getElementById('after').click()")
     left, top, width = stage(browser)
@@ -135,7 +137,7 @@ def is_shown(browser):
     return "" if log[:1] == ["line 17: down 0 80 100 → done yes"] and len(log) == 3 else "touches: %s" % log
 
 
-def keeps_its_place(browser):
+def keeps_its_place(browser: chromium.Browser) -> str:
     """How the window scrolls by itself, or the page does not follow the mouse and its address."""
     browser.value("chosen = views[views.length - 1].number; document.activeElement.blur(); scrollTo(0, 0)")
     for act in ("document.getElementById('after').click()", "choose(5, false)", "document.getElementById('before').click()"):
@@ -158,10 +160,9 @@ def keeps_its_place(browser):
     return "" if stage(browser)[2] == 160 else "at 1:1 the picture is %s pixels wide" % stage(browser)[2]
 
 
-def shows():
+def shows() -> str:
     if not chromium.COMMAND:
-        print("note: no page is opened in a browser, since there is no chromium on PATH")
-        return ""
+        raise Skipped("chromium")
     with place() as it:
         it.call("page", "-", "a.html", given=TOUCHED)
         for width, is_dark in ((1200, False), (360, True)):
@@ -180,7 +181,7 @@ def shows():
         return ""
 
 
-def checks():
+def checks() -> Checks:
     yield "the page: records", records
     yield "the page: limits", limits
     yield "the page: wrong scripts", wrong_scripts

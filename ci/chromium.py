@@ -7,6 +7,7 @@ import shutil
 import subprocess
 import tempfile
 import time
+from typing import Any
 
 COMMAND = shutil.which("chromium") or shutil.which("chromium-browser") or shutil.which("google-chrome")
 FLAGS = ["--headless=new", "--no-sandbox", "--disable-gpu", "--disable-dev-shm-usage", "--no-first-run",
@@ -17,7 +18,7 @@ SECONDS = 120
 class Browser:
     """One page of a browser. In a `with` statement it ends at its end."""
 
-    def __init__(self, width, height, is_dark=False):
+    def __init__(self, width: int, height: int, is_dark: bool = False):
         self.folder = tempfile.mkdtemp()
         theirs_in, self.into = os.pipe()
         self.out, theirs_out = os.pipe()
@@ -31,26 +32,26 @@ class Browser:
         scheme = {"name": "prefers-color-scheme", "value": "dark" if is_dark else "light"}
         self.ask("Emulation.setEmulatedMedia", features=[scheme])
 
-    def started(self, theirs_in, theirs_out):
+    def started(self, theirs_in: int, theirs_out: int) -> "subprocess.Popen[bytes]":
         """The process, whose descriptors 3 and 4 are the ends of the pipes."""
 
-        def place():
+        def place() -> None:
             # out of the way first, since either may be 3 or 4
             kept = [os.dup(theirs_in), os.dup(theirs_out)]
             kept = [it if it > 4 else os.dup(os.dup(os.dup(it))) for it in kept]
             os.dup2(kept[0], 3)
             os.dup2(kept[1], 4)
 
-        words = [COMMAND, "--user-data-dir=" + self.folder, *FLAGS]
+        words = [str(COMMAND), "--user-data-dir=" + self.folder, *FLAGS]
         return subprocess.Popen(
             words, preexec_fn=place, pass_fds=(3, 4), stdin=subprocess.DEVNULL, stdout=subprocess.DEVNULL,
             stderr=subprocess.DEVNULL
         )
 
-    def __enter__(self):
+    def __enter__(self) -> "Browser":
         return self
 
-    def __exit__(self, *_):
+    def __exit__(self, *_: object) -> None:
         self.process.terminate()
         try:
             self.process.wait(10)
@@ -61,7 +62,7 @@ class Browser:
         os.close(self.out)
         shutil.rmtree(self.folder, ignore_errors=True)
 
-    def message(self, until):
+    def message(self, until: float) -> Any:
         """The next message of the browser."""
         while b"\0" not in self.left:
             if not select.select([self.out], [], [], max(0, until - time.monotonic()))[0]:
@@ -73,7 +74,7 @@ class Browser:
         text, _, self.left = self.left.partition(b"\0")
         return json.loads(text.decode())
 
-    def ask(self, method, **parameters):
+    def ask(self, method: str, **parameters: Any) -> Any:
         """Sends a command, and returns its result."""
         self.count += 1
         asked = {"id": self.count, "method": method, "params": parameters}
@@ -88,14 +89,14 @@ class Browser:
                     raise RuntimeError("%s: %s" % (method, found["error"]["message"]))
                 return found["result"]
 
-    def value(self, expression):
+    def value(self, expression: str) -> Any:
         """The value of an expression of the page."""
         found = self.ask("Runtime.evaluate", expression=expression, returnByValue=True)
         if "exceptionDetails" in found:
             raise RuntimeError("%s: %s" % (expression, found["exceptionDetails"].get("exception")))
         return found["result"].get("value")
 
-    def open(self, path):
+    def open(self, path: str) -> None:
         """Opens a file, and waits until it is loaded."""
         self.ask("Page.navigate", url="file://" + path)
         until = time.monotonic() + SECONDS
@@ -104,16 +105,16 @@ class Browser:
                 raise TimeoutError("the page does not load within %d seconds" % SECONDS)
             time.sleep(0.05)
 
-    def click(self, x, y):
+    def click(self, x: float, y: float) -> None:
         """Clicks at a place of the window."""
         for kind, button in (("mouseMoved", "none"), ("mousePressed", "left"), ("mouseReleased", "left")):
             self.ask("Input.dispatchMouseEvent", type=kind, x=x, y=y, button=button, clickCount=int(button == "left"))
 
-    def press(self, key):
+    def press(self, key: str) -> None:
         """Presses a key and releases it."""
         for kind in ("keyDown", "keyUp"):
             self.ask("Input.dispatchKeyEvent", type=kind, key=key, code=key)
 
-    def screenshot(self):
+    def screenshot(self) -> bytes:
         """What is shown, as the bytes of a PNG file."""
         return base64.b64decode(self.ask("Page.captureScreenshot", format="png")["data"])

@@ -5,8 +5,12 @@ used is missed but what the language reads in without its name, and a local vari
 """
 import os
 import re
+from typing import Dict, Iterator, List, Sequence, Set, Tuple
 
 from running import TOP
+
+# by the module and the name
+Known = Dict[str, Dict[str, "Definition"]]
 
 CRATES = os.path.join(TOP, "crates")
 TOKEN = re.compile(r"[^\s(){}\[\],.;]+")
@@ -30,12 +34,12 @@ class Definition:
     """A definition or a lemma, or all of a module with parameters: its file's module, its name, the line at which it
     begins, and the names that it gives."""
 
-    def __init__(self, module, name, path, line, kind):
+    def __init__(self, module: str, name: str, path: str, line: int, kind: str):
         self.module, self.name, self.path, self.line, self.kind = module, name, path, line, kind
-        self.lines = []
+        self.lines: List[str] = []
         self.names = {name}
 
-    def end(self):
+    def end(self) -> None:
         """Takes its text as whole."""
         text = COMMENT.sub("", "\n".join(self.lines))
         self.tokens = set(TOKEN.findall(text))
@@ -46,12 +50,13 @@ class Definition:
 class File:
     """A file of definitions, or of code: its imports and the definitions in it."""
 
-    def __init__(self, path):
+    def __init__(self, path: str):
         self.path = path
         with open(path, encoding="utf-8") as file:
             self.text = file.read()
         lines = self.text.split("\n")
-        self.imports, self.modules = {}, set()
+        self.imports: Dict[str, Set[Tuple[str, str]]] = {}
+        self.modules: Set[str] = set()
         for found in filter(None, map(IMPORT.match, filter(IS_IMPORT.match, lines))):
             module, names, alias = found.groups()
             if alias or not names:
@@ -61,9 +66,10 @@ class File:
                 self.imports.setdefault(other or own, set()).add((module, own))
         # the text without imports
         self.body = "\n".join(line for line in lines if not IS_IMPORT.match(line))
-        self.definitions, self.own = [], {}
+        self.definitions: List[Definition] = []
+        self.own: Dict[str, Definition] = {}
 
-    def uses(self, tokens, known):
+    def uses(self, tokens: Set[str], known: Known) -> Iterator[Definition]:
         """What tokens of the file mean, of what is known by its module and its name."""
         for token in tokens & self.own.keys():
             yield self.own[token]
@@ -72,20 +78,20 @@ class File:
         for module in self.modules & known.keys():
             yield from (known[module][name] for name in tokens & known[module].keys())
 
-    def named(self, known):
+    def named(self, known: Known) -> Iterator[Definition]:
         """The lemmas that are named by their paths."""
         crate = os.path.relpath(self.path, CRATES).split(os.sep)[0]
         for first, rest in PATH.findall(self.body):
-            *module, name = [crate if first == "crate" else first, *rest.split("::")]
-            yield from filter(None, [known.get("Rattle." + ".".join(module), {}).get(name)])
+            module, _, name = ".".join([crate if first == "crate" else first, *rest.split("::")]).rpartition(".")
+            yield from filter(None, [known.get("Rattle." + module, {}).get(name)])
 
 
-def module_of(path):
+def module_of(path: str) -> str:
     """The module of a file below crates/."""
     return "Rattle." + os.path.relpath(path, CRATES)[: -len(".antt")].replace(os.sep, ".")
 
 
-def parsed(path):
+def parsed(path: str) -> File:
     """A file with its definitions."""
     file, last = File(path), None
     for number, line in enumerate(file.text.split("\n"), 1):
@@ -103,7 +109,7 @@ def parsed(path):
     return file
 
 
-def files_below(ending, folders):
+def files_below(ending: str, folders: Sequence[str]) -> Iterator[str]:
     """The files of these folders of all crates that have an ending."""
     for crate in sorted(os.listdir(CRATES)):
         for folder in folders:
@@ -112,22 +118,22 @@ def files_below(ending, folders):
                 yield from (os.path.join(at, name) for name in sorted(names) if name.endswith(ending))
 
 
-def is_root(path):
+def is_root(path: str) -> bool:
     """Whether all of a file is read for a proof of code: what answers the goals of a function."""
     return os.path.basename(path) in ("Answers.antt", "Invariants.antt")
 
 
-def is_example(path):
+def is_example(path: str) -> bool:
     """Whether a file has worked examples, which are there for their own sake."""
     return path.endswith("Examples.antt")
 
 
-def all_files():
+def all_files() -> List[File]:
     """All files of definitions and lemmas."""
     return [parsed(path) for path in files_below(".antt", ("specs", "proofs"))]
 
 
-def is_for_its_own_sake(file, it):
+def is_for_its_own_sake(file: File, it: Definition) -> bool:
     """Whether the comment above a definition, or at the head of its file, says that nothing has to use it."""
     lines = file.text.split("\n")
     above = it.line - 1
@@ -136,14 +142,14 @@ def is_for_its_own_sake(file, it):
     return any(OWN_SAKE.match(line) for line in (lines[0], lines[above]))
 
 
-def unreached(files):
+def unreached(files: List[File]) -> Iterator[Definition]:
     """The definitions and lemmas that no code, no answer to a goal of code, and nothing that is for its own sake uses in
     any way. Those whose name has holes are not looked at, since the language uses some of them without their names."""
     places = {it: file for file in files for it in file.definitions}
-    known = {}
+    known: Known = {}
     for it in places:
         known.setdefault(it.module, {}).update(dict.fromkeys(it.names, it))
-    ready = []
+    ready: List[Definition] = []
     for code in map(File, files_below(".rt", ("src",))):
         ready += code.uses(set(TOKEN.findall(RUST_COMMENT.sub("", code.body))), known)
         ready += code.named(known)

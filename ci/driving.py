@@ -2,8 +2,9 @@
 import contextlib
 import os
 import tempfile
+from typing import Any, Callable, Iterable, Iterator, List, Optional, Tuple
 
-from running import TOP
+from running import TOP, Checks, named
 from tools import place
 from vindaesk.common.failures import Failure
 from vindaesk.pictures import png
@@ -12,7 +13,7 @@ from vindaesk.session import Bounds, Frame, Inflated, LineRefused, Session
 EXAMPLES = os.path.join(TOP, "examples")
 
 
-def refusal(act, *words):
+def refusal(act: Callable[..., object], *words: Any) -> str:
     """The number, the name and what follows of the refusal that a call raises."""
     try:
         return "no refusal, but %s" % (act(*words),)
@@ -20,12 +21,12 @@ def refusal(act, *words):
         return "%d %s%s" % (refused.number, refused.name, refused.detail)
 
 
-def unlike(pairs):
+def unlike(pairs: Iterable[Tuple[object, object]]) -> str:
     """The first of some pairs whose parts differ, or nothing."""
     return next(("%r in place of %r" % pair for pair in pairs if pair[0] != pair[1]), "")
 
 
-def lays_out():
+def lays_out() -> str:
     with Session(EXAMPLES) as s:
         s.window(100, 50)
         root = s.add("root", "FrameLayout", "match", "match")
@@ -42,10 +43,10 @@ def lays_out():
     return unlike(zip(made, wanted))
 
 
-def inflates():
+def inflates() -> str:
     with Session(EXAMPLES) as s:
         s.window(100, 100)
-        made = [refusal(s.inflate, "dimens.xml"), refusal(s.inflate, "cut_short.xml"), refusal(s.inflate, "no.xml")]
+        made: List[object] = [refusal(s.inflate, it) for it in ("dimens.xml", "cut_short.xml", "no.xml")]
         for number, values in ((6, (40, "px")), (2, (30, "dp")), (15, (1, "in")), (4, (3, "dp"))):
             s.res("@7f0600%02x" % number, "dimen", *values)
         made += [s.inflate("dimens.xml"), s.frame().is_settled, s.bounds("v2")]
@@ -54,9 +55,10 @@ def inflates():
     return unlike(zip(made, wanted))
 
 
-def refuses():
+def refuses() -> str:
     with Session() as s:
-        made = [refusal(s.line, "ad x"), refusal(s.frame), refusal(s.add, "v1", "View", 1, 1), refusal(s.digest)]
+        made: List[object] = [refusal(s.line, "ad x"), refusal(s.frame), refusal(s.add, "v1", "View", 1, 1)]
+        made += [refusal(s.digest)]
         s.window(9, 9)
         root = s.add("root", "View", 1, 1)
         made += [refusal(s.bounds, root), refusal(s.bounds, "v7"), refusal(s.set, root, "text", "a"),
@@ -69,18 +71,24 @@ def refuses():
     return unlike(zip(made, wanted))
 
 
-def touches():
+def scroll_of(s: Session) -> Optional[int]:
+    """How far the view @2 is scrolled."""
+    bounds = s.bounds("@2")
+    return bounds.scroll if bounds else None
+
+
+def touches() -> str:
     with Session() as s:
         s.script("window 50 40\nadd root ScrollView match match\nadd v1 LinearLayout match wrap\norient v2 vertical")
         s.script("add v2 View match 30\nadd v2 View match 70\nanswer v3 click\nid v3 @1\nid v1 @2\nframe")
-        made = [s.tap("@1"), s.drag("@2", 0, -24, steps=3)[-4:], s.bounds("@2").scroll, s.in_window("@1")]
+        made: List[object] = [s.tap("@1"), s.drag("@2", 0, -24, steps=3)[-4:], scroll_of(s), s.in_window("@1")]
         state = s.save()
         s.frame()
         made += [s.in_window("@1"), s.seen("@1"), s.tree()[2].window]
         s.set("@2", "scroll", 0)
         s.restore(state)
         s.frame()
-        made += [s.bounds("@2").scroll, s.remove("v3")]
+        made += [scroll_of(s), s.remove("v3")]
     wanted = [["v1 ask DOWN 0:25,15 no", "v2 ask DOWN 0:25,15 no", "v3 touch DOWN 0:25,15 yes", "done yes",
                "v1 ask UP 0:25,15 no", "v2 ask UP 0:25,15 no", "v3 touch UP 0:25,15 yes", "v3 click", "done yes"],
               ["v1 scroll 8", "done yes", "v1 touch UP 0:25,-4 yes", "done yes"], 8, (0, -8, 50, 22), (0, -8, 50, 22),
@@ -88,7 +96,7 @@ def touches():
     return unlike(zip(made, wanted))
 
 
-def takes_pictures():
+def takes_pictures() -> str:
     with tempfile.TemporaryDirectory() as folder, Session() as s:
         s.script("window 2 3\nadd root View match match\nbg v1 #ffff0000\nframe")
         path = os.path.join(folder, "a.png")
@@ -98,7 +106,7 @@ def takes_pictures():
         return unlike([(s.picture(), png.Picture(2, 3, [b"\xff\0\0" * 2] * 3)), (scaled.rows, [b"\xff\0\0" * 4] * 6)])
 
 
-def failure(act, *words):
+def failure(act: Callable[..., object], *words: str) -> str:
     """The sentence and the status of the failure that a call raises."""
     try:
         return "no failure, but %s" % (act(*words),)
@@ -109,7 +117,7 @@ def failure(act, *words):
 
 
 @contextlib.contextmanager
-def stand_in(act):
+def stand_in(act: str) -> Iterator[None]:
     """Sessions in here have a program that does this."""
     kept = dict(os.environ)
     with place() as it:
@@ -121,7 +129,7 @@ def stand_in(act):
             os.environ.update(kept)
 
 
-def ends_early():
+def ends_early() -> str:
     made = []
     for act in ("kill -9 $$", "exit 5", "exit 0", "read line; echo nonsense"):
         with stand_in(act), Session() as s:
@@ -138,6 +146,5 @@ def ends_early():
     return unlike(zip(made, wanted))
 
 
-def checks():
-    for check in (lays_out, inflates, refuses, touches, takes_pictures, ends_early):
-        yield "a session: " + check.__name__.replace("_", " "), check
+def checks() -> Checks:
+    yield from named("a session", (lays_out, inflates, refuses, touches, takes_pictures, ends_early))

@@ -3,8 +3,8 @@ with them."""
 import json
 import os
 
-from running import TOP
-from tools import RED, first, place, unlike
+from running import TOP, Checks, named
+from tools import Ended, Place, RED, first, place, unlike
 from vindaesk.pictures import png
 
 EXAMPLES = os.path.join(TOP, "examples")
@@ -20,7 +20,7 @@ bounds @id/reply
 """
 
 
-def names_everywhere():
+def names_everywhere() -> str:
     """The same script by names as by numbers, and what shows the names."""
     with place() as it:
         it.put("a.script", NAMED)
@@ -40,7 +40,7 @@ def names_everywhere():
         return why or unlike(it.call("tree", "a.script", "--ids", "no.txt"), 2, b"", "no.txt cannot be read: No such")
 
 
-def unknown_names():
+def unknown_names() -> str:
     with place() as it:
         it.put("a.script", "window 9 9\nadd root View 1 1\nid v1 @id/repli\nbounds @id/x @id/y\n")
         said = "a.script:3:7: @id/repli has no id, since there is no list ids.txt; --ids FILE names another one; and 2 "
@@ -57,7 +57,7 @@ def unknown_names():
         return why or ("" if it.names() == ["a.script", "ids.txt"] else "files: %s" % it.names())
 
 
-def keeps_names():
+def keeps_names() -> str:
     """An answer with names passes after each id has changed, and one with numbers as long as they are right."""
     with place() as it:
         it.put("a.script", NAMED.replace("frame\n", "add @id/card ScrollView 9 9\nid v3 @id/list\nframe\nsave\n"))
@@ -80,7 +80,7 @@ def keeps_names():
         return why or unlike(it.call("runall", "a.script"), 1, None, "")
 
 
-def includes_files():
+def includes_files() -> str:
     with place() as it:
         for folder in ("in", "in/deep"):
             os.mkdir(os.path.join(it.folder, folder))
@@ -98,10 +98,10 @@ def includes_files():
         it.call("runall", ".", "--accept")
         answer = (b"v1\nin/deep/c d.lines line 2: refused 28 NoView\nin/b.lines line 3: refused 31 Syntax\nsettled 0\n"
                   b"v1 0 0 2 3\nline 5: refused 31 Syntax\n")
-        return why or ("" if it.read("a.answer") == answer else "the answer is %s" % it.read("a.answer"))
+        return why or ("" if it.read("a.answer") == answer else "the answer is %r" % it.read("a.answer"))
 
 
-def refuses_includes():
+def refuses_includes() -> str:
     with place() as it:
         it.put("a.lines", "include b.lines\n")
         it.put("b.lines", "\ninclude a.lines\n")
@@ -144,7 +144,7 @@ picture = false
 ROOT = "dpi 160\nadd root LinearLayout match match\nbg v1 #ff00ff00\nadd v1 View 10 10\nbg v2 #ffff0000\nframe\nbounds\n"
 
 
-def tries_configurations():
+def tries_configurations() -> str:
     """What the configurations of a file make of a script: an answer and a picture each."""
     with place() as it:
         it.put("vindaesk.toml", MATRIX)
@@ -176,7 +176,7 @@ def tries_configurations():
         return why or unlike(it.call("runall", "."), 1, said, "")
 
 
-def draws_configurations():
+def draws_configurations() -> str:
     """screenshot, page and tree in configurations."""
     with place() as it:
         it.put("a.toml", MATRIX)
@@ -200,7 +200,7 @@ def draws_configurations():
                              "b.script has no configurations: there is no b.toml beside it, and no vindaesk.toml\n")
 
 
-def wrong_configurations():
+def wrong_configurations() -> str:
     said = {
         "": "a.toml: it has no configuration, as [landscape] with window = [640, 360]\n",
         "[a]\nwindwo = [1, 2]": "a.toml:2: there is no key 'windwo'; did you mean 'window'?\n",
@@ -245,7 +245,7 @@ bounds
 """
 
 
-def put_cards(it):
+def put_cards(it: Place) -> None:
     """Three cases, of which two fail: one by its picture, one by both; and one that has no answer yet."""
     it.put("ids.txt", IDS)
     it.put("vindaesk.toml", "picture = true\n[small]\nwindow = [60, 40]\n[large]\nwindow = [80, 40]\n")
@@ -257,12 +257,12 @@ def put_cards(it):
     it.put("b.script", CARD.replace("frame", "size v2 30 16\nframe") % "Reply")
 
 
-def last_line(found):
+def last_line(found: Ended) -> str:
     """The last line that a tool wrote."""
     return found[1].decode().rstrip("\n").split("\n")[-1]
 
 
-def leaves_a_report():
+def leaves_a_report() -> str:
     with place() as it:
         put_cards(it)
         found = it.call("runall", ".", "--report", "out", "--junit", "j.xml")
@@ -293,7 +293,7 @@ def leaves_a_report():
         return why or unlike(it.call("runall", ".", "--report", "."), 2, b"", ". has files that are of no report\n")
 
 
-def accepts_some():
+def accepts_some() -> str:
     with place() as it:
         put_cards(it)
         calls = [
@@ -306,7 +306,7 @@ def accepts_some():
         for words, wanted in calls:
             found = it.call("runall", ".", *words, **home)
             if last_line(found) != wanted:
-                return "%s: it writes %s%s" % (words, found[1], found[2])
+                return "%s: it writes %r%s" % (words, found[1], found[2])
         it.put("a.script", CARD % "Other")
         why = unlike(it.call("runall", "--accept", ".", **home), 0, None, "")
         why = why or unlike(it.call("runall", ".", "--accept", "b@smal"), 2, b"", "no case is named 'b@smal'; did you mean 'b@small'?\n")
@@ -318,7 +318,7 @@ def accepts_some():
         return why or unlike(it.call("runall"), 2, b"", "the following arguments are required: DIR")
 
 
-def takes_configurations_of_the_call():
+def takes_configurations_of_the_call() -> str:
     with place() as it:
         it.put("a.script", ROOT)
         it.put("x.lines", "")
@@ -332,14 +332,14 @@ def takes_configurations_of_the_call():
         return why or first(unlike(it.call("runall", ".", *more), 2, b"", what) for more, what in said.items())
 
 
-def keeps_the_sum():
+def keeps_the_sum() -> str:
     """Places that cannot be written are known before the run, and pipes are no scripts."""
     with place() as it:
         it.put("a.script", RED)
         it.put("a.answer", "v1\nsettled 0\n")
-        said = {("--junit", "no/x.xml"): "no/x.xml cannot be written: No such file", ("--junit", "-"): "--junit takes a file",
+        wrong = {("--junit", "no/x.xml"): "no/x.xml cannot be written: No such file", ("--junit", "-"): "--junit takes a file",
                 ("--junit", "."): ". cannot be written: it is no file", ("--report", "a.script"): "a.script cannot be made: File exists"}
-        why = first(unlike(it.call("runall", ".", *words), 2, b"", what) for words, what in said.items())
+        why = first(unlike(it.call("runall", ".", *words), 2, b"", what) for words, what in wrong.items())
         os.mkfifo(os.path.join(it.folder, "b.script"))
         it.put("b.answer", "x")
         started = it.start("tools/runall", ".")
@@ -352,7 +352,7 @@ def keeps_the_sum():
         return why or ("" if b"a.answer is no file\n0 passed, 1 failed\n" in out else "%r" % out)
 
 
-def finds_regions():
+def finds_regions() -> str:
     with place() as it:
         it.put("ids.txt", IDS)
         it.put("a.script", CARD % "Reply")
@@ -373,8 +373,9 @@ def finds_regions():
         return why
 
 
-def checks():
-    for check in (names_everywhere, unknown_names, keeps_names, includes_files, refuses_includes, tries_configurations,
-                  draws_configurations, wrong_configurations, leaves_a_report, accepts_some,
-                  takes_configurations_of_the_call, keeps_the_sum, finds_regions):
-        yield "golden tests: " + check.__name__.replace("_", " "), check
+def checks() -> Checks:
+    yield from named("golden tests", (
+        names_everywhere, unknown_names, keeps_names, includes_files, refuses_includes, tries_configurations,
+        draws_configurations, wrong_configurations, leaves_a_report, accepts_some, takes_configurations_of_the_call,
+        keeps_the_sum, finds_regions
+    ))

@@ -6,8 +6,9 @@ import os
 import random
 import re
 import tempfile
+from typing import Dict, Iterator, List, Sequence, Tuple
 
-from running import PROGRAM, TOP, run
+from running import PROGRAM, TOP, Checks, named, run
 from tools import place, unlike
 from vindaesk.scripts import grammar, refusals
 
@@ -27,7 +28,7 @@ COUNT = 40
 JOINED = ("pixels", "weight", "weightsum")
 
 
-def page_rows():
+def page_rows() -> Iterator[Tuple[List[str], str]]:
     """The forms of each row of the page's table, and its text."""
     with open(PAGE, encoding="utf-8") as file:
         text = file.read()
@@ -37,20 +38,20 @@ def page_rows():
         yield re.findall(r"`([^`]+)`", line), effect.replace("\\|", "|")
 
 
-def has_page_forms():
+def has_page_forms() -> str:
     wanted = [form for forms, _ in page_rows() for form in forms]
     found = list(dict.fromkeys(form.words for form in grammar.FORMS))
     return "" if found == wanted else "the page has %s, and the table %s" % (
         sorted(set(wanted) - set(found)), sorted(set(found) - set(wanted)))
 
 
-def has_page_words():
+def has_page_words() -> str:
     """The page has each word that may be in a place of a form in a row of forms that begin alike, and its bounds."""
     with open(PAGE, encoding="utf-8") as file:
         page = file.read()
     before = page[page.index("\n## Lines") : page.index("| line | effect | reply |")]
     whole = before + "".join(effect for _, effect in page_rows())
-    texts = {}
+    texts: Dict[str, str] = {}
     for forms, effect in page_rows():
         word = forms[0].split(" ")[0]
         texts[word] = texts.get(word, before) + effect
@@ -65,19 +66,19 @@ def has_page_words():
 
 
 @functools.lru_cache(None)
-def fitting(slot):
+def fitting(slot: grammar.Slot) -> Sequence[str]:
     """The words that may be in a place."""
     return [it for it in WORDS if slot.kind.fits(it)] or WORDS
 
 
-def sample(draw, slot):
+def sample(draw: random.Random, slot: grammar.Slot) -> str:
     """A word that may be in a place, or one that may not."""
     if slot.kind.choices and draw.random() < 0.7:
         return draw.choice(slot.kind.choices)
     return draw.choice(fitting(slot) if draw.random() < 0.9 else WORDS)
 
 
-def lines(draw):
+def lines(draw: random.Random) -> Iterator[str]:
     """Lines of each form, many of them with something wrong."""
     for form in grammar.FORMS * COUNT:
         words = [sample(draw, slot) for slot in form.slots]
@@ -98,7 +99,7 @@ def lines(draw):
         yield line if not line.startswith("#") else " " + line
 
 
-def reads_as_the_program():
+def reads_as_the_program() -> str:
     draw = random.Random(20261128)
     made = list(lines(draw))
     with tempfile.TemporaryDirectory() as folder:
@@ -119,7 +120,7 @@ def reads_as_the_program():
 NO_LINES = {("42", "NotTable"), ("43", "NoPane")}
 
 
-def has_page_refusals():
+def has_page_refusals() -> str:
     """The refusals of both pages, less those that no line of `run` has."""
     named = set()
     for page in ("SCRIPT.md", "FORMATS.md"):
@@ -172,7 +173,7 @@ frame
 """.replace("\n>", "").strip("\n").split("\n")
 
 
-def places_of(lines):
+def places_of(lines: Sequence[str]) -> Tuple[str, str]:
     """The script of such lines, and what is written of it."""
     script, written = [], []
     for number, line in enumerate(lines, 1):
@@ -183,7 +184,7 @@ def places_of(lines):
     return "\n".join([*script, ""]), "\n".join([*written, ""])
 
 
-def finds_refused_lines():
+def finds_refused_lines() -> str:
     script, written = places_of(LINES)
     with place() as it:
         for name in ("cut_short.xml", "a.xml"):
@@ -224,7 +225,7 @@ ELEMENTS = (
 )
 
 
-def names_elements():
+def names_elements() -> str:
     with place() as it:
         for number, (kind, rest, said) in enumerate(ELEMENTS):
             name = "a%d.xml" % number
@@ -235,11 +236,11 @@ def names_elements():
             if why:
                 return "%s %s: %s" % (kind, rest, why)
         it.put("a.xml", LAYOUT)
-        wanted = b"-:1:9: 5 NotXml: this is the source of a layout; tools/axml compiles it\n"
-        return unlike(it.call("check", "-", given="inflate a.xml"), 1, wanted, "")
+        said = "-:1:9: 5 NotXml: this is the source of a layout; tools/axml compiles it\n"
+        return unlike(it.call("check", "-", given="inflate a.xml"), 1, said.encode(), "")
 
 
-def writes_for_github():
+def writes_for_github() -> str:
     with place() as it:
         it.put("a,b%.script", "add root View 1 100%\n")
         wanted = (b"::error file=a%2Cb%25.script,line=1,col=17,title=31 Syntax::'100%25' does not fit: "
@@ -247,7 +248,7 @@ def writes_for_github():
         return unlike(it.call("check", "--format", "github", "./a,b%.script"), 1, wanted, "")
 
 
-def finds_to_the_end():
+def finds_to_the_end() -> str:
     """What was found before the program ended, a long script, and bytes that are no text."""
     with place() as it:
         os.mkdir(os.path.join(it.folder, "folder"))
@@ -264,7 +265,8 @@ def finds_to_the_end():
         return why or unlike(it.call("check", "b.script"), 1, wanted, "")
 
 
-def checks():
-    for check in (has_page_forms, has_page_words, has_page_refusals, reads_as_the_program, finds_refused_lines,
-                  names_elements, writes_for_github, finds_to_the_end):
-        yield "the forms of lines: " + check.__name__.replace("_", " "), check
+def checks() -> Checks:
+    yield from named("the forms of lines", (
+        has_page_forms, has_page_words, has_page_refusals, reads_as_the_program, finds_refused_lines, names_elements,
+        writes_for_github, finds_to_the_end
+    ))

@@ -8,15 +8,15 @@ import time
 import zipfile
 import zlib
 from functools import partial
+from typing import Callable, Dict, List, Tuple, Type
 
-import apps
-from running import TOP
+from running import TOP, Checks, named
 from tools import RED, coded, place, unlike
 from vindaesk.apps import unpacker
 from vindaesk.common import toml
 from vindaesk.common.failures import Failure
 from vindaesk.layouts import compiler, documents, source_reader, source_writer
-from vindaesk.layouts.documents import ANDROID, Namespace, Start
+from vindaesk.layouts.documents import ANDROID, End, Namespace, Node, Start
 from vindaesk.pictures import png
 from vindaesk.scripts import names, resource_names, script
 from vindaesk.testing import configurations
@@ -28,7 +28,7 @@ QUICK = 10
 HEAD = '<View xmlns:android="%s" android:layout_width="1px" android:layout_height="1px" ' % ANDROID
 
 
-def quickly(act):
+def quickly(act: Callable[[], str]) -> str:
     """How a call takes too long, or what it returns."""
     begun = time.monotonic()
     why = act()
@@ -36,12 +36,12 @@ def quickly(act):
     return why or ("it takes %.1f s" % seconds if seconds > QUICK else "")
 
 
-def compile_source(text, ids=b""):
+def compile_source(text: str, ids: bytes = b"") -> str:
     nodes, wrong = source_reader.read(text.encode(), "a.xml", resource_names.Names(ids, "ids.txt"))
     return wrong[0] if wrong else "%d bytes" % len(compiler.compiled(nodes))
 
 
-def takes_large_sources():
+def takes_large_sources() -> str:
     """Sources of which each would take minutes in a time that grows as the square of its size."""
     spaces = " ".join('xmlns:a%d="urn:%d"' % (number, number) for number in range(20000))
     ids = "".join('<View android:id="@+id/a%d" android:layout_width="1px" android:layout_height="1px"/>' % number
@@ -63,7 +63,7 @@ def takes_large_sources():
     return ""
 
 
-def refuses_odd_sources():
+def refuses_odd_sources() -> str:
     said = {
         '<?xml version="1.0" encoding="%s"?><View/>' % name: "a.xml:1:1: this is no XML in an encoding that can be read: "
         for name in ("foo", "utf-32", "shift_jis", "gbk", "idna", "punycode", "undefined")
@@ -80,7 +80,7 @@ def refuses_odd_sources():
         return "" if it.names() == ["a.xml"] else "files: %s" % it.names()
 
 
-def notes_slips():
+def notes_slips() -> str:
     with place() as it:
         it.put("a.xml", HEAD + 'android:layout_widht="1dp" android:txet="a" android:maxHeight="1dp"/>')
         said = ("axml: a.xml:1:1: android:layout_widht is passed over; did you mean 'layout_width'?\n"
@@ -88,28 +88,28 @@ def notes_slips():
         return unlike(it.call("axml", "a.xml", "b.xml"), 0, b"", said)
 
 
-def writes_no_other_attributes():
+def writes_no_other_attributes() -> str:
     """A file whose namespace would break out of its quotation marks, and others that no source can have."""
     evil = 'x="urn:v" android:text="evil" xmlns:q'
     spaces = [(evil, "urn:u"), ("a b", "urn:u"), ("a", "urn:\x01"), ("xml", "urn:u"), ("xmlns", "urn:u"), ("a", ""),
               ("b", "http://www.w3.org/2000/xmlns/")]
     for prefix, address in spaces:
-        nodes = [Namespace(prefix, address, True), Start(1, "", "View", []), documents.End(1, "", "View"),
-                 Namespace(prefix, address, False)]
+        nodes: List[Node] = [Namespace(prefix, address, True), Start(1, "", "View", []), End(1, "", "View"),
+                             Namespace(prefix, address, False)]
         try:
             return "%r is written: %s" % (prefix, source_writer.text(nodes, resource_names.Names()))
         except Failure as failure:
             if "can be in no source" not in str(failure) and "is no name" not in str(failure):
                 return str(failure)
     with place() as it:
-        nodes = [Namespace(evil, "urn:u", True), Start(1, "", "View", []), documents.End(1, "", "View"),
+        nodes = [Namespace(evil, "urn:u", True), Start(1, "", "View", []), End(1, "", "View"),
                  Namespace(evil, "urn:u", False)]
         it.put("a.xml", compiler.compiled(nodes))
         return unlike(it.call("axml", "--text", "a.xml", "b.xml"), 2, b"", "is no name") or (
             "" if it.names() == ["a.xml"] else "files: %s" % it.names())
 
 
-def reads_large_pictures():
+def reads_large_pictures() -> str:
     """A picture of a million pixels, by each filter; and one that is larger than any screen."""
     side = 1000
     row = bytes(range(250)) * 12
@@ -127,7 +127,7 @@ def reads_large_pictures():
     return "a picture of 25 million pixels is read"
 
 
-def archive(files):
+def archive(files: Dict[str, bytes]) -> bytes:
     """An archive of some files."""
     body = io.BytesIO()
     with zipfile.ZipFile(body, "w", zipfile.ZIP_DEFLATED) as file:
@@ -136,7 +136,7 @@ def archive(files):
     return body.getvalue()
 
 
-def unpacks_odd_apps():
+def unpacks_odd_apps() -> str:
     source = HEAD + 'android:background="@7f040000"/>'
     nodes, _ = source_reader.read(source.encode(), "a.xml", resource_names.Names())
     page = compiler.compiled(nodes)
@@ -151,7 +151,7 @@ def unpacks_odd_apps():
         return why or unlike(it.call("unpack", "b.apk", "made"), 1, listed, said)
 
 
-def names_files_of_apps():
+def names_files_of_apps() -> str:
     """A drawable that a layout names is no text, and `check` says which kind is wanted."""
     answer, path = '7f040000 text "res/drawable/pill.xml"', "res/drawable/pill.xml"
     found = [unpacker.line_of(answer, {path}), unpacker.line_of(answer, {"other"})]
@@ -162,12 +162,12 @@ def names_files_of_apps():
         source = HEAD + 'android:background="@7f040000"/>'
         nodes, _ = source_reader.read(source.encode(), "a.xml", resource_names.Names())
         it.put("a.xml", compiler.compiled(nodes))
-        found = it.call("check", "-", given="window 9 9\nres @7F040000 text x\ninflate a.xml\n")
+        ended = it.call("check", "-", given="window 9 9\nres @7F040000 text x\ninflate a.xml\n")
         said = b"this resource is a text; here has to be a colour"
-        return unlike(found, 1, None, "") or ("" if said in found[1] else "%r" % found[1])
+        return unlike(ended, 1, None, "") or ("" if said in ended[1] else "%r" % ended[1])
 
 
-def says_byte_order_mark():
+def says_byte_order_mark() -> str:
     with place() as it:
         it.put("a.script", b"\xef\xbb\xbf" + RED.encode())
         wanted = b"a.script:1:1: 31 Syntax: the file begins with a byte order mark; save it as UTF-8 without one\n"
@@ -177,8 +177,15 @@ def says_byte_order_mark():
 
 # texts made at random
 
+Reader = Callable[[bytes], object]
 
-def changed(draw, text):
+
+def readers() -> List[str]:
+    """The names of the readers."""
+    return ["sources of layouts", "pictures", "configurations", "lists of ids", "scripts", "names of ids", "documents"]
+
+
+def changed(draw: random.Random, text: bytes) -> bytes:
     """A text with some bytes changed, taken away, doubled, or put elsewhere."""
     made = bytearray(text)
     for _ in range(draw.choice((1, 1, 2, 5, 20))):
@@ -198,39 +205,38 @@ def changed(draw, text):
     return bytes(made)
 
 
-def compiled_again(text):
+def compiled_again(text: bytes) -> None:
     """A document as bytes, to its source, and that to bytes again."""
     nodes = documents.nodes_in(text.decode("utf-8", "replace").split("\n"))
     made = source_writer.text(list(nodes), resource_names.Names())
     source_reader.read(made.encode(), "a.xml", resource_names.Names())
 
 
-def source(text):
+def source(text: bytes) -> None:
     nodes, wrong = source_reader.read(text, "a.xml", resource_names.Names())
     if not wrong:
         compiler.compiled(nodes)
 
 
-def included(text):
+def included(text: bytes) -> None:
     lines = script.Includer().lines("a.script", text, [])
     script.named(lines, "a.script", is_strict=False)
 
 
-def configured(text):
+def configured(text: bytes) -> None:
     configurations.of_tables(toml.read(text, "a.toml"), "a.toml")
 
 
-def picture(text):
+def picture(text: bytes) -> None:
     # of sizes that are read quickly
     if len(text) < 24 or struct.unpack(">II", text[16:24]) <= (64, 64):
         png.parsed(text)
 
 
-def seeds():
+def seeds() -> Dict[str, Tuple[Reader, List[bytes], Tuple[Type[Exception], ...]]]:
     """Each reader with texts that it takes, and the failures that it may end with."""
     layouts = ("a.xml", "page.xml")
-    sources = [apps.SOURCE.encode()] if hasattr(apps, "SOURCE") else []
-    sources += [(HEAD + 'android:text="a\\u00e9" android:gravity="left|top"><a b="c">t</a></View>').encode()]
+    sources = [(HEAD + 'android:text="a\\u00e9" android:gravity="left|top"><a b="c">t</a></View>').encode()]
     pictures = [coded(kind, [bytes(12)] * 4, (1, 2, 3, 4)) for kind in (0, 2, 4, 6)]
     tables = [b"picture = true\nmatrix = [['a'], ['b', 'c']]\n[a]\nwindow = [1, 2]\n[b]\n[c]\ndpi = 160\nvalues = ['x']\n"]
     lists = [b"app:id/title = 0x7f080000\nid/a=7f080001\n# x\nandroid:id/b = 0x01020000\n"]
@@ -248,7 +254,7 @@ def seeds():
     }
 
 
-def fuzzed(name):
+def fuzzed(name: str) -> str:
     """The first text made at random over which a reader ends otherwise than with a sentence."""
     act, texts, ends = seeds()[name]
     draw = random.Random(name)
@@ -268,7 +274,7 @@ def fuzzed(name):
     return "" if count > 100 else "only %d texts were tried" % count
 
 
-def archives_at_random():
+def archives_at_random() -> str:
     """The same of apps, by the tool, which unpacks nothing outside of its folder."""
     with open(os.path.join(EXAMPLES, "inbox", "inbox.apk"), "rb") as file:
         app = file.read()
@@ -284,9 +290,10 @@ def archives_at_random():
     return ""
 
 
-def checks():
-    for check in (takes_large_sources, refuses_odd_sources, notes_slips, writes_no_other_attributes, reads_large_pictures,
-                  unpacks_odd_apps, names_files_of_apps, says_byte_order_mark, archives_at_random):
-        yield "hostile: " + check.__name__.replace("_", " "), check
-    for name in seeds():
+def checks() -> Checks:
+    yield from named("hostile", (
+        takes_large_sources, refuses_odd_sources, notes_slips, writes_no_other_attributes, reads_large_pictures,
+        unpacks_odd_apps, names_files_of_apps, says_byte_order_mark, archives_at_random
+    ))
+    for name in readers():
         yield "fuzz: " + name, partial(fuzzed, name)

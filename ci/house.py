@@ -17,11 +17,12 @@ not in it, and for one in it that is no longer found.
 import os
 import re
 import sys
+from typing import Dict, Iterable, Iterator, List, Set, Tuple
 
 sys.dont_write_bytecode = True
 
 import definitions
-from running import TOP
+from running import TOP, Checks
 
 KNOWN = os.path.join(TOP, "ci", "house.txt")
 MOST_PARAMETERS, MOST_COLUMNS, MOST_LINES, MOST_IN_BODY = 5, 120, 800, 40
@@ -39,17 +40,17 @@ RECORD = re.compile(r"\brecord( [^{}]*)? \{$")
 TRAITS = {"ByteOrder", "Digest", "Shelf", "Sink", "Source"}
 
 
-def below_top(path):
+def below_top(path: str) -> str:
     """A path as the list has it."""
     return os.path.relpath(path, TOP)
 
 
-def read(path):
+def read(path: str) -> str:
     with open(path, encoding="utf-8") as file:
         return file.read()
 
 
-def split(text):
+def split(text: str) -> List[str]:
     """The parts of a text between commas that are in no bracket."""
     parts, depth, begun = [], 0, 0
     for place, it in enumerate(text):
@@ -63,16 +64,18 @@ def split(text):
 class Function:
     """A function in the layout of `rt fmt`: its name, and the lines of its head and of its body."""
 
-    def __init__(self, name, head, body):
+    def __init__(self, name: str, head: List[str], body: List[str]):
         self.name, self.head, self.body = name, head, body
 
-    def parameters(self):
+    def parameters(self) -> int:
         """How many parameters it has, without `self`."""
         text = " ".join(self.head)
         begun = text.index("(", text.index(" " + self.name))
         if "<" in text[:begun]:
             # types of a function may have brackets of their own
-            begun = re.compile(r">\s*\(").search(text, text.index("<")).end() - 1
+            bracket = re.compile(r">\s*\(").search(text, text.index("<"))
+            assert bracket is not None, text
+            begun = bracket.end() - 1
         depth = 0
         for place in range(begun, len(text)):
             depth += (text[place] == "(") - (text[place] == ")")
@@ -82,7 +85,7 @@ class Function:
         return 0
 
 
-def functions(text):
+def functions(text: str) -> Iterator[Function]:
     """The functions of a file of code."""
     lines = text.split("\n")
     for found in FUNCTION.finditer(text):
@@ -98,7 +101,7 @@ def functions(text):
         yield Function(found[2], head, lines[opened + 1 : end])
 
 
-def imported(text):
+def imported(text: str) -> Iterator[Tuple[str, bool]]:
     """The names that a file of code imports for itself, each with whether that is for ghosts alone."""
     for is_public, is_ghost, path in USE.findall(text):
         inner = re.search(r"\{(.*)\}", path, re.S)
@@ -108,7 +111,7 @@ def imported(text):
             yield re.split(r"\s+as\s+", name)[-1], bool(is_ghost)
 
 
-def has(name, text, words):
+def has(name: str, text: str, words: Set[str]) -> bool:
     """Whether a text uses a name; one with holes by each of its parts."""
     if name == "◌>>=◌" and "do" in words:
         return True
@@ -117,7 +120,7 @@ def has(name, text, words):
     return name in words if WORD.fullmatch(name) else name in text
 
 
-def clauses(text):
+def clauses(text: str) -> Iterator[str]:
     """The clauses of code."""
     blank = TEXT.sub(lambda found: "_" * len(found[0]), text)
     for found in CLAUSE.finditer(blank):
@@ -128,7 +131,7 @@ def clauses(text):
         yield text[found.start() : place]
 
 
-def unused_in_code(path, text):
+def unused_in_code(path: str, text: str) -> Iterator[str]:
     plain = COMMENT.sub("", text)
     heads = [line for it in functions(plain) for line in it.head]
     body = rust = USE.sub("", plain)
@@ -148,7 +151,7 @@ def unused_in_code(path, text):
             yield "unused import: %s: %s" % (below_top(path), name)
 
 
-def unused_in_definitions(path, text):
+def unused_in_definitions(path: str, text: str) -> Iterator[str]:
     body = definitions.COMMENT.sub("", ANTT_USE.sub("", text))
     words = set(definitions.TOKEN.findall(body))
     for module, names, alias in ANTT_USE.findall(text):
@@ -158,7 +161,7 @@ def unused_in_definitions(path, text):
                 yield "unused import: %s: %s" % (below_top(path), name)
 
 
-def of_code(path):
+def of_code(path: str) -> Iterator[str]:
     """What is found in a file of code."""
     text = read(path)
     yield from unused_in_code(path, text)
@@ -172,13 +175,13 @@ def of_code(path):
             yield "long function: " + name
 
 
-def long_file(path):
+def long_file(path: str) -> List[str]:
     return ["long file: " + below_top(path)] if read(path).count("\n") > MOST_LINES else []
 
 
-def twice(files):
+def twice(files: Iterable[definitions.File]) -> Iterator[str]:
     """The types of definitions of which there is another one with the same name."""
-    places = {}
+    places: Dict[str, Set[str]] = {}
     for file in files:
         for it in file.definitions:
             if it.kind in ("data", "record"):
@@ -187,7 +190,7 @@ def twice(files):
         yield from ("twice: %s: %s" % (path, name) for path in paths if len(paths) > 1)
 
 
-def found():
+def found() -> List[str]:
     """All that is found, in order."""
     code = list(definitions.files_below(".rt", ("src",)))
     specs = list(definitions.files_below(".antt", ("specs",)))
@@ -201,13 +204,13 @@ def found():
     return sorted(set(every))
 
 
-def listed(lines):
+def listed(lines: List[str]) -> str:
     """Some of many lines, as a reason why a check fails."""
     more = "; and %d more" % (len(lines) - SHOWN) if len(lines) > SHOWN else ""
     return "; ".join(lines[:SHOWN]) + more
 
 
-def problem():
+def problem() -> str:
     """What is found and not known, or known and not found."""
     is_known = set(read(KNOWN).split("\n")) - {""}
     now = set(found())
@@ -216,7 +219,7 @@ def problem():
     return why + ("; " if new and old else "") + ("no longer found, so drop it from ci/house.txt: " + listed(old) if old else "")
 
 
-def example():
+def example() -> str:
     """Why the patterns miss something, or find what is right."""
     text = ("use a::{A, B};\nghost use Rattle.x.{C, ◌+◌, D};\n\nfn f<K: Fn(A) -> A>(&mut self, a: [B; 2], b: (A, A)) -> A\n"
             "    ensures { C ≡ 1 + 2 }\n{\n    a\n}\n\nfn g() {}\n")
@@ -225,7 +228,7 @@ def example():
     return "" if (counts, names) == ([("f", 2, 1), ("g", 0, 0)], ["D"]) else "found %s, %s" % (counts, names)
 
 
-def checks():
+def checks() -> Checks:
     yield "the house: the patterns themselves", example
     yield "the house: unused, unreached, twice, wide and long", problem
 

@@ -2,8 +2,9 @@
 import os
 import shutil
 import subprocess
+from typing import List, Tuple
 
-from running import PROGRAM, SECONDS, TOP, run
+from running import PROGRAM, SECONDS, TOP, Checks, named, need, run
 from tools import place, unlike
 from vindaesk.common import places
 from vindaesk.installing import install
@@ -12,12 +13,12 @@ SCRIPT = b"window 9 9\nadd root View 1 1\nframe\nbounds\n"
 ANSWER = b"v1\nsettled 0\nv1 0 0 1 1\n"
 
 
-def files_below(folder):
+def files_below(folder: str) -> List[str]:
     """The files and links below a folder."""
     return sorted(os.path.relpath(os.path.join(at, name), folder) for at, _, names in os.walk(folder) for name in names)
 
 
-def called(folder, words, given=b""):
+def called(folder: str, words: List[str], given: bytes) -> Tuple[bytes, int]:
     """Standard output and status of an installed command, on a machine that has no toolchain and no repository."""
     path = ":".join(it for it in os.environ["PATH"].split(":") if not os.path.exists(os.path.join(it, "rt")))
     ended = subprocess.run(
@@ -27,7 +28,7 @@ def called(folder, words, given=b""):
     return ended.stdout, ended.returncode
 
 
-def runs_where_it_is_copied():
+def runs_where_it_is_copied() -> str:
     with place() as it:
         found = it.call("install", "made")
         if unlike(found, 0, None, ""):
@@ -36,7 +37,7 @@ def runs_where_it_is_copied():
         it.put("moved/a.script", SCRIPT)
         with open(os.path.join(TOP, "VERSION"), "rb") as file:
             version = b"vindaesk " + file.read()
-        calls = [
+        calls: List[Tuple[List[str], bytes, bytes]] = [
             (["vindaesk", "run"], SCRIPT, ANSWER), (["vindaesk-tree", "a.script"], b"", b"v1 View 0 0 1 1\n"),
             (["vindaesk-lint", "a.script"], b"", b""), (["vindaesk-runall", "--version"], b"", version),
             (["vindaesk", "explain", "NoView"], b"", b"28 NoView: no view has the number or the id.\n"
@@ -45,11 +46,11 @@ def runs_where_it_is_copied():
         for words, given, wanted in calls:
             if called(os.path.join(it.folder, "moved"), words, given) != (wanted, 0):
                 return "%s: %r" % (words, called(os.path.join(it.folder, "moved"), words, given))
-        out, status = called(os.path.join(it.folder, "moved"), ["vindaesk", "--version"])
-        return "" if status == 0 and out.startswith(version + b"commit ") else "--version: %r" % out
+        out, status = called(os.path.join(it.folder, "moved"), ["vindaesk", "--version"], b"")
+        return "" if status == 0 and out.startswith(version + b"replies 1\ncommit ") else "--version: %r" % out
 
 
-def replaces_and_removes():
+def replaces_and_removes() -> str:
     with place() as it:
         os.makedirs(os.path.join(it.folder, "made", "bin"))
         it.put("made/bin/other", "x")
@@ -66,7 +67,7 @@ def replaces_and_removes():
         return unlike(it.call("install", "--remove", "made"), 2, b"", "nothing is installed at")
 
 
-def leaves_what_is_not_its_own():
+def leaves_what_is_not_its_own() -> str:
     with place() as it:
         os.makedirs(os.path.join(it.folder, "made", "lib", "vindaesk"))
         why = unlike(it.call("install", "made"), 2, b"", "is there already, and was not installed from here")
@@ -80,7 +81,7 @@ def leaves_what_is_not_its_own():
         return why or ("" if it.read("third/bin/vindaesk") == b"x" else "another one's file is written over")
 
 
-def helps():
+def helps() -> str:
     """Each tool, by `--help`, `--version` and an argument that none knows."""
     with place() as it:
         for tool in install.tools():
@@ -94,17 +95,17 @@ def helps():
         return ""
 
 
-def manual_page():
+def manual_page() -> str:
     with place() as it:
         it.call("install", "made")
         text = it.read("made/share/man/man1/vindaesk.1").decode()
-        for part in (".TH VINDAESK 1", "vindaesk dump NAME", ".SS vindaesk\\-picdiff", "How many pixels"):
+        for part in (".TH VINDAESK 1", "vindaesk dump page.xml", ".SS vindaesk\\-picdiff", "How many pixels"):
             if part not in text:
                 return "%r is not in it" % part
         return ""
 
 
-def commands_of(recipe):
+def commands_of(recipe: str) -> List[str]:
     """The commands of the steps `run` of a recipe."""
     commands, indent = [], None
     for line in recipe.splitlines():
@@ -118,7 +119,7 @@ def commands_of(recipe):
     return commands
 
 
-def recipe_runs():
+def recipe_runs() -> str:
     """The commands of the recipe for a continuous build, over this repository in the place of a clone."""
     with open(os.path.join(TOP, "docs", "ci", "github.yml")) as file:
         commands = commands_of(file.read())
@@ -138,17 +139,15 @@ def recipe_runs():
         return "" if "report-2.xml" in it.names() else "there is no report"
 
 
-def needs_libc_alone():
+def needs_libc_alone() -> str:
     """What the program needs, as the loader lists it."""
-    if not shutil.which("ldd"):
-        print("note: what the program needs is not looked at, since there is no ldd on PATH")
-        return ""
-    names = {line.split()[0].decode() for line in run(["ldd", PROGRAM], b"", TOP)[0].splitlines()}
+    names = {line.split()[0].decode() for line in run([need("ldd"), PROGRAM], b"", TOP)[0].splitlines()}
     others = [it for it in names if not it.startswith(("linux-vdso.", "libc.", "/lib64/ld-linux", "statically", "not"))]
     return "it needs %s" % ", ".join(others) if others else ""
 
 
-def checks():
-    for check in (helps, runs_where_it_is_copied, replaces_and_removes, leaves_what_is_not_its_own, manual_page,
-                  recipe_runs, needs_libc_alone):
-        yield "what is installed: " + check.__name__.replace("_", " "), check
+def checks() -> Checks:
+    yield from named("what is installed", (
+        helps, runs_where_it_is_copied, replaces_and_removes, leaves_what_is_not_its_own, manual_page, recipe_runs,
+        needs_libc_alone
+    ))

@@ -11,8 +11,10 @@ import signal
 import subprocess
 import tempfile
 import time
+from typing import IO, Any, Dict, Iterator, List, Set, Tuple
 
-from running import SECONDS, TOP, run
+from running import SECONDS, TOP, Checks, Skipped, named, run
+from vindaesk.scripts import explanations
 
 # the toolchain's stand-in: it records each call, locks the folders of crates as the toolchain does, and "builds" a
 # program that does what the variable ACT says
@@ -29,13 +31,14 @@ case $1 in
 esac
 """
 SENTENCES = {3: "read", 4: "written", 5: "memory", 6: "file", 7: "16777216 bytes"}
-WRONG = [[], ["gen"], ["gen", "0"], ["gen", "101"], ["gen", "01"], ["gen", "1", "2"], ["gen", "x"], ["Run"],
+WRONG: List[List[str]] = [[], ["gen"], ["gen", "0"], ["gen", "101"], ["gen", "01"], ["gen", "1", "2"], ["gen", "x"], ["Run"],
          ["run", "x"], ["dump"], ["dump", "../README.md"], ["dump", ".a"], ["dump", "a" * 65], ["dump", "a", "b"],
          ["dump", "é"], ["dump", ""], ["lookup"], ["lookup", "a"], ["lookup", "a", "7f05000"], ["lookup", "a", "7f05000g"],
          ["lookup", "a", "7f0500000"], ["lookup", ".a", "7f050000"], ["lookup", "a", *["7f050000"] * 65],
          ["lookup", "a", "7f050000", ""], ["focus"], ["focus", "left"], ["focus", "left", "v1", "x"], ["focus", "Left", "v1"],
          ["focus", "left", "v01"], ["focus", "left", "v12345678901"], ["focus", "up", "@"], ["focus", "up", "@123456789"],
-         ["focus", "up", "root"], ["stack", "x"], ["stacks"], ["--help", "x"], ["explain", "x"], ["explain", "31", "x"], ["explain", ""]]
+         ["focus", "up", "root"], ["stack", "x"], ["stacks"], ["--help", "x"], ["explain", "x"], ["explain", "31", "x"], ["explain", ""],
+         ["--prove"], ["--prove", "gen", "0"], ["-x"], ["tre"], ["main"], ["arguments"], ["x\ny"]]
 # words that are explained, and what is said of them
 EXPLAINED = {
     "NoView": "28 NoView: no view has the number or the id.\nIt comes at any line that names a view, and at focus SIDE V.\n",
@@ -47,21 +50,21 @@ EXPLAINED = {
 
 
 class Ended:
-    def __init__(self, status, out, said):
+    def __init__(self, status: int, out: bytes, said: str):
         self.status, self.out, self.said = status, out, said
 
 
 class Repository:
     """A repository with a launcher, two crates without anything in them, and the toolchain's stand-in."""
 
-    def __init__(self, folder):
+    def __init__(self, folder: str):
         self.folder = folder
         self.calls = os.path.join(folder, "calls")
         for name in ("kit", "temporary", "crates/low/src", "crates/view_tool/src"):
             os.makedirs(os.path.join(folder, name))
         shutil.copy(os.path.join(TOP, "vindaesk"), folder)
-        for name in ("docs", "tools/vindaesk"):
-            shutil.copytree(os.path.join(TOP, name), os.path.join(folder, name))
+        for name in ("docs", "tools"):
+            shutil.copytree(os.path.join(TOP, name), os.path.join(folder, name), ignore=shutil.ignore_patterns("__pycache__"))
         for name, text in (("crates.txt", "low:\nview_tool: low\n"), ("HANDLES", ""), ("calls", ""),
                            ("VERSION", "1.2.3\n"),
                            ("kit/rt", TOOLCHAIN), ("crates/low/src/lib.rt", ""),
@@ -70,47 +73,62 @@ class Repository:
                 file.write(text)
         os.chmod(os.path.join(folder, "kit/rt"), 0o755)
 
-    def start(self, words, has_toolchain=True, **how):
+    def start(self, words: List[str], has_toolchain: bool = True, **how: Any) -> "subprocess.Popen[bytes]":
         act = how.pop("act", "")
         kept = [it for it in os.environ["PATH"].split(":") if not os.path.exists(os.path.join(it, "rt"))]
+        mine = {name: value for name, value in os.environ.items() if not name.startswith("VINDAESK_")}
         own = {"PATH": ":".join([os.path.join(self.folder, "kit")] * has_toolchain + kept), "CALLS": self.calls,
                "ACT": act, "TMPDIR": os.path.join(self.folder, "temporary"), "PROOF": how.pop("proof", "0"),
                "BUILD": how.pop("build", ""), "VINDAESK_JOBS": how.pop("jobs", "2"),
                "VINDAESK_MEMORY": how.pop("memory", "20")}
-        pipes = {"stdin": subprocess.PIPE, "stdout": subprocess.PIPE, "stderr": subprocess.PIPE, **how}
-        return subprocess.Popen(["./vindaesk", *words], cwd=self.folder, env={**os.environ, **own}, **pipes)
+        pipes: Dict[str, Any] = {"stdin": subprocess.PIPE, "stdout": subprocess.PIPE, "stderr": subprocess.PIPE, **how}
+        env = {**mine, **own}
+        started: "subprocess.Popen[bytes]" = subprocess.Popen(["./vindaesk", *words], cwd=self.folder, env=env, **pipes)
+        return started
 
-    def call(self, words, given=b"", **how):
+    def call(self, words: List[str], given: bytes = b"", **how: Any) -> Ended:
         started = self.start(words, **how)
         out, said = started.communicate(given, timeout=SECONDS)
         return Ended(started.returncode, out, (said or b"").decode())
 
-    def add(self, name, needed, is_needed=True):
+    def add(self, name: str, needed: str, is_needed: bool = True) -> None:
         """Another crate, which uses others and may be used by the program."""
         os.makedirs(os.path.join(self.folder, "crates", name, "src"))
         rows = ["%s: %s" % (name, needed), self.read("crates.txt").rstrip("\n") + (" " + name) * is_needed]
         with open(os.path.join(self.folder, "crates.txt"), "w") as file:
             file.write("".join(row + "\n" for row in rows))
 
-    def has(self, name):
+    def has(self, name: str) -> bool:
         """Whether a file is there."""
         return os.path.exists(os.path.join(self.folder, name))
 
-    def read(self, name):
+    def read(self, name: str) -> str:
         with open(os.path.join(self.folder, name)) as file:
             return file.read()
 
-    def leavings(self):
+    def leavings(self) -> List[str]:
         """The temporary files that are there."""
         return os.listdir(os.path.join(self.folder, "temporary"))
 
-    def builds(self):
+    def builds(self) -> List[str]:
         """The toolchain's calls so far."""
         return self.read("calls").splitlines()
 
 
+def written_by(started: "subprocess.Popen[bytes]") -> IO[bytes]:
+    """The standard output of a process."""
+    assert started.stdout is not None
+    return started.stdout
+
+
+def said_by(started: "subprocess.Popen[bytes]") -> IO[bytes]:
+    """The standard error of a process."""
+    assert started.stderr is not None
+    return started.stderr
+
+
 @contextlib.contextmanager
-def repository(is_built=True):
+def repository(is_built: bool = True) -> Iterator[Repository]:
     with tempfile.TemporaryDirectory() as folder:
         made = Repository(folder)
         if is_built:
@@ -118,21 +136,21 @@ def repository(is_built=True):
         yield made
 
 
-def asks_for_help():
+def asks_for_help() -> str:
     with repository(is_built=False) as it:
         for word in ("--help", "-h", "help"):
             ended = it.call([word])
-            if (ended.status, ended.out, "usage: vindaesk run" in ended.said) != (0, b"", True):
+            if (ended.status, ended.out, "usage: vindaesk WORD" in ended.said) != (0, b"", True):
                 return "%s: status %d, '%s'" % (word, ended.status, ended.said)
         for words in WRONG:
             ended = it.call(words)
-            is_short = ended.said.count("\n") == 1 and re.search("vindaesk (--help|explain)", ended.said) is not None
+            is_short = ended.said.count("\n") == 1 and re.search("vindaesk (--help|help|explain)", ended.said) is not None
             if (ended.status, ended.out, is_short) != (2, b"", True):
                 return "%s: status %d, '%s'" % (words, ended.status, ended.said)
         return "help builds" if it.builds() else ""
 
 
-def hints():
+def hints() -> str:
     """What is said of a path, and of a layout file that is not compiled."""
     with repository() as it:
         said = it.call(["dump", "res/layout/a.xml"]).said
@@ -149,7 +167,7 @@ def hints():
         return ""
 
 
-def example_of_help():
+def example_of_help() -> str:
     """The usage's own example, over the program."""
     said = subprocess.run(["./vindaesk", "--help"], cwd=TOP, stderr=subprocess.PIPE).stderr.decode()
     command, *answer = re.findall(r"^    (\S.*)$", said, re.M)
@@ -157,7 +175,7 @@ def example_of_help():
     return "" if written.decode().splitlines() == answer else "it writes '%s'" % written.decode()
 
 
-def refusals():
+def refusals() -> Set[Tuple[str, str]]:
     """The number and the name of each refusal that the program has."""
     with open(os.path.join(TOP, "crates/whole_tool/src/names.rt")) as file:
         names = re.findall(r'^    b"(\w*)",$', file.read(), re.M)
@@ -168,12 +186,12 @@ def refusals():
     return {(number, names[int(number)]) for number in faults + numbers}
 
 
-def explains():
+def explains() -> str:
     with repository(is_built=False) as it:
+        tables = explanations.read()
         for number, name in sorted(refusals()):
-            ended = it.call(["explain", number])
-            if ended.status or not ended.out.decode().startswith("%s %s: " % (number, name)):
-                return "%s %s: status %d, '%s'" % (number, name, ended.status, ended.out.decode())
+            if not explanations.explained(tables, number).startswith("%s %s: " % (number, name)):
+                return "%s %s: '%s'" % (number, name, explanations.explained(tables, number))
         if "\n    frame\n" not in it.call(["explain", "31"]).out.decode():
             return "31 does not list the lines"
         for word, text in EXPLAINED.items():
@@ -185,22 +203,24 @@ def explains():
             if line not in listed:
                 return "%r is not listed" % line
         for number in ("0", "50", "999", "syntax", "root"):
-            if (it.call(["explain", number]).status, it.call(["explain", number]).out) != (2, b""):
+            ended = it.call(["explain", number])
+            if (ended.status, ended.out) != (2, b""):
                 return "%s is explained" % number
         return "it builds" if it.builds() else ""
 
 
-def prints_version():
+def prints_version() -> str:
     with repository(is_built=False) as it:
         ended = it.call(["--version"])
-        if not re.fullmatch(rb"vindaesk 1[.]2[.]3\ncommit .+\nkit of the checks\n", ended.out):
+        head = rb"vindaesk 1[.]2[.]3\nreplies 1\ncommit .+\nprogram none of these sources: .+\n"
+        if not re.fullmatch(head + rb"kit of the checks\n", ended.out):
             return "it prints '%s'" % ended.out.decode()
-        ended = it.call(["--version"], has_toolchain=False)
-        is_right = re.fullmatch(rb"vindaesk 1[.]2[.]3\ncommit .+\n", ended.out) and ended.status == 0
+        ended = it.call(["version"], has_toolchain=False)
+        is_right = re.fullmatch(head, ended.out) and ended.status == 0
         return "" if is_right else "without the toolchain it prints '%s'" % ended.out.decode()
 
 
-def lacks_toolchain():
+def lacks_toolchain() -> str:
     with repository(is_built=False) as it:
         ended = it.call(["run"], has_toolchain=False)
         if (ended.status, ended.out, ended.said.count("\n")) != (126, b"", 1) or "not on PATH" not in ended.said:
@@ -210,7 +230,7 @@ def lacks_toolchain():
         return "" if (ended.status, ended.said) == (1, "") else "a built program needs it: '%s'" % ended.said
 
 
-def builds():
+def builds() -> str:
     with repository(is_built=False) as it:
         it.add("other", "low", is_needed=False)
         ended = it.call(["run"], act="echo answer")
@@ -229,7 +249,7 @@ def builds():
         return "temporary files stay" if it.leavings() else ""
 
 
-def builds_side_by_side():
+def builds_side_by_side() -> str:
     """Two crates that wait for one another as they are built, both over the same one, and one that uses both."""
     build = """
         mkdir -p out/rlib && touch "out/rlib/${PWD##*/}" out/kept
@@ -252,7 +272,7 @@ def builds_side_by_side():
         return "what is built of %s is not in the checkout" % lost if lost else ""
 
 
-def builds_within_memory():
+def builds_within_memory() -> str:
     """Three crates that do not use each other: side by side, and in turn where memory is short."""
     build = 'echo begun >> "$TMPDIR/../begun.log"; sleep 0.3; echo ended >> "$TMPDIR/../begun.log"'
     for size, is_in_turn in (("20", False), ("1", True)):
@@ -269,7 +289,7 @@ def builds_within_memory():
         return "" if ended.status == 126 and is_said else "'much': status %d, '%s'" % (ended.status, ended.said)
 
 
-def started_builds(it, **how):
+def started_builds(it: Repository, **how: Any) -> Tuple["subprocess.Popen[bytes]", int]:
     """The launcher, and the process of the toolchain that it has started, which waits."""
     started = it.start(["run"], build='mkdir -p out/rlib; touch out/kept; echo $$ > "$TMPDIR/pid"; exec sleep 60', **how)
     path = os.path.join(it.folder, "temporary", "pid")
@@ -282,7 +302,7 @@ def started_builds(it, **how):
     return started, pid
 
 
-def goes_on(pid):
+def goes_on(pid: int) -> bool:
     """Whether a process is still there after some seconds."""
     for _ in range(500):
         with contextlib.suppress(OSError), open("/proc/%d/stat" % pid) as file:
@@ -293,7 +313,7 @@ def goes_on(pid):
     return True
 
 
-def build_can_be_ended():
+def build_can_be_ended() -> str:
     for name in (signal.SIGINT, signal.SIGTERM, signal.SIGHUP):
         with repository(is_built=False) as it:
             started, pid = started_builds(it)
@@ -306,7 +326,7 @@ def build_can_be_ended():
     return ""
 
 
-def build_goes_on_after_a_kill():
+def build_goes_on_after_a_kill() -> str:
     """What a build that was killed has kept is there in the next."""
     with repository(is_built=False) as it:
         started, pid = started_builds(it, start_new_session=True)
@@ -321,7 +341,7 @@ def build_goes_on_after_a_kill():
         return ""
 
 
-def lost_build_is_tried_again():
+def lost_build_is_tried_again() -> str:
     killed = 'echo "${PWD##*/}" >> "$TMPDIR/../tried.log"; [[ $(wc -l < "$TMPDIR/../tried.log") -gt %d ]] || kill -9 0'
     for times, status, text in ((1, 0, "low was killed, most likely for memory"), (2, 126, "low could not be built")):
         with repository(is_built=False) as it:
@@ -333,13 +353,13 @@ def lost_build_is_tried_again():
     return ""
 
 
-def waits_for_the_toolchain():
+def waits_for_the_toolchain() -> str:
     """Another call of the toolchain is in the folder of a crate."""
     with repository(is_built=False) as it:
         handle = os.open(os.path.join(it.folder, "crates/low"), os.O_RDONLY)
         fcntl.flock(handle, fcntl.LOCK_EX)
         started = it.start(["run"], act="true")
-        line = started.stderr.readline() + started.stderr.readline()
+        line = said_by(started).readline() + said_by(started).readline()
         has_begun = bool(it.builds())
         os.close(handle)
         started.communicate(timeout=SECONDS)
@@ -347,11 +367,11 @@ def waits_for_the_toolchain():
         return "" if is_right else "status %d, '%s'" % (started.returncode, line.decode())
 
 
-def builds_once_for_two():
+def builds_once_for_two() -> str:
     with repository(is_built=False) as it:
         first, pid = started_builds(it)
         second = it.start(["run"], act="echo second")
-        said = second.stderr.readline()
+        said = said_by(second).readline()
         os.kill(pid, signal.SIGTERM)
         first.communicate(timeout=SECONDS)
         out, _ = second.communicate(timeout=SECONDS)
@@ -359,7 +379,7 @@ def builds_once_for_two():
         return "" if is_right and first.returncode == 126 else "status %d and %d" % (first.returncode, second.returncode)
 
 
-def circle_fails():
+def circle_fails() -> str:
     with repository(is_built=False) as it:
         it.add("a", "b")
         it.add("b", "a")
@@ -368,7 +388,7 @@ def circle_fails():
         return "" if is_right else "status %d, '%s'" % (ended.status, ended.said)
 
 
-def proof_fails():
+def proof_fails() -> str:
     with repository(is_built=False) as it:
         ended = it.call(["run"], proof="1", build='echo "fn f: proved"; echo "$PWD/src/lib.rt:1:1: error: no"')
         if (ended.status, ended.out) != (126, b"") or "low could not be built" not in ended.said:
@@ -384,7 +404,7 @@ def proof_fails():
         return "" if is_right else "of three at once: status %d, '%s'" % (ended.status, ended.said)
 
 
-def passes_statuses():
+def passes_statuses() -> str:
     with repository() as it:
         for status in range(8):
             ended = it.call(["run"], act="exit %d" % status)
@@ -395,7 +415,7 @@ def passes_statuses():
         return ""
 
 
-def passes_signals():
+def passes_signals() -> str:
     with repository() as it:
         for name in (signal.SIGTERM, signal.SIGINT, signal.SIGKILL, signal.SIGPIPE, signal.SIGSEGV):
             ended = it.call(["run"], act="kill -s %d $$" % name)
@@ -403,25 +423,25 @@ def passes_signals():
                 return "%s in the program: status %d, '%s'" % (name.name, ended.status, ended.said)
         for name in (signal.SIGTERM, signal.SIGINT, signal.SIGHUP):
             started = it.start(["run"], act="echo here; exec sleep 60")
-            started.stdout.readline()
+            written_by(started).readline()
             begun = time.monotonic()
             started.send_signal(name)
             started.communicate(timeout=SECONDS)
             if started.returncode != -name or time.monotonic() - begun > 30:
                 return "%s to the launcher: status %d" % (name.name, started.returncode)
         started = it.start(["run"], act="echo here; exec sleep 60", start_new_session=True)
-        started.stdout.readline()
+        written_by(started).readline()
         os.killpg(started.pid, signal.SIGINT)
         started.communicate(timeout=SECONDS)
         if started.returncode != -signal.SIGINT:
             return "an interrupt to launcher and program at once: status %d" % started.returncode
         started = it.start(["run"], act="exec yes")
-        started.stdout.readline()
-        started.stdout.close()
+        written_by(started).readline()
+        written_by(started).close()
         return "" if started.wait(SECONDS) == -signal.SIGPIPE else "a reader that ends: status %d" % started.returncode
 
 
-def passes_streams():
+def passes_streams() -> str:
     with repository() as it:
         given = bytes(range(256)) * 1000
         if it.call(["run"], given, act="cat").out != given:
@@ -438,7 +458,7 @@ def passes_streams():
         return "" if ended.status == 4 else "a full disk: status %d" % ended.status
 
 
-def on_terminal(it, words, typed, act):
+def on_terminal(it: Repository, words: List[str], typed: bytes, act: str) -> Tuple[str, str]:
     """What a terminal shows that is the launcher's standard input and standard error."""
     mine, theirs = pty.openpty()
     started = it.start(words, stdin=theirs, stderr=theirs, act=act, build="sleep 0.5")
@@ -453,13 +473,12 @@ def on_terminal(it, words, typed, act):
     return out.decode(), shown.decode()
 
 
-def talks_to_a_terminal():
+def talks_to_a_terminal() -> str:
     try:
         for end in pty.openpty():
             os.close(end)
     except OSError as error:
-        print("note: the launcher is not tried on a terminal, since none is to be had here: %s" % error)
-        return ""
+        raise Skipped("/dev/ptmx", "there is no terminal to try it on: %s" % error)
     with repository(is_built=False) as it:
         out, shown = on_terminal(it, ["run"], b"frame\n\x04", "cat")
         if out != "frame\n":
@@ -470,9 +489,10 @@ def talks_to_a_terminal():
         return "a dump awaits lines" if "awaited" in on_terminal(it, ["dump", "a"], b"", "")[1] else ""
 
 
-def checks():
-    for check in (asks_for_help, hints, example_of_help, explains, prints_version, lacks_toolchain, builds,
-                  builds_side_by_side, builds_within_memory, build_can_be_ended, build_goes_on_after_a_kill,
-                  lost_build_is_tried_again, waits_for_the_toolchain, builds_once_for_two, circle_fails, proof_fails,
-                  passes_statuses, passes_signals, passes_streams, talks_to_a_terminal):
-        yield "the launcher: " + check.__name__.replace("_", " "), check
+def checks() -> Checks:
+    yield from named("the launcher", (
+        asks_for_help, hints, example_of_help, explains, prints_version, lacks_toolchain, builds, builds_side_by_side,
+        builds_within_memory, build_can_be_ended, build_goes_on_after_a_kill, lost_build_is_tried_again,
+        waits_for_the_toolchain, builds_once_for_two, circle_fails, proof_fails, passes_statuses, passes_signals,
+        passes_streams, talks_to_a_terminal
+    ))

@@ -1,13 +1,14 @@
 """What is as long as it may be, and what is longer by one: a script, a layout file, and the table of resources."""
 import os
 import tempfile
+from typing import Dict, List, Tuple
 
-from running import PROGRAM, difference, run
+from running import PROGRAM, Checks, difference, named, run
 
 MAX_SCRIPT, MAX_FILE, MAX_RESOURCES = 1 << 24, 1 << 20, 4096
 
 
-def over(words, given, files):
+def over(words: List[str], given: bytes, files: Dict[str, bytes]) -> Tuple[bytes, int]:
     """What a call writes in a folder that has these files, and the status."""
     with tempfile.TemporaryDirectory() as folder:
         for name, contents in files.items():
@@ -16,19 +17,19 @@ def over(words, given, files):
         return run([PROGRAM, *words], given, folder)
 
 
-def takes_the_longest_script():
+def takes_the_longest_script() -> str:
     """Lines without a word write nothing."""
     why = difference(b"", 0, *over(["run"], b"\n" * MAX_SCRIPT, {}))
     return why or difference(b"", 7, *over(["run"], b"\n" * (MAX_SCRIPT + 1), {}))
 
 
-def refuses_a_longer_file():
+def refuses_a_longer_file() -> str:
     """A file of zeros."""
     found = over(["dump", "a.xml"], b"", {"a.xml": bytes(MAX_FILE + 1)})
     return difference(b"file: refused 40 LongFile\n", 1, *found)
 
 
-def refuses_more_resources():
+def refuses_more_resources() -> str:
     """A new id is one too many, and an id that is there gets another value."""
     ids = [*range(1, MAX_RESOURCES + 1), MAX_RESOURCES + 1, 1]
     lines = ["res @%x dimen 1 px" % number for number in ids[:-2]] + ["res @%x text a" % number for number in ids[-2:]]
@@ -36,6 +37,5 @@ def refuses_more_resources():
     return difference(b"line %d: refused 15 Full\n" % (MAX_RESOURCES + 1), 1, *over(["run"], script, {}))
 
 
-def checks():
-    for check in (takes_the_longest_script, refuses_a_longer_file, refuses_more_resources):
-        yield "limits: " + check.__name__.replace("_", " "), check
+def checks() -> Checks:
+    yield from named("limits", (takes_the_longest_script, refuses_a_longer_file, refuses_more_resources))

@@ -1,6 +1,8 @@
 """Tries tools/lint, over scripts with and without faults."""
 import os
+from typing import List, Tuple
 
+from running import Checks, named
 from tools import EXAMPLES, first, place, unlike
 
 FAULTS = """window 320 200
@@ -73,7 +75,7 @@ def no_id(view, page):
 '''
 
 
-def finds():
+def finds() -> str:
     with place() as it:
         why = unlike(it.call("lint", "-", given=FAULTS), 1, FOUND.encode(), "")
         why = why or unlike(it.call("lint", "-", given=RIGHT), 0, b"", "")
@@ -81,7 +83,7 @@ def finds():
                              b"25 by 25 dp, below 48 by 48 (320 dpi, 100 dp)\n", "")
 
 
-def measures_texts():
+def measures_texts() -> str:
     with place() as it:
         for name, lines in NARROW.items():
             text = "window 100 100\nadd root FrameLayout match match\n" + lines + "frame\n"
@@ -92,13 +94,13 @@ def measures_texts():
         return unlike(it.call("lint", "-", "--only", "text-cut", given=hooked), 0, b"", "")
 
 
-def screens():
+def screens() -> str:
     with place() as it:
         with open(os.path.join(EXAMPLES, "margins.xml"), "rb") as file:
             it.put("margins.xml", file.read())
         it.put("a.script", "dpi 240\nwindow 300 150\ninflate margins.xml\nframe\n")
         where = [b"240 dpi, 200 dp", b"160 dpi, 200 dp", b"320 dpi, 64 dp"]
-        calls = [[], ["--dpi", "160"], ["--dpi", "320", "--width", "64"]]
+        calls: List[List[str]] = [[], ["--dpi", "160"], ["--dpi", "320", "--width", "64"]]
         for place_of, words in zip(where, calls):
             status, out, said = it.call("lint", "a.script", *words)
             if (status, said) != (1, "") or not all(b"(%s)" % place_of in line for line in out.splitlines()):
@@ -111,14 +113,14 @@ def screens():
         return why or unlike(found, 1, b"", "standard input:3:1: 31 Syntax: no line begins with 'x'\n")
 
 
-def own_rules():
+def own_rules() -> str:
     with place() as it:
         it.put("own.py", OWN)
         it.put("broken.py", "def (")
         it.put("failing.py", OWN.replace('yield "it has no id"', "yield 1 // 0"))
         it.put("a.script", FAULTS)
         out = b"v3 View: no-id: it has no id (160 dpi, 320 dp)\nv4 View: no-id: it has no id (160 dpi, 320 dp)\n"
-        calls = [
+        calls: List[Tuple[Tuple[str, ...], int, bytes, str]] = [
             (("--rules", "own.py", "--only", "no-id"), 1, out, ""),
             (("--rules", "own.py", "--skip", "no-id,outside,no-size,overlap,text-cut"), 0, b"", ""),
             (("--rules", "broken.py"), 2, b"", "the rules of broken.py cannot be loaded: SyntaxError"),
@@ -128,10 +130,10 @@ def own_rules():
             (("--dpi", "160,x"), 2, b"", "'x' is no number from 40 to 1000"),
             (("--width", ""), 2, b"", "'' is no number from 1 to 16384"),
         ]
-        return first(unlike(it.call("lint", "a.script", *words), *wanted) for words, *wanted in calls)
+        return first(unlike(it.call("lint", "a.script", *words), status, out, said) for words, status, out, said in calls)
 
 
-def wrong_scripts():
+def wrong_scripts() -> str:
     with place() as it:
         os.mkdir(os.path.join(it.folder, "folder"))
         why = unlike(it.call("lint", "no.script"), 2, b"", "no.script cannot be read")
@@ -142,9 +144,8 @@ def wrong_scripts():
         killed = it.call("lint", "-", given=FAULTS, **it.stand_in("kill -9 $$"))
         why = why or unlike(killed, 137, b"", "ended by the signal SIGKILL")
         ended = it.call("lint", "-", given="add root FrameLayout 1 1\ninflate folder into v1\n")
-        return why or unlike(ended, 6, b"", "status 6: a layout file could not be read")
+        return why or unlike(ended, 6, b"", "status 6: a file could not be read")
 
 
-def checks():
-    for check in (finds, measures_texts, screens, own_rules, wrong_scripts):
-        yield "the lint: " + check.__name__.replace("_", " "), check
+def checks() -> Checks:
+    yield from named("the lint", (finds, measures_texts, screens, own_rules, wrong_scripts))

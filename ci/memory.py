@@ -12,8 +12,9 @@ import resource
 import subprocess
 import tempfile
 from functools import partial
+from typing import Dict, List, Optional, Sequence, Tuple
 
-from running import PROGRAM, SECONDS, TOP, run
+from running import PROGRAM, SECONDS, TOP, Checks, run
 
 PAGE = 4096
 MAX_STEPS = 192
@@ -29,18 +30,20 @@ EMPTY_STACK = 32 << 10
 STARTS = 100
 OUT_OF_MEMORY, WRITE_FAILED = 5, 4
 DEPTH = 32
+# the variables of a run
+NOTHING: Dict[str, str] = {}
 
 
-def contents(name):
+def contents(name: str) -> bytes:
     with open(os.path.join(TOP, "examples", name), "rb") as file:
         return file.read()
 
 
-def lines(*parts):
+def lines(*parts: str) -> bytes:
     return "".join(part + "\n" for part in parts).encode()
 
 
-def growing():
+def growing() -> bytes:
     """Many views with texts, ids and rules."""
     made = ["window 200 400", "add root RelativeLayout match match"]
     for view in range(2, 200):
@@ -49,7 +52,7 @@ def growing():
     return lines(*made, "frame", "bounds v199", "digest")
 
 
-def touching():
+def touching() -> bytes:
     """Hooks, a gesture, and views that are scrolled, saved and restored."""
     made = ["window 100 100", "add root ScrollView match match", "id v1 @1", "add v1 LinearLayout match wrap"]
     for view in range(3, 203):
@@ -60,7 +63,7 @@ def touching():
     return lines(*made, "frame", "bounds v3", "digest", "remove v2", "restore 01")
 
 
-def inflating():
+def inflating() -> bytes:
     """Resources, and a file that is read several times."""
     made = ["window 300 300", "res @7f050001 dimen 16 dp"]
     made += ["res @%x text %s" % (number, "word " * 30) for number in range(1, 300)]
@@ -68,7 +71,7 @@ def inflating():
     return lines(*made, "frame", "digest")
 
 
-def pictures():
+def pictures() -> bytes:
     """Windows of many sizes, with their pixels."""
     made = ["window 64 64", "add root FrameLayout match match", "bg v1 #ff336699", "frame"]
     for size in range(64, 512, 64):
@@ -76,7 +79,7 @@ def pictures():
     return lines(*made)
 
 
-def deep(classes):
+def deep(classes: Sequence[str]) -> bytes:
     """A tree as deep as may be, of these classes in turn, with a hook, a gesture, a saved state and a removal."""
     made = ["window 400 400", "add root %s match match" % classes[0], "id v1 @1"]
     for view in range(2, DEPTH):
@@ -88,7 +91,7 @@ def deep(classes):
     return lines(*made, "visible v3 gone", "frame", "visible v3 visible", "frame", "digest", "remove v2", "frame")
 
 
-def restoring():
+def restoring() -> bytes:
     """A saved state of many views, for which `restore` takes the most of the stack."""
     made = ["window 99 99", "add root FrameLayout match match"]
     for view in range(2, 1026):
@@ -96,7 +99,7 @@ def restoring():
     return lines(*made, "frame", "save", "restore", "frame", "digest")
 
 
-def in_a_window(script):
+def in_a_window(script: bytes) -> bytes:
     """The same lines, each for one window of a stack."""
     return b"at 0 0 0\n" + b"".join(b"in 0 " + line for line in script.splitlines(True))
 
@@ -118,7 +121,7 @@ SCRIPTS = {
 REFUSED = {"touching": 1, "refused": 51}
 
 
-def refused(name, script):
+def refused(name: str, script: bytes) -> str:
     """Whether other lines are refused than those that are meant."""
     with tempfile.TemporaryDirectory() as folder:
         with open(os.path.join(folder, "a.xml"), "wb") as file:
@@ -128,34 +131,34 @@ def refused(name, script):
     return "" if len(found) == REFUSED.get(name, 0) else "refused: %s" % found[:9]
 
 
-def limited(kind, limit):
+def limited(kind: int, limit: int) -> None:
     resource.setrlimit(kind, (limit, resource.getrlimit(kind)[1]))
 
 
-def run_under(kind, limit, words, given, folder):
+def run_under(kind: int, limit: int, words: List[str], given: bytes, folder: str) -> Tuple[bytes, Optional[int]]:
     """What is written under a limit, and the status; a run that the system does not start has none."""
     try:
         ended = subprocess.run(
             [PROGRAM, *words], input=given, stdout=subprocess.PIPE, stderr=subprocess.DEVNULL, cwd=folder,
-            timeout=SECONDS, preexec_fn=partial(limited, kind, limit), env={}
+            timeout=SECONDS, preexec_fn=partial(limited, kind, limit), env=NOTHING
         )
     except (OSError, subprocess.SubprocessError):
         return b"", None
     return ended.stdout, ended.returncode
 
 
-def starts(kind, limit, folder):
+def starts(kind: int, limit: int, folder: str) -> bool:
     return run_under(kind, limit, ["run"], b"", folder) == (b"", 0)
 
 
-def starts_in_little():
+def starts_in_little() -> str:
     """Whether an empty script is run each time in as much stack as it may need."""
     with tempfile.TemporaryDirectory() as folder:
         failed = sum(not starts(resource.RLIMIT_STACK, EMPTY_STACK, folder) for _ in range(STARTS))
     return "%d of %d starts failed" % (failed, STARTS) if failed else ""
 
 
-def least_start(kind, step, most, folder):
+def least_start(kind: int, step: int, most: int, folder: str) -> int:
     """The least limit, a multiple of the step, under which an empty script is run; found by halving."""
     low, high = 0, most // step
     while low + 1 < high:
@@ -167,14 +170,14 @@ def least_start(kind, step, most, folder):
     return high * step
 
 
-def is_prefix(written, whole, status):
+def is_prefix(written: bytes, whole: bytes, status: int) -> bool:
     """Whether a run that stopped has written whole lines that it writes without a limit; a write that fails may end
     in a line."""
     is_whole = status == WRITE_FAILED or written[-1:] in (b"", b"\n")
     return whole.startswith(written) and is_whole
 
 
-def swept(words, given, folder, kind_name):
+def swept(words: List[str], given: bytes, folder: str, kind_name: str) -> str:
     """Why a run under some limit is wrong, or nothing."""
     kind, step, most = LIMITS[kind_name]
     whole, whole_status = run_under(kind, most, words, given, folder)
@@ -195,14 +198,14 @@ def swept(words, given, folder, kind_name):
     return ""
 
 
-def sweep(words, given, kind_name):
+def sweep(words: List[str], given: bytes, kind_name: str) -> str:
     with tempfile.TemporaryDirectory() as folder:
         with open(os.path.join(folder, "a.xml"), "wb") as file:
             file.write(contents("a.xml"))
         return swept(words, given, folder, kind_name)
 
 
-def checks():
+def checks() -> Checks:
     yield "memory/start", starts_in_little
     for name, script in SCRIPTS.items():
         yield "memory/lines/%s" % name, partial(refused, name, script)

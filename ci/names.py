@@ -12,8 +12,9 @@ import os
 import re
 import subprocess
 from functools import partial
+from typing import Dict, Iterator, List, Set, Tuple
 
-from running import TOP
+from running import TOP, Checks
 from vindaesk.installing import install
 
 ABOUT_CODE = ("ARCHITECTURE.md", "PROOFS.md", "PROMISES.md", "DECISIONS.md", "STYLE.md", "CONTRIBUTING.md")
@@ -26,22 +27,22 @@ PATH = re.compile(r"[\w.*-]+(?:/[\w.*-]*)+|[\w*-]+\.(?:rt|antt|py|md|txt|edit|js
 WORD = re.compile(r"(?<![\w*.\\-])[A-Za-z_][\w'-]*(?![\w*'-])")
 UNREAD = (".md", ".png", ".apk", ".arsc", ".xml")
 # words of pages that are examples of names, and no names of the repository
-EXAMPLES = re.compile(r"\.\.|^cite$|\bNAME\b|\bTOOL\b|m/f|FramePlan|frame_plan|_at_key|list-axioms")
+EXAMPLES = re.compile(r"\.\.|^cit.$|\bNAME\b|\bTOOL\b|m/f|FramePlan|frame_plan|_at_key|list-axioms")
 SHOWN = 12
 
 
-def text_of(path):
+def text_of(path: str) -> str:
     with open(os.path.join(TOP, path), encoding="utf-8", errors="replace") as file:
         return file.read()
 
 
-def pages():
+def pages() -> List[str]:
     """All pages."""
     found = [path for place in ("*.md", "docs/*.md") for path in glob.glob(os.path.join(TOP, place))]
     return sorted(os.path.relpath(path, TOP) for path in found)
 
 
-def plain_lines(text):
+def plain_lines(text: str) -> Iterator[Tuple[int, str]]:
     """The lines of a page that are in no block, each with its number."""
     is_block = False
     for number, line in enumerate(text.split("\n"), 1):
@@ -52,7 +53,7 @@ def plain_lines(text):
 
 
 @functools.lru_cache(maxsize=None)
-def repository():
+def repository() -> List[str]:
     """The paths of all files that git knows, or would take."""
     words = ["git", "-C", TOP, "ls-files", "-z", "--cached", "--others", "--exclude-standard"]
     found = subprocess.run(words, stdout=subprocess.PIPE, check=True).stdout.decode().split("\0")
@@ -60,9 +61,9 @@ def repository():
 
 
 @functools.lru_cache(maxsize=None)
-def words_of_code():
+def words_of_code() -> Set[str]:
     """The words of all files that are no pages, and of their paths."""
-    found = set()
+    found: Set[str] = set()
     for path in repository():
         if not path.endswith(UNREAD):
             found.update(WORD.findall(text_of(path)))
@@ -71,16 +72,16 @@ def words_of_code():
 
 
 @functools.lru_cache(maxsize=None)
-def ends_of_paths():
+def ends_of_paths() -> Set[str]:
     """Each end of the path of a file or a folder, from a slash on."""
-    found = set()
+    found: Set[str] = set()
     for path in repository():
         parts = path.split("/")
         found.update("/".join(parts[begun:end]) for end in range(1, len(parts) + 1) for begun in range(end))
     return found
 
 
-def is_there(path):
+def is_there(path: str) -> bool:
     """Whether a path is the end of one of the repository, which may lack the ending of a file of code or of definitions."""
     plain = path.rstrip("/")
     if plain.startswith("./"):
@@ -90,7 +91,7 @@ def is_there(path):
     return any(plain + ending in ends_of_paths() for ending in ("", ".antt", ".rt"))
 
 
-def unknown(text):
+def unknown(text: str) -> Iterator[str]:
     """What the text of a page about the code names, and is not there."""
     for number, line in plain_lines(text):
         for quoted in QUOTED.findall(line):
@@ -104,9 +105,9 @@ def unknown(text):
             yield from ("line %d: there is no `%s`" % (number, it) for it in missing[:1])
 
 
-def anchors(text):
+def anchors(text: str) -> Set[str]:
     """The anchors of the headings of a page, as GitHub makes them."""
-    found = {}
+    found: Dict[str, int] = {}
     for _, line in plain_lines(text):
         if line.startswith("#"):
             plain = re.sub(r"[^\w\- ]", "", line.lstrip("#").strip().lower()).replace(" ", "-")
@@ -114,7 +115,7 @@ def anchors(text):
     return {name if not count else "%s-%d" % (name, count) for name, most in found.items() for count in range(most + 1)}
 
 
-def broken_links(page, text):
+def broken_links(page: str, text: str) -> Iterator[str]:
     """The links of a page that lead nowhere; those to other machines are not followed."""
     for number, line in plain_lines(text):
         for link in LINK.findall(line):
@@ -128,9 +129,9 @@ def broken_links(page, text):
                 yield "line %d: %s has no heading #%s" % (number, target, anchor)
 
 
-def gaps(text):
+def gaps(text: str) -> Iterator[str]:
     """The numbered items that do not follow the one before; a list begins at 1."""
-    last = {}
+    last: Dict[int, int] = {}
     for number, line in plain_lines(text):
         found = NUMBERED.match(line)
         if found:
@@ -143,24 +144,24 @@ def gaps(text):
             last = {}
 
 
-def problems(page, text):
+def problems(page: str, text: str) -> List[str]:
     """All that is wrong in a page."""
     found = [*broken_links(page, text), *gaps(text)]
     return [*found, *(unknown(text) if os.path.basename(page) in ABOUT_CODE else ())]
 
 
-def problem(page):
+def problem(page: str) -> str:
     found = problems(page, text_of(page))
     return "; ".join(found[:SHOWN]) + ("; and %d more" % (len(found) - SHOWN) if len(found) > SHOWN else "")
 
 
-def tools_without_row():
+def tools_without_row() -> str:
     rows = [line for _, line in plain_lines(text_of("docs/TOOLS.md")) if line.startswith("| [")]
     missing = [name for name in install.tools() if not any("`tools/%s" % name in row for row in rows)]
     return "docs/TOOLS.md has no row of %s" % ", ".join(missing) if missing else ""
 
 
-def finds_faults():
+def finds_faults() -> str:
     """Each kind of fault, put into the text of a page, is found, and what is right there is not."""
     right = "# A page\n1. one\n   1. in it\n2. two\n\n[here](#a-page) `crates.txt` `text_of` `src/lib.rt` `*.md`\n"
     wrong = ("1. one\n3. three", "2. two", "`no_such_name_%s`" % "x", "`src/no_such_file.rt`", "[there](#no-heading)",
@@ -171,7 +172,7 @@ def finds_faults():
     return "; ".join("nothing is found in %r" % it for it in wrong if not problems("docs/STYLE.md", it))
 
 
-def checks():
+def checks() -> Checks:
     yield "names: faults are found", finds_faults
     for page in pages():
         yield "names of " + page, partial(problem, page)

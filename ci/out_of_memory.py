@@ -18,9 +18,12 @@ import shutil
 import subprocess
 import tempfile
 from functools import partial
+from typing import Iterable, Optional, Sequence, Tuple
 
-from running import PROGRAM, SECONDS, TOP, difference
+from running import PROGRAM, SECONDS, TOP, Checks, difference
 from vindaesk.scripts import grammar
+
+Words = Sequence[str]
 
 TAKING = ("inflate", "add", "window", "res", "text", "id", "rule", "save", "restore")
 OUT_OF_MEMORY, WRITE_FAILED = 5, 4
@@ -105,7 +108,7 @@ bounds""".split("\n")
 
 
 @functools.lru_cache(None)
-def place():
+def place() -> "tempfile.TemporaryDirectory[str]":
     """A folder with the library, a layout file and a table of resources, as long as what is returned lasts."""
     folder = tempfile.TemporaryDirectory()
     source, library = (os.path.join(it, "out_of_memory") for it in (os.path.join(TOP, "ci"), folder.name))
@@ -115,7 +118,7 @@ def place():
     return folder
 
 
-def refusing(first, last, words=("run",), lines=()):
+def refusing(first: int, last: int, words: Words = ("run",), lines: Words = ()) -> Tuple[bytes, int, int]:
     """What a call writes, its status, and the count of its requests, of which those with these numbers are refused."""
     folder = place().name
     variables = {"LD_PRELOAD": os.path.join(folder, "out_of_memory.so"), "FIRST": str(first), "LAST": str(last)}
@@ -128,12 +131,12 @@ def refusing(first, last, words=("run",), lines=()):
 
 
 @functools.lru_cache(None)
-def after(count):
+def after(count: int) -> Tuple[bytes, int, int]:
     """What the first lines write, the status, and the count of requests, if none is refused."""
     return refusing(NEVER, NEVER, lines=LINES[:count])
 
 
-def refused(numbers, before, words=("run",), lines=LINES):
+def refused(numbers: Iterable[int], before: bytes, words: Words = ("run",), lines: Words = LINES) -> str:
     """Why a call is wrong in which one of some requests is refused, and this is what is written before; or nothing."""
     whole = refusing(NEVER, NEVER, words, lines)[:2]
     for number in numbers:
@@ -146,7 +149,7 @@ def refused(numbers, before, words=("run",), lines=LINES):
     return ""
 
 
-def call(words):
+def call(words: Words) -> str:
     """Why a call is wrong in which any request is refused, or nothing."""
     written, status, requests = refusing(NEVER, NEVER, words)
     if status or not written:
@@ -154,12 +157,12 @@ def call(words):
     return refused(range(1, requests + 1), b"", words, ())
 
 
-def before_the_lines():
+def before_the_lines() -> str:
     """Why a run is wrong in which a request before the first line is refused, or nothing."""
     return refused(range(1, after(0)[2] + 1), b"")
 
 
-def line(count):
+def line(count: int) -> str:
     """Why the line after these is wrong, or nothing."""
     before, status, least = after(count)
     most = after(count + 1)[2]
@@ -170,7 +173,7 @@ def line(count):
     return "" if least == most else "it makes %d requests" % (most - least)
 
 
-def each_form():
+def each_form() -> str:
     """Why the script is short of a form of lines, or of a line that makes a request for one of the nine words; or
     nothing."""
     given = [it for it in LINES if it and not it.startswith("#")]
@@ -181,7 +184,7 @@ def each_form():
     return "" if makes == set(TAKING) else "requests are made by %s" % sorted(makes)
 
 
-def first_run(number):
+def first_run(number: int) -> Optional[Tuple[int, bytes]]:
     """The status of the test's first script and what that has written, with this request refused; or nothing, if the
     request is not one of its run."""
     ended = subprocess.run(
@@ -193,7 +196,7 @@ def first_run(number):
     return (status, bytes(written)) if bytes(wanted) == SINK_ANSWER else None
 
 
-def sink():
+def sink() -> str:
     """Why the run whose last request is refused is wrong, or nothing; that request is found by halving."""
     low, high = WITHIN, AFTER
     last = first_run(low)
@@ -209,7 +212,7 @@ def sink():
     return "" if written and SINK_ANSWER.startswith(written) else "%r is no prefix" % written
 
 
-def checks():
+def checks() -> Checks:
     yield "memory/requests/each form", each_form
     yield "memory/requests/a sink in memory", sink
     yield "memory/requests/before the lines", before_the_lines

@@ -1,22 +1,31 @@
 """The package of tools as a Python project: each subpackage uses only those below it, and `mypy --strict` and `pyflakes`
-find nothing in it, nor `pyflakes` in ci/, where these are installed."""
+find nothing in it, nor in ci/."""
 import ast
+import glob
 import os
-import shutil
 import subprocess
 from functools import partial
+from typing import Iterator, Sequence, Tuple
 
-from running import TOP
+from running import TOP, Checks, Skipped, need
 
+MYPY = ("--strict", "--no-error-summary")
+# the Python of Debian's mypy, and where it has pytest
+PYTHON_OF_MYPY = "/usr/bin/python3"
+PYTEST = "/usr/lib/python3/dist-packages/pytest/__init__.py"
 PACKAGE = os.path.join(TOP, "tools", "vindaesk")
+# modules of ci/ whose functions have no types yet
+UNTYPED = {"android_assets", "android_choices", "framework", "fuzz_resources", "made_apps", "made_tables",
+           "random_configurations", "resources", "table_writer", "test_resources_configuration", "test_resources_limits",
+           "test_resources_tables", "test_resources_themes"}
 # from the lowest; those of one row do not use each other
 LAYERS = (
-    ("common",), ("program",), ("scripts",), ("layouts",), ("pictures",), ("views",),
+    ("common",), ("provenance",), ("program",), ("scripts",), ("layouts", "resources"), ("pictures",), ("views",),
     ("apps", "building", "installing", "lint", "pages", "session", "testing"), ("command_line",),
 )
 
 
-def imported(path):
+def imported(path: str) -> Iterator[Tuple[str, int]]:
     """The subpackages beside its own that a module imports from, as `from ..layouts import ..`, each with the line."""
     with open(path, encoding="utf-8") as file:
         tree = ast.parse(file.read())
@@ -26,7 +35,7 @@ def imported(path):
                 yield name.split(".")[0], node.lineno
 
 
-def wrong_way():
+def wrong_way() -> str:
     """An import that does not lead down, or a subpackage that has no layer."""
     height = {name: number for number, layer in enumerate(LAYERS) for name in layer}
     for subpackage in sorted(it.name for it in os.scandir(PACKAGE) if it.is_dir() and it.name[0] not in "._"):
@@ -40,14 +49,27 @@ def wrong_way():
     return ""
 
 
-def says_nothing(words):
+def says_nothing(command: str, words: Sequence[str], **variables: str) -> str:
     """What a command says that should say nothing."""
-    ended = subprocess.run(words, stdout=subprocess.PIPE, stderr=subprocess.STDOUT, cwd=TOP)
+    ended = subprocess.run(
+        [need(command), *words], stdout=subprocess.PIPE, stderr=subprocess.STDOUT, cwd=TOP, env={**os.environ, **variables}
+    )
     return ended.stdout.decode("utf-8", "replace")[-2000:] if ended.returncode else ""
 
 
-def checks():
+def types_of_checks() -> str:
+    """What `mypy` finds in ci/, where it finds the types of pytest."""
+    need("mypy")
+    if subprocess.run([PYTHON_OF_MYPY, "-c", "import pytest"], stderr=subprocess.DEVNULL).returncode:
+        raise Skipped(PYTEST)
+    found = [os.path.relpath(it, TOP) for it in glob.glob(os.path.join(TOP, "ci", "**", "*.py"), recursive=True)]
+    paths = [it for it in found if os.path.basename(it)[: -len(".py")] not in UNTYPED]
+    return says_nothing("mypy", [*MYPY, "--cache-dir", "out/mypy-ci", *paths], MYPYPATH="tools:ci")
+
+
+def checks() -> Checks:
     yield "package: each subpackage uses those below it alone", wrong_way
-    for words in (["mypy", "--cache-dir", "out/mypy", "--strict", "tools/vindaesk", "tools/entry.py"], ["pyflakes3", "tools", "ci", "bench"]):
-        if shutil.which(words[0]):
-            yield "package: " + words[0], partial(says_nothing, words)
+    paths = ["--cache-dir", "out/mypy", "tools/vindaesk", "tools/entry.py"]
+    yield "package: mypy", partial(says_nothing, "mypy", [*MYPY, *paths])
+    yield "package: mypy of ci/", types_of_checks
+    yield "package: pyflakes3", partial(says_nothing, "pyflakes3", ["tools", "ci", "bench"])

@@ -24,17 +24,21 @@ import glob
 import os
 import tempfile
 from functools import partial
+from typing import Callable, Dict, Iterable, Iterator, List, Optional, Tuple
 
-from running import PROGRAM, TOP, difference, run
+from running import PROGRAM, TOP, Check, Checks, difference, run
 from vindaesk.common import files
 from vindaesk.layouts import compiler, documents, source_reader
 from vindaesk.scripts import resource_names
+
+# the number of the first line, its words, and the lines
+Block = Tuple[int, List[str], List[str]]
 
 ARROW = "→"
 INDENTED = ("    ", "\t")
 
 
-def blocks(lines):
+def blocks(lines: Iterable[str]) -> Iterator[Block]:
     """The number of each block's first line, its words, and its lines; of a block that is only indented, its first."""
     begun = None
     before = ""
@@ -52,15 +56,15 @@ def blocks(lines):
         yield begun[0], ["unended"], []
 
 
-def text(lines):
+def text(lines: Iterable[str]) -> bytes:
     return "".join(line + "\n" for line in lines).encode()
 
 
-def script(words, lines, answer, status):
+def script(words: List[str], lines: List[str], answer: bytes, status: int) -> str:
     return difference(answer, status, *run([PROGRAM, *words], text(lines), TOP))
 
 
-def questions(lines, answer, status, asked):
+def questions(lines: List[str], answer: bytes, status: int, asked: List[str]) -> str:
     for question in asked:
         words, _, reply = (part.strip() for part in question.partition(ARROW))
         ended = 1 if ": refused " in reply else status
@@ -70,32 +74,32 @@ def questions(lines, answer, status, asked):
     return ""
 
 
-def command(lines, answer, status):
+def command(lines: List[str], answer: bytes, status: int) -> str:
     return difference(answer, status, *run(["bash", "-c", "\n".join(lines)], b"", TOP))
 
 
-def bytes_of(lines):
+def bytes_of(lines: Iterable[str]) -> bytes:
     """The bytes of lines with remarks; `00*9` means nine bytes 00."""
     words = " ".join(line.partition("#")[0] for line in lines).split()
     return b"".join(bytes.fromhex(digits) * int(count or 1) for digits, _, count in (it.partition("*") for it in words))
 
 
-def over_file(form, name, ids, lines, answer, status):
+def over_file(form: str, name: str, ids: List[str], lines: List[str], answer: bytes, status: int) -> str:
     with tempfile.TemporaryDirectory() as folder:
         with open(os.path.join(folder, name), "wb") as file:
             file.write(bytes_of(lines))
         return difference(answer, status, *run([PROGRAM, form, name, *ids], b"", folder))
 
 
-def layout_file(lines, answer, status):
+def layout_file(lines: List[str], answer: bytes, status: int) -> str:
     return over_file("dump", "file.xml", [], lines, answer, status)
 
 
-def table(ids, lines, answer, status):
+def table(ids: List[str], lines: List[str], answer: bytes, status: int) -> str:
     return over_file("lookup", "file.arsc", ids, lines, answer, status)
 
 
-def elements(nodes):
+def elements(nodes: Iterable[documents.Node]) -> Iterator[Tuple[object, ...]]:
     """The name of each element, and its attributes by their names, with its depth."""
     depth = 0
     for node in nodes:
@@ -105,7 +109,7 @@ def elements(nodes):
         depth -= isinstance(node, documents.End)
 
 
-def source(lines, name):
+def source(lines: List[str], name: str) -> str:
     nodes, wrong = source_reader.read("\n".join(lines).encode(), name, resource_names.Names())
     wanted = list(elements(documents.of_file(compiler.compiled(nodes), name)))
     path = os.path.join(TOP, "examples", name)
@@ -117,12 +121,12 @@ def source(lines, name):
         number + 1, wanted[number : number + 1], found[number : number + 1], wrong)
 
 
-def same_file(lines, path):
+def same_file(lines: List[str], path: str) -> str:
     with open(os.path.join(TOP, path), "rb") as file:
         return difference(file.read(), 0, text(lines), 0)
 
 
-def dialogue(lines, status):
+def dialogue(lines: List[str], status: int) -> str:
     given, replies = [], []
     for number, line in enumerate(lines):
         said, _, reply = (part.strip() for part in line.partition(ARROW))
@@ -138,20 +142,22 @@ def dialogue(lines, status):
     return ""
 
 
-FORMS = {"script": partial(script, ["run"]), "stack": partial(script, ["stack"]), "command": command, "hex": layout_file}
+FORMS: Dict[str, Callable[[List[str], bytes, int], str]] = {
+    "script": partial(script, ["run"]), "stack": partial(script, ["stack"]), "command": command, "hex": layout_file,
+}
 
 
-def status_of(words):
+def status_of(words: List[str]) -> int:
     """The status that the words of a block name."""
     return int(words[1]) if len(words) > 1 else 0
 
 
-def checks_of(page):
+def checks_of(page: str) -> Iterator[Tuple[str, int, Check]]:
     """The checks of a page: a name and a function that answers why it fails, or nothing."""
     with open(os.path.join(TOP, page), encoding="utf-8") as file:
-        found = [*blocks(file.read().splitlines()), (0, ["end"], [])]
+        found: List[Block] = [*blocks(file.read().splitlines()), (0, ["end"], [])]
     is_answered = False
-    asked = None
+    asked: Optional[Tuple[List[str], bytes, int]] = None
     for (number, words, lines), (_, next_words, next_lines) in zip(found, found[1:]):
         form = words[0] if words else "without a name"
         if is_answered:
@@ -176,7 +182,7 @@ def checks_of(page):
             yield page, number, partial("a block '{}', as it is here, has no form that can be run".format, form)
 
 
-def checks():
+def checks() -> Checks:
     for place in ("README.md", "docs/*.md", "ci/worked/*.md"):
         for path in sorted(glob.glob(os.path.join(TOP, place))):
             for page, number, check in checks_of(os.path.relpath(path, TOP)):

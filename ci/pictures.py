@@ -5,12 +5,12 @@ import hashlib
 import os
 from functools import partial
 
-from running import PROGRAM, TOP, run
+from running import PROGRAM, TOP, Checks, run
 from vindaesk.common import files
 from vindaesk.pictures import png
 
 
-def stacked(path):
+def stacked(path: str) -> str:
     """Why a picture of a stack fails, or nothing."""
     wanted = png.read(files.read(path), path)
     script = files.read(path[: -len("png")] + "stack")
@@ -20,7 +20,7 @@ def stacked(path):
     return "" if rows == wanted.rows else "its colours are others than those of the script"
 
 
-def picture(path):
+def picture(path: str) -> str:
     """Why a picture fails, or nothing."""
     digest = hashlib.sha256(b"".join(png.read(files.read(path), path).rows)).hexdigest()
     script = files.read(path[: -len("png")] + "script")
@@ -29,7 +29,7 @@ def picture(path):
     return "" if wanted == digest else "its digest is %s, and the program writes %s" % (digest, wanted)
 
 
-def checks():
+def checks() -> Checks:
     for path in sorted(glob.glob(os.path.join(TOP, "examples", "*.png"))):
         check = stacked if os.path.exists(path[: -len("png")] + "stack") else picture
         yield os.path.relpath(path, TOP), partial(check, path)

@@ -5,10 +5,11 @@ import os
 import shutil
 import subprocess
 import sys
+from typing import Iterator, List, Tuple
 
 from golden import CARD, IDS
-from running import SECONDS, TOP
-from tools import place
+from running import SECONDS, TOP, Checks, Skipped
+from tools import Place, place
 
 TEST = """
 def test_picture(vindaesk_session, assert_picture, assert_bounds):
@@ -23,21 +24,21 @@ def test_bounds(vindaesk_session, assert_bounds):
 """
 
 
-def python():
-    """A Python that has pytest, or nothing."""
+def python() -> str:
+    """A Python that has pytest."""
     for command in (sys.executable, "/usr/bin/python3", "python3"):
         ended = subprocess.run([command, "-c", "import pytest; print(pytest.__version__)"], stdout=subprocess.PIPE,
                                stderr=subprocess.DEVNULL)
         if ended.returncode == 0 and int(ended.stdout.split(b".")[0]) >= 7:
             return command
-    return None
+    raise Skipped("/usr/lib/python3/dist-packages/pytest/__init__.py")
 
 
-def has_xdist(command):
+def has_xdist(command: str) -> bool:
     return subprocess.run([command, "-c", "import xdist"], stderr=subprocess.DEVNULL).returncode == 0
 
 
-def call(it, command, *words):
+def call(it: Place, command: str, *words: str) -> Tuple[int, str]:
     """The status of a run of pytest in a folder, and what it writes."""
     names = {**os.environ, "PYTHONPATH": os.path.join(TOP, "tools"), "PYTEST_ADDOPTS": "", "PYTHONDONTWRITEBYTECODE": "1"}
     ended = subprocess.run([command, "-m", "pytest", "-p", "vindaesk.pytest_plugin", "-q", "--rootdir", it.folder, *words],
@@ -45,7 +46,7 @@ def call(it, command, *words):
     return ended.returncode, ended.stdout.decode()
 
 
-def put_suite(it):
+def put_suite(it: Place) -> None:
     it.put("ids.txt", IDS)
     it.put("a.script", CARD % "Reply")
     it.put("b.script", CARD % "Reply")
@@ -59,7 +60,7 @@ def put_suite(it):
     os.unlink(os.path.join(it.folder, "vindaesk.toml"))
 
 
-def tries(it, command):
+def tries(it: Place, command: str) -> Iterator[Tuple[Tuple[str, ...], int, str, List[str]]]:
     """Calls of pytest in their order, each with its status, its last line without the time, and parts of what it
     writes."""
     failing = ["a.script::small", "it has no a@small.answer", "there is no own.png; --vindaesk-accept writes it", "own.png-"]
@@ -74,16 +75,13 @@ def tries(it, command):
     yield (*more, "--junitxml", "j.xml", "--vindaesk-report", "out"), 1, "4 failed, 1 passed", said
 
 
-def summed(text):
+def summed(text: str) -> str:
     """The last line of pytest, without the time."""
     return text.rstrip("\n").split("\n")[-1].rpartition(" in ")[0]
 
 
-def runs_suites():
+def runs_suites() -> str:
     command = python()
-    if not command:
-        print("note: the plugin of pytest is not tried, since there is no pytest 7 or later")
-        return ""
     with place() as it:
         put_suite(it)
         for words, status, last, parts in tries(it, command):
@@ -101,20 +99,20 @@ def runs_suites():
         return "" if "pytest a.script::small --vindaesk-accept" in page else "the page does not show how to accept"
 
 
-def commands_of(name, mark):
+def commands_of(name: str, mark: str) -> List[str]:
     """The lines of a recipe of docs/ci/ that have a mark, from there on."""
     with open(os.path.join(TOP, "docs", "ci", name), encoding="utf-8") as file:
         return [line.split(mark, 1)[1].strip() for line in file if mark in line]
 
 
-def recipe_for_github():
+def recipe_for_github() -> str:
     """The commands of the recipe with pytest; it installs a package, in the place of which the plugin is named here."""
     command = python()
     commands = commands_of("pytest.yml", "run: ")
     if len(commands) != 2 or not commands[0].startswith("python3 -m pip install pytest pytest-xdist "):
         return "commands: %s" % commands
-    if not command or not has_xdist(command):
-        return ""
+    if not has_xdist(command):
+        raise Skipped("/usr/lib/python3/dist-packages/xdist/__init__.py")
     with place() as it:
         os.mkdir(os.path.join(it.folder, "screens"))
         for name in ("card.script", "card.answer", "card.png"):
@@ -132,7 +130,7 @@ def recipe_for_github():
         return "" if status == 1 and "report/index.html shows what failed" in text else "status %d: %s" % (status, text)
 
 
-def recipe_for_gradle():
+def recipe_for_gradle() -> str:
     """The commands of the tasks for Gradle, which is not there to run them."""
     commands = [json.loads("[%s]" % it.rstrip(")").replace("runall.get()", '"runall"'))
                 for it in commands_of("vindaesk.gradle.kts", "commandLine(")]
@@ -148,7 +146,7 @@ def recipe_for_gradle():
         return "" if made == ["screens", "screens.xml"] else "files: %s" % made
 
 
-def checks():
+def checks() -> Checks:
     yield "pytest: runs suites", runs_suites
     yield "pytest: the recipe for GitHub", recipe_for_github
     yield "pytest: the recipe for Gradle", recipe_for_gradle

@@ -8,8 +8,9 @@ import glob
 import os
 import re
 from functools import partial
+from typing import Dict, List, Tuple
 
-from running import PROGRAM, TOP, difference, run
+from running import PROGRAM, TOP, Checks, difference, run
 
 FOLDER = os.path.join(TOP, "examples", "app")
 IDS = 64
@@ -26,8 +27,10 @@ STRING = re.compile(rb' {10}\(string(?:8|16)\) "(.*)"')
 class Printed:
     """What was printed of a table: its ids, and what each holds in the default configuration."""
 
-    def __init__(self, text):
-        self.ids, self.held, self.strings = [], {}, {}
+    def __init__(self, text: bytes):
+        self.ids: List[bytes] = []
+        self.held: Dict[bytes, Tuple[bytes, ...]] = {}
+        self.strings: Dict[Tuple[bytes, ...], bytes] = {}
         is_default, last = False, b""
         for line in text.split(b"\n"):
             if found := SPEC.match(line):
@@ -44,7 +47,7 @@ class Printed:
             elif found := STRING.match(line):
                 self.strings[self.held[last]] = re.sub(rb"[\0-\x1f]", lambda it: b"\\x%02x" % it[0][0], found[1])
 
-    def value(self, name):
+    def value(self, name: bytes) -> Tuple[bytes, ...]:
         """What an id holds, through references."""
         for _ in range(REFERENCES + 1):
             held = self.held.get(name, (b"none",))
@@ -53,7 +56,7 @@ class Printed:
             name = held[1]
         return (b"none",)
 
-    def line(self, name):
+    def line(self, name: bytes) -> bytes:
         kind, *word = value = self.value(name)
         if not word:
             return b"%s %s\n" % (name, kind)
@@ -66,7 +69,7 @@ class Printed:
         return b"%s other %s %s\n" % (name, *value)
 
 
-def table(path):
+def table(path: str) -> str:
     """Why a table fails, or nothing."""
     with open(path[: -len("arsc")] + "dump", "rb") as file:
         printed = Printed(file.read())
@@ -82,6 +85,6 @@ def table(path):
     return ""
 
 
-def checks():
+def checks() -> Checks:
     for path in sorted(glob.glob(os.path.join(FOLDER, "*.arsc"))):
         yield os.path.relpath(path, TOP), partial(table, path)

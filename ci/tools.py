@@ -15,9 +15,13 @@ import tempfile
 import time
 import xml.etree.ElementTree
 import zlib
+from typing import Any, Dict, Iterable, Iterator, List, Optional, Sequence, Tuple, Union
 
-from running import PROGRAM, SECONDS, TOP
+from running import PROGRAM, SECONDS, TOP, Checks, named
 from vindaesk.pictures import png
+
+# the status, what is written, and what is said
+Ended = Tuple[int, bytes, str]
 
 EXAMPLES = os.path.join(TOP, "examples")
 TOOLS = ("screenshot", "picdiff", "tree", "runall", "check", "axml", "unpack", "lint", "page", "install")
@@ -83,39 +87,40 @@ VIEWS = """v1 FrameLayout @a0 0 0 100 100
 class Place:
     """A folder in which tools are called."""
 
-    def __init__(self, folder):
+    def __init__(self, folder: str):
         self.folder = folder
 
-    def put(self, name, text):
+    def put(self, name: str, text: Union[str, bytes]) -> None:
         """Writes a file."""
         with open(os.path.join(self.folder, name), "wb") as file:
             file.write(text if isinstance(text, bytes) else text.encode())
 
-    def copy(self, path):
+    def copy(self, path: str) -> None:
         """Copies a file."""
         shutil.copy(path, self.folder)
 
-    def read(self, name):
+    def read(self, name: str) -> bytes:
         with open(os.path.join(self.folder, name), "rb") as file:
             return file.read()
 
-    def stand_in(self, act):
+    def stand_in(self, act: str) -> Dict[str, str]:
         """The variables under which tools run this in place of the program."""
         self.put("program", "#!/usr/bin/env bash\n%s\n" % act)
         os.chmod(os.path.join(self.folder, "program"), 0o755)
         return {"VINDAESK_PROGRAM": os.path.join(self.folder, "program")}
 
-    def start(self, *command, stderr=subprocess.PIPE, **variables):
+    def start(self, *command: str, stderr: int = subprocess.PIPE, **variables: str) -> "subprocess.Popen[bytes]":
         """A tool, or another program of the repository, as a process of its own."""
         return subprocess.Popen(
             [os.path.join(TOP, command[0]), *command[1:]], cwd=self.folder, env={**os.environ, **variables},
             stdin=subprocess.PIPE, stdout=subprocess.PIPE, stderr=stderr
         )
 
-    def call(self, tool, *words, given="", **variables):
+    def call(self, tool: str, *words: str, given: str = "", **variables: str) -> Ended:
         """Status, standard output and standard error of a tool, which runs in this process, since that is quicker."""
         path = os.path.join(TOP, "tools", tool)
-        streams = [io.TextIOWrapper(io.BytesIO(text), encoding="utf-8") for text in (given.encode(), b"", b"")]
+        buffers = [io.BytesIO(text) for text in (given.encode(), b"", b"")]
+        streams = [io.TextIOWrapper(it, encoding="utf-8") for it in buffers]
         names, before = ("argv", "stdin", "stdout", "stderr"), (sys.argv, sys.stdin, sys.stdout, sys.stderr)
         kept, status = dict(os.environ), 0
         os.chdir(self.folder)
@@ -125,7 +130,7 @@ class Place:
                 setattr(sys, name, value)
             runpy.run_path(path, run_name="__main__")
         except SystemExit as ended:
-            status = ended.code
+            status = ended.code if isinstance(ended.code, int) else 1
         finally:
             for name, value in zip(names, before):
                 setattr(sys, name, value)
@@ -134,19 +139,19 @@ class Place:
             os.environ.update(kept)
         for stream in streams[1:]:
             stream.flush()
-        return status, streams[1].buffer.getvalue(), streams[2].buffer.getvalue().decode()
+        return status, buffers[1].getvalue(), buffers[2].getvalue().decode()
 
-    def names(self):
+    def names(self) -> List[str]:
         return sorted(os.listdir(self.folder))
 
 
 @contextlib.contextmanager
-def place():
+def place() -> Iterator[Place]:
     with tempfile.TemporaryDirectory() as folder:
         yield Place(folder)
 
 
-def unlike(found, status, out=None, said=None):
+def unlike(found: Ended, status: int, out: Optional[bytes] = None, said: Optional[str] = None) -> str:
     """How the end of a call is not as it should be: the status, all of standard output, and a part of standard error,
     which has to be empty where the part is."""
     if found[0] != status:
@@ -158,12 +163,12 @@ def unlike(found, status, out=None, said=None):
     return ""
 
 
-def first(results):
+def first(results: Iterable[str]) -> str:
     """The first reason among some, or nothing."""
     return next(filter(None, results), "")
 
 
-def helps():
+def helps() -> str:
     with place() as it:
         for tool in TOOLS:
             started = it.start("tools/" + tool, "--help")
@@ -176,16 +181,16 @@ def helps():
         return ""
 
 
-def lacks_program():
+def lacks_program() -> str:
     with place() as it:
         it.put("a.script", RED)
         it.put("a.answer", "")
-        said = "there is no program at /nowhere/it; ./vindaesk run builds it, see ./vindaesk --help"
+        said = "there is no program at /nowhere/it, which the variable VINDAESK_PROGRAM names"
         calls = (("screenshot", "a.script", "a.png"), ("tree", "a.script"), ("runall", "."), ("check", "a.script"))
         return first(unlike(it.call(*words, VINDAESK_PROGRAM="/nowhere/it"), 126, b"", said) for words in calls)
 
 
-def takes_pictures():
+def takes_pictures() -> str:
     with place() as it:
         script, stored = (os.path.join(EXAMPLES, "screen" + ending) for ending in (".script", ".png"))
         found = it.call("screenshot", script, "-")
@@ -200,7 +205,7 @@ def takes_pictures():
         return why or ("" if png.parsed(it.read("a.png")) == red else "a scaled picture is wrong")
 
 
-def composes_windows():
+def composes_windows() -> str:
     """A red window, and a blue one above its right half; a refused line is reported by its number in the script."""
     with place() as it:
         red = "".join("in 0 %s\n" % line for line in RED.splitlines())
@@ -212,7 +217,7 @@ def composes_windows():
         return why or ("" if png.parsed(it.read("a.png")) == wanted else "the picture of the windows is wrong")
 
 
-def reports_refused_lines():
+def reports_refused_lines() -> str:
     with place() as it:
         text = "# one\nad root View 1 1\n" + RED + "frame" + " " * 1020 + "\n\nbounds\nré\x07t"
         found = it.call("screenshot", "-", "a.png", given=text)
@@ -229,18 +234,18 @@ def reports_refused_lines():
         return unlike(found, 1, b"v1 View 0 0 2 2 bg #ffff0000\n")
 
 
-def lacks_pictures():
+def lacks_pictures() -> str:
     with place() as it:
         for text, why in WITHOUT.items():
             found = unlike(it.call("screenshot", "-", "a.png", given=text), 1, b"", "there is no picture: %s\n" % why)
             found = found or unlike(it.call("tree", "-", given=text), 1, b"", "there are no bounds: %s\n" % why)
             if found or it.names():
                 return "%r: %s" % (text, found or "files: %s" % it.names())
-        found = it.call("tree", "-", given=RED + "remove v1")
-        return unlike(found, 1, b"", "there are no bounds: the tree has no root\n")
+        removed = it.call("tree", "-", given=RED + "remove v1")
+        return unlike(removed, 1, b"", "there are no bounds: the tree has no root\n")
 
 
-def lacks_files():
+def lacks_files() -> str:
     with place() as it:
         os.mkdir(os.path.join(it.folder, "folder"))
         it.put("a.script", RED)
@@ -271,7 +276,7 @@ def lacks_files():
         return why or ("" if it.names() == ["a.script", "folder"] else "files: %s" % it.names())
 
 
-def takes_frames():
+def takes_frames() -> str:
     with place() as it:
         text = UNSETTLED.replace("frame\n", "bg v1 #ff00ff00\nframe\nbounds\n")
         text += "bg v1 #ff0000ff\nframe\nremove v1\nframe\n"
@@ -289,12 +294,12 @@ def takes_frames():
         return "" if points == [b"\0\xff\0", b"\0\0\xff", b"\0\0\xff"] else "the colours are %s" % points
 
 
-def ends_with_the_program():
+def ends_with_the_program() -> str:
     with place() as it:
         os.mkdir(os.path.join(it.folder, "folder"))
         text = RED.replace("View", "FrameLayout") + "inflate folder into v1\n"
         for words in (("screenshot", "-", "a.png"), ("tree", "-"), ("check", "-")):
-            why = unlike(it.call(*words, given=text), 6, b"", "status 6: a layout file could not be read")
+            why = unlike(it.call(*words, given=text), 6, b"", "status 6: a file could not be read")
             for act, status, said in (("kill -9 $$", 137, "ended by the signal SIGKILL"),
                                       ("exit 5", 5, "out of memory"), ("exit 0", 1, "wrote no answer to line")):
                 why = why or unlike(it.call(*words, given=text, **it.stand_in(act)), status, b"", said)
@@ -303,10 +308,11 @@ def ends_with_the_program():
         return "" if it.names() == ["folder", "program"] else "files: %s" % it.names()
 
 
-def ended_by(it, words, number):
+def ended_by(it: Place, words: Sequence[str], number: int) -> Ended:
     """The end of a tool to which a signal comes while the program runs, and whether the program ends too."""
     act = "cd '%s' && echo $$ > begun && mv begun started && exec sleep 60" % it.folder
-    started = it.start("tools/" + words[0], *words[1:], **it.stand_in(act))
+    variables = it.stand_in(act)
+    started = it.start("tools/" + words[0], *words[1:], stderr=subprocess.PIPE, **variables)
     until = time.monotonic() + SECONDS
     while "started" not in it.names() and time.monotonic() < until:
         time.sleep(0.01)
@@ -322,7 +328,7 @@ def ended_by(it, words, number):
     return started.returncode, out, said.decode()
 
 
-def can_be_interrupted():
+def can_be_interrupted() -> str:
     ends = ((signal.SIGINT, 130, "interrupted"), (signal.SIGTERM, 143, "ended by the signal SIGTERM"))
     with place() as it:
         it.put("a.script", RED)
@@ -337,7 +343,7 @@ def can_be_interrupted():
         return "" if is_right else "files: %s" % it.names()
 
 
-def follows_views():
+def follows_views() -> str:
     with place() as it:
         why = unlike(it.call("tree", "-", given=FOLLOWED), 0, VIEWS.encode(), "")
         found = it.call("tree", "--json", "-", given=FOLLOWED)
@@ -358,7 +364,7 @@ def follows_views():
 TYPES = {"object": dict, "array": list, "string": str, "integer": int, "null": type(None)}
 
 
-def unfit(value, schema):
+def unfit(value: Any, schema: Any) -> str:
     """Where a value is not of the form that a JSON Schema says, by the words that docs/tree.schema.json has."""
     of = schema.get("type", [])
     size = value if isinstance(value, int) else len(value) if isinstance(value, list) else 0
@@ -376,7 +382,7 @@ def unfit(value, schema):
     return first(unfit(*it) for it in inner)
 
 
-def follows_files():
+def follows_files() -> str:
     """The views of a file, which names resources, into a tree; and a background that one of two hooks may have set."""
     with place() as it:
         it.put("page.xml", open(os.path.join(EXAMPLES, "page.xml"), "rb").read())
@@ -392,7 +398,7 @@ def follows_files():
         return "" if lines == wanted else "%s" % lines
 
 
-def coded(form, rows, filters, extra=b""):
+def coded(form: int, rows: List[bytes], filters: Sequence[int], extra: bytes = b"") -> bytes:
     """A PNG file of some colour type, whose rows go by these filters."""
     step = png.BYTES[form]
     above, body = bytes(len(rows[0])), b""
@@ -408,7 +414,7 @@ def coded(form, rows, filters, extra=b""):
     return png.SIGNATURE + png.chunk(b"IHDR", head) + extra + ends
 
 
-def reads_png():
+def reads_png() -> str:
     rows = [bytes((k * 7 + line * 90 + k * k) % 256 for k in range(12)) for line in range(5)]
     colours = [b"".join(bytes([it] * 3) for it in row) for row in rows]
     palette = png.chunk(b"PLTE", bytes(it for k in range(256) for it in (k, k, k)))
@@ -424,7 +430,7 @@ def reads_png():
     return "" if png.parsed(png.written(picture)) == picture else "what is written is not read"
 
 
-def broken_files():
+def broken_files() -> Iterator[bytes]:
     """Files that are no whole picture."""
     good = png.written(png.Picture(2, 2, [b"\1\2\3\4\5\6"] * 2))
     head = png.chunk(b"IHDR", struct.pack(">IIBBBBB", 60000, 60000, 8, 2, 0, 0, 0))
@@ -436,7 +442,7 @@ def broken_files():
         yield coded(form, rows, (0,), extra)
 
 
-def refuses_broken_pictures():
+def refuses_broken_pictures() -> str:
     for number, file in enumerate(broken_files(), 1):
         try:
             return "broken file %d is read as %s" % (number, png.parsed(file)[:2])
@@ -448,7 +454,7 @@ def refuses_broken_pictures():
         return unlike(found, 2, b"", "a.png is no PNG file that can be read: it is cut short\n")
 
 
-def compares_pictures():
+def compares_pictures() -> str:
     with place() as it:
         rows = [b"\x10\x20\x30" * 4] * 3
         it.put("a.png", png.written(png.Picture(4, 3, rows)))
@@ -470,7 +476,7 @@ def compares_pictures():
         return why or ("" if is_right else "the picture of the difference is wrong")
 
 
-def runs_all():
+def runs_all() -> str:
     with place() as it:
         os.mkdir(os.path.join(it.folder, "in"))
         files = {"a.script": "window 1 1\n", "a.answer": "", "b.script": RED, "b.answer": "v7\nsettled 0\n",
@@ -495,7 +501,7 @@ def runs_all():
         return why or ("" if it.read("c.status") == b"1\n" else "no status is accepted")
 
 
-def runs_all_that_break():
+def runs_all_that_break() -> str:
     with place() as it:
         for name, text in {"a.script": RED, "a.answer": "v1\nsettled 0\n", "a.png": "x"}.items():
             it.put(name, text)
@@ -509,7 +515,7 @@ def runs_all_that_break():
         return why
 
 
-def shows_progress():
+def shows_progress() -> str:
     """What a terminal shows that is the standard error of runall."""
     with place() as it:
         for name in ("a", "b"):
@@ -527,7 +533,7 @@ def shows_progress():
         return "" if out.endswith(b"1 passed, 1 failed\n") and b"of 2" not in out else "it writes %r" % out
 
 
-def shows_long_work():
+def shows_long_work() -> str:
     """What a terminal shows of a tool that waits for a slow program; nothing of it stays."""
     with place() as it:
         real = os.environ.get("VINDAESK_PROGRAM") or PROGRAM
@@ -545,7 +551,7 @@ def shows_long_work():
         return ""
 
 
-def closed_streams():
+def closed_streams() -> str:
     """Each tool whose standard input, output or error is closed: it ends with a sentence, or as it should."""
     with place() as it:
         it.put("a.script", RED)
@@ -566,7 +572,7 @@ def closed_streams():
         return unlike((ended.returncode, b"", ended.stderr.decode()), 4, b"", "tree: standard output: ")
 
 
-def unknown_words():
+def unknown_words() -> str:
     """The checks and the benchmark, by a word that names nothing."""
     with place() as it:
         for command, name in (("ci/checks", "examples/first.script"), ("bench/run", "bounds, 4096 views")):
@@ -579,9 +585,10 @@ def unknown_words():
         return ""
 
 
-def checks():
-    for check in (helps, lacks_program, takes_pictures, composes_windows, reports_refused_lines, lacks_pictures, lacks_files,
-                  takes_frames, ends_with_the_program, can_be_interrupted, follows_views, follows_files, reads_png,
-                  refuses_broken_pictures, compares_pictures, runs_all, runs_all_that_break, shows_progress, shows_long_work, closed_streams,
-                  unknown_words):
-        yield "the tools: " + check.__name__.replace("_", " "), check
+def checks() -> Checks:
+    yield from named("the tools", (
+        helps, lacks_program, takes_pictures, composes_windows, reports_refused_lines, lacks_pictures, lacks_files,
+        takes_frames, ends_with_the_program, can_be_interrupted, follows_views, follows_files, reads_png,
+        refuses_broken_pictures, compares_pictures, runs_all, runs_all_that_break, shows_progress, shows_long_work,
+        closed_streams, unknown_words
+    ))

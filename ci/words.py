@@ -8,8 +8,12 @@ import os
 import re
 import tokenize
 from functools import partial
+from typing import Iterable, Iterator, List, Tuple, Union
 
-from running import TOP
+from running import TOP, Checks
+
+# each with its number
+Lines = Iterable[Tuple[int, str]]
 
 # each with the words that take its place; what follows in `(?!..)` or comes before in `(?<!..)` is a true meaning
 WORDS = [
@@ -45,10 +49,11 @@ MARKS = {
 SPAN = re.compile(r"`[^`]*`")
 
 
-def passages(lines):
+def passages(lines: Lines) -> List[Tuple[int, List[str]]]:
     """The texts of lines that follow one another, each with the number of its first line and the ends of its lines.
     `lines` are pairs of a number and a text."""
-    found, last = [], None
+    found: List[Tuple[int, List[str]]] = []
+    last = None
     for number, text in lines:
         if last is None or number != last + 1:
             found.append((number, []))
@@ -57,14 +62,14 @@ def passages(lines):
     return found
 
 
-def comments(text, mark):
+def comments(text: str, mark: "re.Pattern[str]") -> Lines:
     for number, line in enumerate(text.split("\n"), 1):
         comment = mark.search(line)
         if comment:
             yield number, comment.group(1)
 
 
-def prose(text):
+def prose(text: str) -> Lines:
     """The lines of a page without its blocks."""
     in_block = False
     for number, line in enumerate(text.split("\n"), 1):
@@ -74,7 +79,7 @@ def prose(text):
             yield number, line
 
 
-def said(text):
+def said(text: str) -> Lines:
     """The comments and the texts of a Python file."""
     for token in tokenize.generate_tokens(io.StringIO(text).readline):
         if token.type in (tokenize.COMMENT, tokenize.STRING):
@@ -82,7 +87,7 @@ def said(text):
                 yield number, line
 
 
-def lines_of(name, text):
+def lines_of(name: str, text: str) -> Lines:
     """The lines of a file in which words are looked for, each with its number."""
     ending = os.path.splitext(name)[1]
     if ending in MARKS:
@@ -94,7 +99,7 @@ def lines_of(name, text):
     return enumerate(text.split("\n"), 1)
 
 
-def in_text(name, text):
+def in_text(name: str, text: str) -> Iterator[Tuple[int, str, str]]:
     """The words of a file that have better ones: the line, the word, and the better ones."""
     for number, lines in passages(lines_of(name, text)):
         joined = SPAN.sub(lambda span: "x" * len(span.group()), " ".join(lines))
@@ -109,16 +114,18 @@ def in_text(name, text):
                 yield line, match.group(), better
 
 
-def in_names(name, text):
+def in_names(name: str, text: str) -> Iterator[Tuple[int, str]]:
     """The names in a source file, and of the file itself, that have one of the words: the line and the word."""
     mark = MARKS.get(os.path.splitext(name)[1])
-    for number, line in enumerate([name, *text.split("\n")] if mark else []):
+    if mark is None:
+        return
+    for number, line in enumerate([name, *text.split("\n")]):
         comment = mark.search(line)
         code = NO_NAME.sub("", line[:comment.start()] if comment else line)
         yield from ((number, part) for part in PART.findall(code) if part.lower() in NAME_WORDS)
 
 
-def problem(names):
+def problem(names: Iterable[str]) -> str:
     """Which words of some files have better ones, or nothing."""
     found = []
     for name in names:
@@ -131,20 +138,20 @@ def problem(names):
     return "; ".join(found[:9]) + more
 
 
-def below(folder, endings):
+def below(folder: str, endings: Union[str, Tuple[str, ...]]) -> Iterator[str]:
     for place, folders, names in os.walk(os.path.join(TOP, folder)):
         folders[:] = sorted(name for name in folders if name not in ("out", "__pycache__"))
         yield from (os.path.relpath(os.path.join(place, name), TOP) for name in sorted(names) if name.endswith(endings))
 
 
-def subpackages():
+def subpackages() -> Iterator[str]:
     """The package of tools and its subpackages, from the top."""
     for place, folders, _ in os.walk(os.path.join(TOP, "tools", "vindaesk")):
         folders[:] = sorted(name for name in folders if name != "__pycache__")
         yield os.path.relpath(place, TOP)
 
 
-def scripts(folder):
+def scripts(folder: str) -> Iterator[str]:
     """The Python files right below a folder, and the executables there."""
     for name in sorted(os.listdir(os.path.join(TOP, folder))):
         path = os.path.join(folder, name)
@@ -152,7 +159,7 @@ def scripts(folder):
             yield path
 
 
-def example():
+def example() -> str:
     """Why the patterns miss a word, or find one where it is right."""
     wrong = ["It is told by the view behind.", "A view lies\n// nowhere.",
              "So many bytes have gone, as far\n// as it is."]
@@ -164,7 +171,7 @@ def example():
     return "".join("; '%s' is taken" % text for text in missed) + "".join("; '%s' is not" % text for text in found)
 
 
-def checks():
+def checks() -> Checks:
     yield "words: the patterns themselves", example
     for name in sorted(os.listdir(os.path.join(TOP, "crates"))):
         yield "words of crates/" + name, partial(problem, list(below("crates/" + name, tuple(MARKS))))

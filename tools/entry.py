@@ -1,16 +1,49 @@
-"""How the commands in this folder begin: with the package beside them, whose compiled modules are kept in out/."""
-import importlib
+"""How the commands in this folder, and `vindaesk` beside it, begin: with the package beside them. In a checkout its
+compiled modules are kept in out/; elsewhere they are beside their sources, where they were compiled or can be."""
 import os
 import sys
 
 TOOLS = os.path.dirname(os.path.realpath(__file__))
-sys.path.insert(0, TOOLS)
-# Python itself writes them where it can
-sys.pycache_prefix = os.path.join(os.path.dirname(TOOLS), "out", "pycache")
+TOP = os.path.dirname(TOOLS)
+LEAST = (3, 8)
+
+
+def prepare() -> None:
+    """Has the package be found."""
+    if TOOLS not in sys.path:
+        sys.path.insert(0, TOOLS)
+    if os.path.exists(os.path.join(TOP, "crates.txt")):
+        sys.pycache_prefix = os.path.join(TOP, "out", "pycache")
 
 
 def run(path: str) -> None:
     """Runs the tool whose name is that of a file, and ends with its status."""
+    import importlib
+
     from vindaesk.common import ending
 
     ending.call(importlib.import_module("vindaesk.command_line." + os.path.basename(os.path.realpath(path))).main)
+
+
+def start() -> None:
+    """Carries out the words of `vindaesk`."""
+    from vindaesk.command_line import main
+
+    main.run()
+
+
+def leave_old_python() -> None:
+    """Goes on with the Python of PATH, where that is another one, or ends."""
+    import shutil
+
+    other = shutil.which("python3")
+    if other and os.path.realpath(other) != os.path.realpath(sys.executable):
+        os.execv(other, [other, os.path.join(TOOLS, "entry.py")] + sys.argv[1:])
+    sys.exit("vindaesk: Python %d.%d or later is needed, and %s is %d.%d" % (LEAST + (sys.executable,) + sys.version_info[:2]))
+
+
+prepare()
+if __name__ == "__main__":
+    if sys.version_info < LEAST:
+        leave_old_python()
+    start()

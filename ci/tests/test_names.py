@@ -1,5 +1,6 @@
 """Names of ids in lines, and in what is kept of answers."""
 import struct
+from typing import Any
 
 import pytest
 
@@ -26,44 +27,44 @@ IDS = names.Ids(Names(LIST, "ids.txt"), "ids.txt")
     (b"# @id/send", b"# @id/send"),
     (b"bounds v1", b"bounds v1"),
 ])
-def test_expands(line, wanted):
+def test_expands(line: bytes, wanted: bytes) -> None:
     found = IDS.expanded(line)
     assert (found.text, found.unknown) == (wanted, [] if found.shifts else ())
 
 
 @pytest.mark.parametrize("line, column, why", [
     (b"bounds @id/snd", 8, "@id/snd is not in ids.txt; did you mean 'send'?"),
-    ("text é".encode() + b"@id/x", None, None),
+    ("text é".encode() + b"@id/x", 0, ""),
     (b"bounds @ids/send", 8, "@ids/send is not in ids.txt; did you mean 'id'?"),
     (b"bounds @+id/new", 8, "a script makes no ids: @id/new, with a line in ids.txt"),
     (b"bounds @android:id/txt1", 8, "Android has no public id @android:id/txt1; did you mean 'text1'?"),
 ])
-def test_says_what_is_unknown(line, column, why):
+def test_says_what_is_unknown(line: bytes, column: int, why: str) -> None:
     found = IDS.expanded(line)
     assert [tuple(it) for it in found.unknown] == ([(column, why)] if why else [])
 
 
-def test_knows_the_columns_of_what_was_written():
+def test_knows_the_columns_of_what_was_written() -> None:
     found = IDS.expanded(b"rule @id/send belw @id/own")
     assert found.text == b"rule @7f080002 belw @7"
     # 'belw', and what follows the second name
     assert [found.written_column(it) for it in (6, 16, 21, 23)] == [6, 15, 20, 27]
 
 
-def test_names_ids_again():
+def test_names_ids_again() -> None:
     assert IDS.named(b"bounds @7F080002 @7e010001 @00000007 x@7 @99") == (
         b"bounds @id/send @lib:id/send @id/own x@7 @99")
     assert IDS.expanded(IDS.named(b"bounds @7e010001")).text == b"bounds @7e010001"
 
 
-def state(*entries):
+def state(*entries: Any) -> bytes:
     """The reply of a line `save`, by the form in docs/FORMATS.md."""
     rows = [struct.pack("<IB", number, kind) + (
         struct.pack("<I", what) if kind == 1 else struct.pack("<H", len(what)) + what) for number, kind, what in entries]
     return b"state " + (b"VS\2" + struct.pack("<H", len(rows)) + b"".join(rows)).hex().encode()
 
 
-def test_keeps_states_by_names():
+def test_keeps_states_by_names() -> None:
     made = Script([], ".", (), IDS)
     found = answers.of_run(state((7, 1, 30), (0x10, 2, b"ab"), (0x7F080002, 1, 5)) + b"\n", made)
     assert found == b"state @00000010 0202006162 @id/own 011e000000 @id/send 0105000000\n"
@@ -71,7 +72,7 @@ def test_keeps_states_by_names():
         assert answers.of_run(reply, made) == reply
 
 
-def test_keeps_places_as_they_were_written():
+def test_keeps_places_as_they_were_written() -> None:
     written = [Line(b"x", "in/a.script", 1), Line(b"y", "in/b.lines", 1), Line(b"z", "in/a.script", 3)]
     made = Script([it.text for it in written], "in", written, IDS)
     answer = b"line 1: refused 31 Syntax\nline 2: refused 31 Syntax\nline 3: refused 31 Syntax\nline 9: x"
@@ -79,6 +80,6 @@ def test_keeps_places_as_they_were_written():
     assert answers.of_run(answer, made) == wanted
 
 
-def test_keeps_names_in_dumps():
+def test_keeps_names_in_dumps() -> None:
     text = b"attr s1 s2 - 01 7f080002\nattr s1 s2 - 10 7f080002\ns1 \"attr s1 s2 - 01 7f080002\"\n"
     assert answers.of_dump(text, IDS) == text.replace(b"01 7f080002", b"01 @id/send", 1)

@@ -1,6 +1,7 @@
 """The reader of TOML: what it takes means the same to Python's own reader, where there is one."""
 import random
 import sys
+from typing import Any, Dict
 
 import pytest
 
@@ -15,15 +16,15 @@ PIECES = [
 VALUES = ["1", '"x"', "true", "[1, 2]", '[\n1,\n# c\n"a",\n]', "[[1],[2,]]", "'x'"]
 
 
-def plain(text):
+def plain(text: str) -> Dict[str, Any]:
     """What a text holds, as Python's own reader returns it."""
     first, *others = toml.read(text.encode("utf-8", "surrogatepass"), "f")
-    found = {key: entry.value for key, entry in first.entries.items()}
+    found: Dict[str, Any] = {key: entry.value for key, entry in first.entries.items()}
     found.update({it.name: {key: entry.value for key, entry in it.entries.items()} for it in others})
     return found
 
 
-def made(draw):
+def made(draw: random.Random) -> str:
     """A text that is nearly always wrong, or one that is nearly always right."""
     if draw.random() < 0.5:
         return "".join(draw.choice(PIECES) for _ in range(draw.randint(1, 14)))
@@ -36,7 +37,7 @@ def made(draw):
 
 
 @pytest.mark.skipif(sys.version_info < (3, 11), reason="this Python has no reader of TOML")
-def test_means_the_same_to_tomllib():
+def test_means_the_same_to_tomllib() -> None:
     import tomllib
 
     draw, both = random.Random(57), 0
@@ -66,13 +67,13 @@ def test_means_the_same_to_tomllib():
     ("a = " + "[" * 20, "f:1:21: arrays are more than 16 deep"),
     ("a = 1\x00", "f:1:6: a control character is not allowed here"),
 ])
-def test_refuses(text, why):
+def test_refuses(text: str, why: str) -> None:
     with pytest.raises(Failure) as failure:
         plain(text)
     assert str(failure.value) == why
 
 
-def test_reads():
+def test_reads() -> None:
     text = "# c\na = 1\nb = [[1, 'x'], [true]]\n\n['t t']\nc = \"\\u00e9\"\n"
     assert plain(text) == {"a": 1, "b": [[1, "x"], [True]], "t t": {"c": "é"}}
     assert [it.line for it in toml.read(text.encode(), "f")] == [0, 5]

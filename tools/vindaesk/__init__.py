@@ -3,7 +3,7 @@ views and pictures comes from what the program writes.
 
 Its subpackages, each of which uses only those below it:
 
-    command_line    one module a tool, and what their calls have in common
+    command_line    one module a command, what their calls have in common, and `vindaesk` itself
     building        proves and builds the program, for the launcher; installing puts all of it elsewhere
     session         one program that is driven line by line; pages, lint, testing: pages in HTML, rules, stored scripts
     apps            apps, and their layouts
@@ -11,6 +11,7 @@ Its subpackages, each of which uses only those below it:
     pictures        PNG files, the pictures of frames, and where two differ
     layouts         documents of compiled XML: their elements, values, sources, and faults
     scripts         lines, replies, refusals
-    program         the program as a process
+    program         the program as a process, its calls and statuses
+    provenance      of which sources the program is: dist/, what was built here, and which of them is run
     common          files, messages, failures, progress
 """

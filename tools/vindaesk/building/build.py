@@ -1,4 +1,4 @@
-"""Proves and builds the program, for the launcher, which calls `python3 -m vindaesk.building.build`.
+"""Proves and builds the program, for the launcher.
 
 Crates are built side by side, each once those that it uses are built: by as many processes as there are processors, or
 as the variable VINDAESK_JOBS says, and as many crates as fit the memory that is free, or the GB that VINDAESK_MEMORY
@@ -15,16 +15,16 @@ import tempfile
 import time
 from typing import Callable, Dict, Iterator, List, Optional, Set
 
-from ..common import ending, progress
+from ..common import progress
 from ..common.failures import Failure, NOT_BUILT
 from ..common.messages import say
 from ..common.places import TOP
+from ..provenance.built import OUT, STAMP
 from . import crates
 from .build_folders import Rooms, locked
 from .crates import Crate
 
 PROGRAM = "view_tool"
-OUT = os.path.join(TOP, "crates", PROGRAM, "out")
 BEGUN = os.path.join(OUT, "launcher.begun")
 # how many processes a proof gains by
 MAX_JOBS = 8
@@ -46,12 +46,21 @@ class Interrupted(Exception):
 
 
 class Signals:
-    """The signals that end a build."""
+    """The signals that end a build, while it runs."""
 
     def __init__(self) -> None:
         self.came: List[int] = []
-        for number in (signal.SIGINT, signal.SIGTERM, signal.SIGHUP):
-            signal.signal(number, lambda number, _: self.came.append(number))
+        found = {it: signal.getsignal(it) for it in (signal.SIGINT, signal.SIGTERM, signal.SIGHUP)}
+        self.before = {it: action for it, action in found.items() if action != signal.SIG_IGN}
+
+    def __enter__(self) -> "Signals":
+        for it in self.before:
+            signal.signal(it, lambda number, _: self.came.append(number))
+        return self
+
+    def __exit__(self, *_: object) -> None:
+        for it, action in self.before.items():
+            signal.signal(it, action)
 
     def pause(self) -> None:
         """Waits for a moment, and ends the build if a signal came."""
@@ -249,13 +258,14 @@ def ended(made: Build) -> Iterator[None]:
         raise
 
 
-def build() -> None:
-    """Builds the program. All but itself is built in rooms, while the crates of the checkout are locked."""
-    signals, known = Signals(), crates.read(TOP)
+def build(pause: Callable[[], None]) -> None:
+    """Builds the program. All but itself is built in rooms, while the crates of the checkout are locked. In between
+    `pause` is called."""
+    known = crates.read(TOP)
     order = [*crates.below(known, PROGRAM), PROGRAM]
     rooms = Rooms(TOP)
-    made = Build(known, order, rooms, signals.pause)
-    with locked([os.path.join(TOP, "crates", it) for it in order], signals.pause), rooms, ended(made):
+    made = Build(known, order, rooms, pause)
+    with locked([os.path.join(TOP, "crates", it) for it in order], pause), rooms, ended(made):
         made.until(len(order) - 1)
     with ended(made):
         made.until(len(order))
@@ -270,25 +280,19 @@ def noted() -> Iterator[None]:
         pass
     try:
         yield
-        os.replace(BEGUN, os.path.join(OUT, "launcher.stamp"))
+        os.replace(BEGUN, STAMP)
     finally:
         if os.path.exists(BEGUN):
             os.unlink(BEGUN)
 
 
-def main(_: object) -> int:
-    """Builds the program."""
-    sys.argv[0] = "vindaesk"
+def run() -> None:
+    """Builds the program; a signal that ends this ends the process."""
     try:
-        with noted():
-            build()
+        with Signals() as signals, noted():
+            build(signals.pause)
             if not os.access(os.path.join(OUT, PROGRAM), os.X_OK):
                 raise Failure("rt run left no program at %s" % os.path.join(OUT, PROGRAM), NOT_BUILT)
     except Interrupted as it:
         signal.signal(it.number, signal.SIG_DFL)
         os.kill(os.getpid(), it.number)
-    return 0
-
-
-if __name__ == "__main__":
-    ending.call(main)

@@ -18,6 +18,10 @@ from ..common.failures import Failure
 from ..layouts import compiler, documents, source_reader, source_writer
 from ..scripts.resource_names import Names
 from . import arguments
+from .uses import Purpose, Use
+
+USE = Use(Purpose.READ, "vindaesk axml inbox/res/layout/inbox.xml out.xml",
+          "compiles the source of a layout, or makes a source of a compiled one")
 
 
 def reader() -> argparse.ArgumentParser:

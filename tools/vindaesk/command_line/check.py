@@ -12,6 +12,9 @@ from typing import Optional, Sequence
 from ..common import failures
 from ..lint import refused_lines
 from . import arguments
+from .uses import Purpose, Use
+
+USE = Use(Purpose.CHECK, "vindaesk check faults.script", "which lines of a script are refused, at which word, and why")
 
 
 def reader() -> argparse.ArgumentParser:

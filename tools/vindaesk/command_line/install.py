@@ -14,6 +14,9 @@ from ..common import failures, places
 from ..common.failures import Failure
 from ..installing import install
 from . import arguments
+from .uses import Purpose, Use
+
+USE = Use(Purpose.PROJECT, "vindaesk install out", "puts the program and the tools below a folder")
 
 
 def reader() -> argparse.ArgumentParser:

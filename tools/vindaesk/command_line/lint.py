@@ -20,6 +20,9 @@ from ..scripts.replies import Refused
 from ..views import screens
 from ..views.screens import Screen
 from . import arguments
+from .uses import Purpose, Use
+
+USE = Use(Purpose.CHECK, "vindaesk lint card.script --dpi 160,320", "what is wrong with a layout, on several screens")
 
 
 def reader() -> argparse.ArgumentParser:

@@ -19,6 +19,9 @@ from ..pages import page
 from ..scripts.replies import Refused
 from . import arguments
 from .arguments import Adapted
+from .uses import Purpose, Use
+
+USE = Use(Purpose.LOOK, "vindaesk page reader.script out.html", "a page in HTML with each frame, its views and touches")
 
 
 def reader() -> argparse.ArgumentParser:

@@ -18,6 +18,10 @@ from ..testing import evidence
 from ..views import placement
 from ..views.placement import Placed
 from . import arguments
+from .uses import Purpose, Use
+
+USE = Use(Purpose.CHECK, "vindaesk screenshot screen.script - | vindaesk picdiff screen.png -",
+          "where two pictures differ")
 
 
 def reader() -> argparse.ArgumentParser:

@@ -24,6 +24,9 @@ from ..testing.configurations import Configuration
 from ..testing.report import Failed, Sum
 from ..testing.trials import Result, Task
 from . import arguments, matrix
+from .uses import Purpose, Use
+
+USE = Use(Purpose.CHECK, "vindaesk runall .", "runs stored scripts, and compares what they write with their answers")
 
 
 def shard(word: str) -> Tuple[int, int]:

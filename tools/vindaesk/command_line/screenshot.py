@@ -20,6 +20,10 @@ from ..scripts import script
 from ..scripts.replies import Refused
 from ..scripts.script import Script
 from . import arguments
+from .uses import Purpose, Use
+
+USE = Use(Purpose.LOOK, "vindaesk screenshot card.script out.png --scale 2",
+          "the picture that a script ends with, or one of each frame")
 
 
 def reader() -> argparse.ArgumentParser:

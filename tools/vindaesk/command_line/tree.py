@@ -16,6 +16,9 @@ from ..scripts import script
 from ..scripts.replies import Refused
 from ..views import placement
 from . import arguments
+from .uses import Purpose, Use
+
+USE = Use(Purpose.LOOK, "vindaesk tree card.script", "each view that a script leaves, and where it is in the window")
 
 
 def reader() -> argparse.ArgumentParser:

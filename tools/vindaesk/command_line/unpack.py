@@ -17,6 +17,10 @@ from ..apps.unpacker import Unpacked
 from ..common import failures, files, messages
 from ..common.messages import say
 from . import arguments
+from .uses import Purpose, Use
+
+USE = Use(Purpose.READ, "vindaesk unpack inbox/inbox.apk out",
+          "the layouts of an app, and lines with the values that they name")
 
 
 def reader() -> argparse.ArgumentParser:

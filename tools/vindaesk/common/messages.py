@@ -25,6 +25,9 @@ def tool(name: str) -> str:
 
 
 def say(sentence: str) -> None:
-    """Writes a sentence on standard error, after the tool's name."""
-    progress.clear()
-    print("%s: %s" % (os.path.basename(sys.argv[0]), printable(sentence)), file=sys.stderr)
+    """Writes a sentence on standard error, after the tool's name. Where that is closed, the sentence is lost."""
+    try:
+        progress.clear()
+        print("%s: %s" % (os.path.basename(sys.argv[0]), printable(sentence)), file=sys.stderr)
+    except OSError:
+        return

@@ -25,7 +25,7 @@ REAL = re.compile(NUMBER, re.ASCII)
 LENGTH = re.compile(r"(%s)(px|dip|dp|sp|pt|in|mm)" % NUMBER, re.ASCII)
 SHARE = re.compile(r"(%s)%%(p?)" % NUMBER, re.ASCII)
 DECIMAL = re.compile(r"-?\d{1,10}", re.ASCII)
-HEX = re.compile(r"0[xX][0-9A-Fa-f]{1,8}")
+HEX = re.compile(r"0x[0-9A-Fa-f]{1,8}")
 ESCAPE = re.compile(r"\\(u[0-9A-Fa-f]{4}|.?)", re.DOTALL)
 # what is no character of XML, or is there no longer after it was read
 UNSAID = re.compile("[^\u0020-\ud7ff\ue000-\ufffd\U00010000-\U0010ffff]")
@@ -124,7 +124,7 @@ def whole(text: str) -> Optional[Value]:
     """The value of a whole number."""
     if HEX.fullmatch(text):
         return Value(HEXADECIMAL, int(text, 16))
-    if not DECIMAL.fullmatch(text) or not -(1 << 31) <= int(text) <= ALL:
+    if not DECIMAL.fullmatch(text) or not -(1 << 31) <= int(text) < 1 << 31:
         return None
     return Value(WHOLE, int(text) & ALL)
 
@@ -146,7 +146,9 @@ def dimension(text: str) -> Optional[Value]:
 def share(text: str) -> Optional[Value]:
     """The value of a fraction in hundredths, of a view or, with `p`, of its parent."""
     found = SHARE.fullmatch(text)
-    return Value(FRACTION, complex_word(single(float(found[1]) / 100), len(found[2]))) if found else None
+    if not found:
+        return None
+    return Value(FRACTION, complex_word(single(single(float(found[1])) * single(0.01)), len(found[2])))
 
 
 READERS = {"colour": colour, "boolean": boolean, "whole": whole, "float": real, "dimension": dimension, "share": share}

@@ -1,27 +1,16 @@
-"""Finds the built program and runs it, without the launcher: whether sources have changed since is not looked at."""
+"""Finds the program and runs it for a tool."""
 import contextlib
-import os
+import functools
 import signal
 import subprocess
 import tempfile
 import threading
 from typing import Iterator, List, Optional, Set, Tuple
 
-from ..common.failures import Failure, NOT_BUILT
-from ..common.places import TOP
+from ..common.failures import Failure
+from ..provenance import choice
+from . import statuses
 
-BUILT = os.path.join(TOP, "crates", "view_tool", "out", "view_tool")
-INSTALLED = os.path.join(TOP, "view_tool")
-# the longest script that the program reads
-MAX_SCRIPT = 16777216
-SENTENCES = {
-    2: "it does not know these arguments",
-    3: "the script could not be read further",
-    4: "the answer could not be written further",
-    5: "out of memory",
-    6: "a layout file could not be read",
-    7: "the script has more than %d bytes" % MAX_SCRIPT,
-}
 # what `ran` runs, and whether it is to run no more
 RUNNING: Set["subprocess.Popen[bytes]"] = set()
 STOPPED = threading.Event()
@@ -32,19 +21,22 @@ class Stopped(BaseException):
 
 
 def path() -> str:
-    """The program: the one that the variable VINDAESK_PROGRAM names, the one that was installed with the tools, or the
-    one that was built here."""
-    found = os.environ.get("VINDAESK_PROGRAM") or (INSTALLED if os.path.exists(INSTALLED) else BUILT)
-    if not (os.path.isfile(found) and os.access(found, os.X_OK)):
-        raise Failure("there is no program at %s; ./vindaesk run builds it, see ./vindaesk --help" % found, NOT_BUILT)
-    return os.path.realpath(found)
+    """The program: the one that the variable VINDAESK_PROGRAM names, or the one of this place (choice.py)."""
+    return choice.named() or own()
+
+
+@functools.lru_cache(maxsize=None)
+def own() -> str:
+    """The program of this place. It is looked for once: that takes longer than a short run, and a tool that is called
+    while sources are edited uses one program to its end."""
+    return choice.available()
 
 
 def failed(status: int) -> Failure:
     """What there is to say of a run that ended before its end."""
     if status < 0:
         return Failure("the program was ended by the signal %s" % signal.Signals(-status).name, 128 - status)
-    return Failure("the program ended with status %d: %s" % (status, SENTENCES.get(status, "unknown")), status)
+    return Failure("the program ended with status %d: %s" % (status, statuses.short(status)), status)
 
 
 def ran(words: List[str], given: bytes, folder: str, seconds: Optional[float] = None) -> Tuple[bytes, int]:

@@ -6,7 +6,7 @@ from typing import List, NamedTuple, Optional, Sequence, Tuple
 
 from ..common import files
 from ..common.failures import Failure, NOT_RUN
-from ..program.process import MAX_SCRIPT
+from ..program.statuses import MAX_SCRIPT
 from . import names
 from .names import Expanded, Ids, Unknown
 

@@ -1,0 +1,41 @@
+"""What a refusal or a fault means, by its number or its name; or a line, by its first word; or an attribute of a layout
+file. Without a word, all that can be explained is listed.
+
+The status is 0, or 2 where a word means nothing.
+"""
+import argparse
+import sys
+from typing import Optional, Sequence
+
+from ..common import failures, files
+from ..common.failures import Failure
+from ..scripts import explanations
+from . import arguments
+from .uses import Purpose, Use
+
+USE = Use(Purpose.CHECK, "vindaesk explain NoView", "what a refusal, a line or an attribute means")
+
+
+def reader() -> argparse.ArgumentParser:
+    """The arguments."""
+    found = arguments.parser(__doc__)
+    found.add_argument("word", metavar="WORD", nargs="?", help="a number, as 31, or a name, as NoView or gravity")
+    return found
+
+
+def main(words: Optional[Sequence[str]] = None) -> int:
+    given = sys.argv[1:] if words is None else list(words)
+    if given[:1] in (["-h"], ["--help"], ["--version"]):
+        reader().parse_args(given)
+    tables = explanations.read()
+    text = explanations.explained(tables, given[0]) if len(given) == 1 else ""
+    if not given:
+        text = explanations.every(tables)
+    if not text:
+        from ..scripts.grammar import guess
+
+        near = guess(given[0], tables.words()) if len(given) == 1 else ""
+        more = "%s vindaesk explain lists what there is to explain" % (near or ";")
+        raise Failure("there is no '%s'%s" % (" ".join(given), more), failures.NOT_RUN)
+    files.write("-", text.encode())
+    return 0

@@ -1,0 +1,1 @@
+"""Compiled resources: tables, configurations, and what a device takes of them."""
