@@ -6,6 +6,7 @@ import time
 from typing import Any, Dict, List
 
 import chromium
+import golden
 from running import Checks, Skipped
 from tools import RED, UNSETTLED, WITHOUT, place, unlike
 
@@ -181,8 +182,54 @@ def shows() -> str:
         return ""
 
 
+def of_report(browser: chromium.Browser) -> str:
+    """How what a browser shows of a report is not as it should be, by keys too."""
+    shown = "document.getElementById('name').textContent + ' ' + document.querySelector('#modes :checked').value"
+    steps = (("j", "./a@large side"), ("2", "./a@large overlay"), ("3", "./a@large difference"), ("k", "./a@small difference"),
+             ("1", "./a@small side"))
+    for key, wanted in steps:
+        browser.value("document.dispatchEvent(new KeyboardEvent('keydown', {key: '%s', bubbles: true}))" % key)
+        if browser.value(shown) != wanted:
+            return "after the key %s it shows %s" % (key, browser.value(shown))
+    browser.value("location.hash = '#b@new'")
+    time.sleep(0.2)
+    found = (browser.value(shown), browser.value("document.querySelectorAll('#stage img').length"),
+             browser.value("document.getElementById('accept').textContent.split(' ').slice(1).join(' ')"),
+             browser.value("document.getElementById('why').textContent"))
+    wanted_now = ("./b@new side", 1, ". --accept ./b@new", "it has no b@new.png; --accept writes one")
+    if found != wanted_now:
+        return "of a new case it shows %s" % (found,)
+    browser.value("location.hash = '#a@large'; document.querySelector('#modes [value=overlay]').click()")
+    time.sleep(0.2)
+    for share, clip in ((0, "100%"), (100, "0%"), (30, "70%")):
+        browser.value("document.getElementById('share').value = %d; document.getElementById('share').oninput()" % share)
+        if not browser.value("document.querySelector('.over').style.clipPath").endswith(clip + ")"):
+            return "with the slider at %d: %s" % (share, browser.value("document.querySelector('.over').style.clipPath"))
+    rows = browser.value("[...document.querySelectorAll('#regions button')].map(it => it.textContent)")
+    return "" if rows and all('in v2 TextView @id/reply "Answer"' in it for it in rows) else "regions: %s" % rows
+
+
+def shows_report() -> str:
+    if not chromium.COMMAND:
+        raise Skipped("chromium")
+    with place() as it:
+        golden.put_cards(it)
+        it.call("runall", ".", "--report", "out")
+        for width, is_dark in ((1200, False), (360, True)):
+            with chromium.Browser(width, 700, is_dark) as browser:
+                browser.open(os.path.join(it.folder, "out", "index.html"))
+                why = of_report(browser)
+                if browser.value("document.documentElement.scrollWidth > innerWidth"):
+                    why = why or "it is wider than the window"
+                dark = browser.value("getComputedStyle(document.body).backgroundColor")
+                if why or (dark == "rgb(15, 19, 24)") != is_dark:
+                    return "%d pixels wide: %s" % (width, why or "its background is %s" % dark)
+        return ""
+
+
 def checks() -> Checks:
     yield "the page: records", records
     yield "the page: limits", limits
     yield "the page: wrong scripts", wrong_scripts
     yield "browser: shows a page", shows
+    yield "browser: shows a report", shows_report

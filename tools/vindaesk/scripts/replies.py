@@ -88,6 +88,11 @@ class Refused:
         column = expanded.written_column(found.column)
         return "%s:%d: %s: %s" % (place.place(), column, found.title, found.why)
 
+    def first(self) -> str:
+        """The place of the first refused line and why it was refused; nothing where none was."""
+        (number, _), refusal = next(iter(self.known.items()), ((0, b""), None))
+        return self.sentence(number, refusal) if refusal else ""
+
     def add_all(self, part: Part, answer: Answer) -> None:
         """Counts the refused lines of a part."""
         for refusal in answer.refusals.values():

@@ -181,10 +181,15 @@ def diff(wanted: bytes, found: bytes, name: str) -> str:
 
 
 def picture(case: Case) -> Picture:
-    """The picture of a script's last frame."""
+    """The picture of a script's last frame. Where there is none, the failure has the first refused line too."""
     of = made(case)
-    *_, last = frames.frames(of, Refused(of, is_silent=True))
-    return frames.picture_of(last)
+    refused = Refused(of, is_silent=True)
+    *_, last = frames.frames(of, refused)
+    try:
+        return frames.picture_of(last)
+    except Failure as failure:
+        first = refused.first()
+        raise Failure("%s; %s" % (failure, first) if first else str(failure), failure.status)
 
 
 def missing(case: Case, ending: str) -> str:
