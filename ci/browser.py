@@ -199,8 +199,9 @@ def of_report(browser: chromium.Browser) -> str:
     wanted_now = ("./b@new side", 1, ". --accept ./b@new", "it has no b@new.png; --accept writes one")
     if found != wanted_now:
         return "of a new case it shows %s" % (found,)
-    browser.value("location.hash = '#a@large'; document.querySelector('#modes [value=overlay]').click()")
+    browser.value("location.hash = '#a@large'")
     time.sleep(0.2)
+    browser.value("document.querySelector('#modes [value=overlay]').click()")
     for share, clip in ((0, "100%"), (100, "0%"), (30, "70%")):
         browser.value("document.getElementById('share').value = %d; document.getElementById('share').oninput()" % share)
         if not browser.value("document.querySelector('.over').style.clipPath").endswith(clip + ")"):

@@ -40,6 +40,15 @@ def names_everywhere() -> str:
         return why or unlike(it.call("tree", "a.script", "--ids", "no.txt"), 2, b"", "no.txt cannot be read: No such")
 
 
+def escapes_texts() -> str:
+    """lint shows a text as tree does, in which a quotation mark has a backslash."""
+    with place() as it:
+        text = "window 9 9\nadd root TextView 3 match\ntext v1 a \"b\" c\\\\d\nframe\n"
+        shown = b'v1 TextView "a \\"b\\" c\\\\d"'
+        found = it.call("lint", "-", "--only", "text-cut", given=text)[1], it.call("tree", "-", given=text)[1]
+        return "" if all(it.startswith(shown) for it in found) else "%r" % (found,)
+
+
 def unknown_names() -> str:
     with place() as it:
         it.put("a.script", "window 9 9\nadd root View 1 1\nid v1 @id/repli\nbounds @id/x @id/y\n")
@@ -375,7 +384,7 @@ def finds_regions() -> str:
 
 def checks() -> Checks:
     yield from named("golden tests", (
-        names_everywhere, unknown_names, keeps_names, includes_files, refuses_includes, tries_configurations,
+        names_everywhere, escapes_texts, unknown_names, keeps_names, includes_files, refuses_includes, tries_configurations,
         draws_configurations, wrong_configurations, leaves_a_report, accepts_some, takes_configurations_of_the_call,
         keeps_the_sum, finds_regions
     ))
