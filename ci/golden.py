@@ -318,7 +318,7 @@ def accepts_some() -> str:
                 return "%s: it writes %r%s" % (words, found[1], found[2])
         it.put("a.script", CARD % "Other")
         why = unlike(it.call("runall", "--accept", ".", **home), 0, None, "")
-        why = why or unlike(it.call("runall", ".", "--accept", "b@smal"), 2, b"", "no case is named 'b@smal'; did you mean 'b@small'?\n")
+        why = why or unlike(it.call("runall", ".", "--accept", "b@sml"), 2, b"", "no case is named 'b@sml'; did you mean 'b@small'?\n")
         listed = b"./a@large\n./b@large\n"
         why = why or unlike(it.call("runall", ".", "-k", "LARGE", "--list"), 0, listed, "")
         why = why or unlike(it.call("runall", ".", "-k", "x", "--list"), 2, b"", "no name of 5 cases has x\n")
