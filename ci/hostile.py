@@ -164,6 +164,10 @@ def names_files_of_apps() -> str:
         it.put("a.xml", compiler.compiled(nodes))
         ended = it.call("check", "-", given="window 9 9\nres @7F040000 text x\ninflate a.xml\n")
         said = b"this resource is a text; here has to be a colour"
+        it.put("ids.txt", "app:drawable/pill = 0x7f040000\n")
+        named_now = it.call("check", "-", given="window 9 9\nres @drawable/pill text x\ninflate a.xml\n")[1]
+        if b'android:background="@drawable/pill": ' not in named_now:
+            return "%r" % named_now
         return unlike(ended, 1, None, "") or ("" if said in ended[1] else "%r" % ended[1])
 
 

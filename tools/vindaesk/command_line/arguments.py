@@ -8,8 +8,8 @@ from typing import Callable, List, NamedTuple
 from ..common import files
 from ..common.failures import Failure, NOT_RUN
 from ..common.places import version
+from ..scripts import script
 from ..scripts.script import Script
-from ..testing import configurations
 
 
 class ShowVersion(argparse.Action):
@@ -53,7 +53,10 @@ def scripts(given: argparse.Namespace, is_strict: bool = True) -> List[Adapted]:
     """The script of a call in each configuration that is asked for; without one as it is. Names without an id stay, if
     the call is not strict."""
     if not given.config:
-        return [Adapted("", configurations.read(given.script, None, given.ids, is_strict))]
+        made = script.named(script.written_in(given.script), given.script, given.ids, is_strict)
+        return [Adapted("", made)]
+    from ..testing import configurations
+
     found = configurations.chosen(given.script, given.config)
     return [Adapted(it.name, configurations.read(given.script, it, given.ids, is_strict)) for it in found]
 

@@ -31,10 +31,10 @@ NOT_XML, MISSING = 5, 39
 MOST = 100
 
 
-def shown(it: Attribute) -> str:
-    """An attribute as a source has it."""
+def shown(it: Attribute, names: Names) -> str:
+    """An attribute as a source has it, with resources by their names."""
     name = ("android:" if it.namespace == ANDROID else "") + it.name
-    text = values.shown(it.value, attributes.form_of(it.namespace, it.name), Names())
+    text = values.shown(it.value, attributes.form_of(it.namespace, it.name), names)
     if text is None:
         text = "%02x %08x" % (it.value.kind, it.value.word)
     return '%s="%s"' % (name, messages.shown(text.encode("utf-8", "replace"), 60))
@@ -43,8 +43,9 @@ def shown(it: Attribute) -> str:
 class Files:
     """The layout files of a script, after the lines `dpi` and `res` that were carried out so far."""
 
-    def __init__(self, folder: str):
+    def __init__(self, folder: str, names: Names):
         self.folder = folder
+        self.names = names
         self.settings: List[bytes] = []
         self.known: Dict[Tuple[str, bytes, int], str] = {}
 
@@ -90,7 +91,7 @@ class Files:
             why = "the element has no %s" % " and no ".join("android:" + it for it in SIZES if it not in there)
         elif number in OF_ATTRIBUTES:
             culprit = self.culprit(found[0], number)
-            places += ": " + shown(culprit) if culprit else ""
+            places += ": " + shown(culprit, self.names) if culprit else ""
             why = self.other_kind(culprit) or why if culprit and number == BAD_VALUE else why
         return messages.printable("%s: %s: %s" % (name, places, why))
 

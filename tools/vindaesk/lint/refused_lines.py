@@ -29,7 +29,7 @@ class Checker:
 
     def __init__(self, made: Script):
         self.made = made
-        self.files = faults.Files(made.folder)
+        self.files = faults.Files(made.folder, made.ids.listed)
 
     def finding(self, number: int, refusal: Refusal) -> Finding:
         """The refused line of a number."""

@@ -11,7 +11,6 @@ from typing import List, NamedTuple, Optional, Sequence, Tuple
 
 from ..common import files
 from ..common.failures import Failure, NOT_RUN
-from .grammar import guess
 from .resource_names import SYSTEM, Names
 
 LIST = "ids.txt"
@@ -86,6 +85,8 @@ class Ids:
 
     def unknown(self, package: str, kind: str, name: str) -> str:
         """Why a name has no id."""
+        from .grammar import guess
+
         whole = "@%s%s/%s" % (package and package + ":", kind, name)
         if package == SYSTEM and kind == "id":
             return "Android has no public id %s%s" % (whole, guess(name, tuple(OF_ANDROID)))

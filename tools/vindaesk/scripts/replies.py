@@ -10,7 +10,7 @@ from ..common import progress
 from ..common.failures import Failure, WRONG
 from ..common.messages import say, tool
 from ..program import process
-from . import grammar, reasons, script
+from . import script
 from .script import Script
 
 MARK = b"?"
@@ -83,6 +83,9 @@ class Refused:
 
     def sentence(self, number: int, refusal: Refusal) -> str:
         """The place of a line, and why it was refused."""
+        # loaded where a line is refused, since that takes a tenth of a start
+        from . import reasons
+
         place, expanded = self.made.place(number), self.made.expanded(number)
         found = reasons.reason(self.made.lines[number - 1], refusal.number, refusal.text)
         column = expanded.written_column(found.column)
@@ -105,7 +108,7 @@ class Refused:
         if self.most and self.following:
             count = sum(self.following.values())
             say("%d more %s refused, by %s, as may follow from that; %s lists all" % (
-                count, "line is" if count == 1 else "lines are", grammar.listed(list(self.following)), tool("check")
+                count, "line is" if count == 1 else "lines are", " or ".join(self.following), tool("check")
             ))
         return WRONG if self.count else 0
 

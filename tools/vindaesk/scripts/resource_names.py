@@ -5,7 +5,6 @@ from typing import Dict, List, Optional, Tuple
 
 from ..common.failures import Failure, NOT_RUN
 from ..common.messages import shown
-from .grammar import guess
 
 LINE = re.compile(r"(?:([A-Za-z_][\w.]*):)?(\w+)/([\w.$-]+) *= *(?:0x)?([0-9A-Fa-f]{8})", re.ASCII)
 # the package of what an app has itself, and where the ids of its views begin where there are none yet
@@ -67,6 +66,9 @@ class Names:
         """The id of a name, which has to be there."""
         number = self.found(package, kind, name)
         if number is None:
+            # the grammar is loaded where it is needed, since that takes a tenth of a start
+            from .grammar import guess
+
             whole = "%s%s/%s" % (package and package + ":", kind, name)
             near = guess(name, tuple(it[2] for it in self.ids if it[1] == kind))
             raise Unnamed("the list of ids has no %s%s" % (whole, near))

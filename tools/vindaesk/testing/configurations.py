@@ -16,12 +16,11 @@ Each table is a configuration by its name; `matrix` has names of tables that are
 
 docs/TOOLS.md has the keys. What is before the first table holds for each configuration that has no such key.
 """
-import dataclasses
 import functools
 import itertools
 import os
 import re
-from typing import Dict, List, Optional, Sequence, Tuple
+from typing import Any, Dict, List, NamedTuple, Optional, Sequence, Tuple
 
 from ..common import files, toml
 from ..common.failures import Failure, NOT_RUN
@@ -41,8 +40,7 @@ NAME = re.compile(r"[A-Za-z0-9_][A-Za-z0-9_.+-]{0,63}")
 DIRECTIONS = ("ltr", "rtl")
 
 
-@dataclasses.dataclass(frozen=True)
-class Configuration:
+class Configuration(NamedTuple):
     """A configuration: its name, and what it sets. Sides of the window are in dp; nothing is None or empty. `file` and
     `line` are where it is written."""
 
@@ -62,7 +60,7 @@ class Configuration:
         return Failure("%s:%d: %s: %s" % (self.file, self.line, self.name, why), NOT_RUN)
 
 
-KEYS = tuple(it.name for it in dataclasses.fields(Configuration) if it.name not in ("name", "file", "line"))
+KEYS = tuple(it for it in Configuration._fields if it not in ("name", "file", "line"))
 # what each key takes
 TAKES = {
     "window": "width and height in dp, as [360, 640]", "dpi": "a number from %d to %d" % (LEAST_DPI, MOST_DPI),
@@ -129,7 +127,7 @@ def combined(parts: Sequence[Tuple[Table, Dict[str, object]]], common: Dict[str,
     """The configuration that some tables make together."""
     name = "-".join(table.name for table, _ in parts)
     line = parts[0][0].line
-    made = dict(common)
+    made: Dict[str, Any] = dict(common)
     for place, (table, own) in enumerate(parts):
         twice = [(other.name, key) for other, taken in parts[:place] for key in own if key in taken]
         if twice:
@@ -139,7 +137,7 @@ def combined(parts: Sequence[Tuple[Table, Dict[str, object]]], common: Dict[str,
     if not NAME.fullmatch(name):
         why = "'%s' is no name: up to 64 letters, digits, _, -, + and ., the first a letter, a digit or _" % name
         raise Failure("%s:%d: %s" % (file, line, why), NOT_RUN)
-    return dataclasses.replace(Configuration(name, file=file, line=line), **made)
+    return Configuration(name, file=file, line=line)._replace(**made)
 
 
 def of_tables(tables: List[Table], file: str) -> List[Configuration]:
