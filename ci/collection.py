@@ -10,7 +10,7 @@ from running import TOP, Check, Checks
 MODULES = (
     "examples", "pictures", "pages", "names", "broken", "limits", "tables", "launcher", "commands", "gate", "itself",
     "tools", "golden", "hostile", "plugin", "grammar", "apps", "resources", "fuzz_resources", "driving", "lints", "browser",
-    "installed", "release_checks", "package", "house", "words", "spelling", "stored",
+    "installed", "packages", "shells", "release_checks", "package", "house", "words", "spelling", "stored",
 )
 # those that are run only where they are asked for
 ON_REQUEST = ("memory", "out_of_memory")

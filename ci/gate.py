@@ -56,7 +56,8 @@ def printing(text: str, status: int) -> str:
 def called(folder: str, commands: Dict[str, str]) -> Tuple[List[bytes], int]:
     """The lines that the gate prints, and its status, with these commands in place of others; packages a and b are
     asked for, and nothing is installed."""
-    os.mkdir(os.path.join(folder, ".ci"))
+    for name in (".ci", "ci"):
+        os.mkdir(os.path.join(folder, name))
     shutil.copy(os.path.join(TOP, ".ci", "run"), os.path.join(folder, ".ci"))
     put(os.path.join(folder, "bin", "dpkg-query"), "echo ok installed")
     put(os.path.join(folder, "bin", "apt-get"), "exit 1")

@@ -6,8 +6,8 @@ from typing import List, Tuple
 
 from running import PROGRAM, SECONDS, TOP, Checks, named, need, run
 from tools import place, unlike
+from vindaesk.command_line import catalogue
 from vindaesk.common import places
-from vindaesk.installing import install
 
 SCRIPT = b"window 9 9\nadd root View 1 1\nframe\nbounds\n"
 ANSWER = b"v1\nsettled 0\nv1 0 0 1 1\n"
@@ -50,21 +50,58 @@ def runs_where_it_is_copied() -> str:
         return "" if status == 0 and out.startswith(version + b"replies 1\ncommit ") else "--version: %r" % out
 
 
+def everything_below(folder: str) -> List[str]:
+    """All below a folder: files, links, and folders too."""
+    return sorted(os.path.relpath(os.path.join(at, name), folder)
+                  for at, folders, names in os.walk(folder) for name in [*folders, *names])
+
+
 def replaces_and_removes() -> str:
+    """A second time, over a file of an earlier version; then the removal, of folders too."""
     with place() as it:
         os.makedirs(os.path.join(it.folder, "made", "bin"))
+        os.makedirs(os.path.join(it.folder, "made", "share", "man"))
         it.put("made/bin/other", "x")
         it.call("install", "made")
-        before = files_below(os.path.join(it.folder, "made"))
+        before = everything_below(os.path.join(it.folder, "made"))
         it.put("made/lib/vindaesk/old", "x")
+        listed = it.read("made/lib/vindaesk/INSTALLED")
+        os.mkdir(os.path.join(it.folder, "made", "share", "old"))
+        it.put("made/share/old/page", "x")
+        it.put("made/lib/vindaesk/INSTALLED", listed + b"share/old/\nshare/old/page\n")
         why = unlike(it.call("install", "made"), 0, None, "")
-        if why or files_below(os.path.join(it.folder, "made")) != before:
-            return why or "after the second time there is %s" % files_below(os.path.join(it.folder, "made"))
+        if why or everything_below(os.path.join(it.folder, "made")) != before:
+            return why or "after the second time there is %s" % everything_below(os.path.join(it.folder, "made"))
+        why = unlike(it.call("install", "--remove", "made"), 0, None, "")
+        left = everything_below(os.path.join(it.folder, "made"))
+        if why or left != ["bin", "bin/other", "share", "share/man"]:
+            return why or "there stays %s" % left
+        it.call("install", "new")
+        why = unlike(it.call("install", "--remove", "new"), 0, None, "")
+        why = why or ("there stays %s" % it.names() if it.names() != ["made"] else "")
+        return why or unlike(it.call("install", "--remove", "made"), 2, b"", "nothing is installed at")
+
+
+def replaces_the_first_version() -> str:
+    """What version 0.1.0 has installed, which were links, a library of another form, and no list."""
+    with place() as it:
+        for folder in ("bin", "lib/vindaesk/tools", "share/man/man1"):
+            os.makedirs(os.path.join(it.folder, "made", folder))
+        for path in ("lib/vindaesk/view_tool", "lib/vindaesk/vindaesk", "lib/vindaesk/tools/tree", "bin/other",
+                     "share/man/man1/vindaesk.1"):
+            it.put("made/" + path, "x")
+        links = {"vindaesk": "vindaesk", "vindaesk-tree": "tools/tree", "vindaesk-old": "tools/old"}
+        for name, target in links.items():
+            os.symlink("../lib/vindaesk/" + target, os.path.join(it.folder, "made", "bin", name))
+        why = unlike(it.call("install", "made"), 0, None, "")
+        if why or os.path.lexists(os.path.join(it.folder, "made", "bin", "vindaesk-old")):
+            return why or "a command of the first version stays"
+        found = called(os.path.join(it.folder, "made"), ["vindaesk", "run"], SCRIPT)
+        if found != (ANSWER, 0):
+            return "%r" % (found,)
         why = unlike(it.call("install", "--remove", "made"), 0, None, "")
         left = files_below(os.path.join(it.folder, "made"))
-        if why or left != ["bin/other"]:
-            return why or "there stays %s" % left
-        return unlike(it.call("install", "--remove", "made"), 2, b"", "nothing is installed at")
+        return why or ("there stays %s" % left if left != ["bin/other"] else "")
 
 
 def leaves_what_is_not_its_own() -> str:
@@ -72,19 +109,22 @@ def leaves_what_is_not_its_own() -> str:
         os.makedirs(os.path.join(it.folder, "made", "lib", "vindaesk"))
         why = unlike(it.call("install", "made"), 2, b"", "is there already, and was not installed from here")
         it.put("file", "x")
-        why = why or unlike(it.call("install", "file"), 2, b"", "Not a directory")
+        why = why or unlike(it.call("install", "file"), 2, b"", "file is no folder")
         found = it.call("install", "other", VINDAESK_PROGRAM="/nowhere")
         why = why or unlike(found, 126, b"", "there is no program at")
         os.makedirs(os.path.join(it.folder, "third", "bin"))
         it.put("third/bin/vindaesk", "x")
-        why = why or unlike(it.call("install", "third"), 2, b"", "vindaesk is there already, and is no link")
-        return why or ("" if it.read("third/bin/vindaesk") == b"x" else "another one's file is written over")
+        why = why or unlike(it.call("install", "third"), 2, b"", "vindaesk is there already, and was")
+        left = everything_below(os.path.join(it.folder, "third"))
+        if why or left != ["bin", "bin/vindaesk"]:
+            return why or "after a refusal there is %s" % left
+        return "" if it.read("third/bin/vindaesk") == b"x" else "another one's file is written over"
 
 
 def helps() -> str:
     """Each tool, by `--help`, `--version` and an argument that none knows."""
     with place() as it:
-        for tool in install.tools():
+        for tool in [*(it.name for it in catalogue.tools()), *catalogue.CHECKOUT_ALONE]:
             found = it.call(tool, "--help")
             if unlike(found, 0, None, "") or not found[1].startswith(b"usage: %s" % tool.encode()):
                 return "%s --help: status %d, %r" % (tool, *found[:2])
@@ -95,13 +135,14 @@ def helps() -> str:
         return ""
 
 
-def manual_page() -> str:
+def manual_pages() -> str:
     with place() as it:
         it.call("install", "made")
-        text = it.read("made/share/man/man1/vindaesk.1").decode()
-        for part in (".TH VINDAESK 1", "vindaesk dump page.xml", ".SS vindaesk\\-picdiff", "How many pixels"):
-            if part not in text:
-                return "%r is not in it" % part
+        for tool in catalogue.every():
+            text = it.read("made/share/man/man1/%s.1" % tool.called()).decode()
+            for part in (".TH %s 1" % tool.called().upper(), ".SH NAME", ".SH SYNOPSIS", "vindaesk"):
+                if part not in text:
+                    return "%r is not in the page of %s" % (part, tool.called())
         return ""
 
 
@@ -148,6 +189,6 @@ def needs_libc_alone() -> str:
 
 def checks() -> Checks:
     yield from named("what is installed", (
-        helps, runs_where_it_is_copied, replaces_and_removes, leaves_what_is_not_its_own, manual_page, recipe_runs,
-        needs_libc_alone
+        helps, runs_where_it_is_copied, replaces_and_removes, replaces_the_first_version,
+        leaves_what_is_not_its_own, manual_pages, recipe_runs, needs_libc_alone
     ))

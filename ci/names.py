@@ -15,7 +15,7 @@ from functools import partial
 from typing import Dict, Iterator, List, Set, Tuple
 
 from running import TOP, Checks
-from vindaesk.installing import install
+from vindaesk.command_line import catalogue
 
 ABOUT_CODE = ("ARCHITECTURE.md", "PROOFS.md", "PROMISES.md", "DECISIONS.md", "STYLE.md", "CONTRIBUTING.md")
 QUOTED = re.compile(r"`([^`\n]+)`")
@@ -157,7 +157,8 @@ def problem(page: str) -> str:
 
 def tools_without_row() -> str:
     rows = [line for _, line in plain_lines(text_of("docs/TOOLS.md")) if line.startswith("| [")]
-    missing = [name for name in install.tools() if not any("`tools/%s" % name in row for row in rows)]
+    tools = [*(it.name for it in catalogue.tools()), *catalogue.CHECKOUT_ALONE]
+    missing = [name for name in tools if not any("`tools/%s" % name in row for row in rows)]
     return "docs/TOOLS.md has no row of %s" % ", ".join(missing) if missing else ""
 
 

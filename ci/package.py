@@ -72,4 +72,4 @@ def checks() -> Checks:
     paths = ["--cache-dir", "out/mypy", "tools/vindaesk", "tools/entry.py"]
     yield "package: mypy", partial(says_nothing, "mypy", [*MYPY, *paths])
     yield "package: mypy of ci/", types_of_checks
-    yield "package: pyflakes3", partial(says_nothing, "pyflakes3", ["tools", "ci", "bench"])
+    yield "package: pyflakes3", partial(says_nothing, "pyflakes3", ["setup.py", "tools", "ci", "bench"])

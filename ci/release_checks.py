@@ -15,7 +15,8 @@ from typing import Any, Callable, Iterator, Tuple
 import launcher
 from running import SECONDS, TOP
 from vindaesk.common import places
-from vindaesk.provenance import built, changes, dist
+from vindaesk.provenance import built, dist
+from vindaesk.provenance.git import lines as lines_of_git
 from vindaesk.provenance.sources import Listing
 
 WORDS = ["version", "date", "kit", "commit", "tree", "blob", "sources", "ci"]
@@ -50,7 +51,7 @@ def is_what_is_built() -> str:
 
 def is_of_new_version() -> str:
     """At a commit that raises VERSION, dist/ is of its sources."""
-    texts = [changes.git("show", commit + ":VERSION") for commit in ("HEAD", "HEAD^")]
+    texts = [lines_of_git("show", commit + ":VERSION") for commit in ("HEAD", "HEAD^")]
     if None in texts or texts[0] == texts[1] or dist.is_of(Listing()):
         return ""
     return "this commit raises VERSION, and dist/ is of other sources: ci/release renews it"

@@ -4,7 +4,7 @@ views and pictures comes from what the program writes.
 Its subpackages, each of which uses only those below it:
 
     command_line    one module a command, what their calls have in common, and `vindaesk` itself
-    building        proves and builds the program, for the launcher; installing puts all of it elsewhere
+    building        proves and builds the program, for the launcher; installing puts all of it elsewhere, or into packages
     pytest_plugin   stored scripts as tests of pytest, and fixtures; it is a module of its own
     session         one program that is driven line by line; pages, lint, testing: pages in HTML, rules, stored scripts
     apps            apps, and their layouts

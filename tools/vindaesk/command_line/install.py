@@ -1,8 +1,8 @@
-"""Installs the built program, the launcher, the tools and a manual page below a folder.
+"""Installs the program, the tools, manual pages, completions and pages below a folder.
 
-PREFIX/bin gets `vindaesk` and `vindaesk-TOOL` for each tool, which lead to PREFIX/lib/vindaesk. The folder can be
-copied or moved, also to another machine: the program needs libc alone, the launcher bash, the tools Python 3.8. What
-was installed there before is replaced. With --remove it is taken away.
+PREFIX/bin gets `vindaesk` and `vindaesk-TOOL` for each tool. The folder can be copied or moved, also to another
+machine: the program needs libc alone, the tools Python 3.8. What was installed there before is replaced. With --remove
+it is taken away, and so are the folders that were made for it.
 
 The status is 0, or 2 where something cannot be read or written, or another one's files are in the way.
 """
@@ -12,8 +12,9 @@ from typing import Optional, Sequence
 
 from ..common import failures, places
 from ..common.failures import Failure
-from ..installing import install
-from . import arguments
+from ..installing import contents, prefix
+from ..program import process
+from . import arguments, catalogue, version
 from .uses import Purpose, Use
 
 USE = Use(Purpose.PROJECT, "vindaesk install out", "puts the program and the tools below a folder")
@@ -31,11 +32,12 @@ def main(words: Optional[Sequence[str]] = None) -> int:
     given = reader().parse_args(words)
     if not given.prefix:
         raise Failure("PREFIX is empty", failures.NOT_RUN)
-    prefix = os.path.abspath(given.prefix)
+    folder = os.path.abspath(given.prefix)
     if given.remove:
-        install.remove(prefix)
-        print("removed from %s" % prefix)
+        prefix.remove(folder)
+        print("removed from %s" % folder)
         return 0
-    install.install(prefix)
-    print("%s is installed; call %s" % (places.version(), os.path.join(prefix, "bin", "vindaesk")))
+    package = contents.package(process.path(), version.commit())
+    prefix.install(folder, package, prefix.rest(catalogue.every()))
+    print("%s is installed; call %s" % (places.version(), os.path.join(folder, "bin", "vindaesk")))
     return 0

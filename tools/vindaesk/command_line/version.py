@@ -7,7 +7,7 @@ from typing import Optional, Sequence
 
 from ..common import places
 from ..common.failures import Failure
-from ..provenance import changes, choice, dist
+from ..provenance import choice, dist, git
 from . import arguments
 from .uses import Purpose, Use
 
@@ -29,7 +29,7 @@ def commit() -> str:
             return file.read().strip()
     if not os.path.exists(os.path.join(places.TOP, ".git")):
         return "unknown, since this folder is no checkout"
-    found = changes.git("describe", "--always", "--dirty", "--abbrev=40", "--exclude", "*")
+    found = git.lines("describe", "--always", "--dirty", "--abbrev=40", "--exclude", "*")
     return found[0] if found else "unknown, since git does not say"
 
 

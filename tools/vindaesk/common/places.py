@@ -1,8 +1,10 @@
-"""Where the files beside the package are."""
+"""Where the files beside the modules are."""
 import os
 
-# the folder around tools/: a checkout, or what is installed
-TOP = os.path.dirname(os.path.dirname(os.path.dirname(os.path.dirname(os.path.realpath(__file__)))))
+PACKAGE = os.path.dirname(os.path.dirname(os.path.realpath(__file__)))
+INSTALLED = os.path.join(PACKAGE, "share")
+# the folder with VERSION, docs/ and the program: the folder `share` of an installed package, or the checkout around it
+TOP = INSTALLED if os.path.isdir(INSTALLED) else os.path.dirname(os.path.dirname(PACKAGE))
 
 
 def version() -> str:

@@ -1,48 +1,129 @@
-"""The manual page, made of what the launcher and the tools say of themselves."""
-import ast
-import os
-import subprocess
-from typing import List
+"""Manual pages in the language of man(7), made of what commands know of themselves."""
+import re
+import textwrap
+import time
+from typing import List, Tuple
 
 from ..common import places
-from ..common.failures import Failure, NOT_RUN
-from ..common.places import TOP
+from .commands import Argument, Command
+
+WIDTH = 76
+ESCAPES = {"\\": "\\e", "-": "\\-", "'": "\\(aq", "`": "\\(ga", "^": "\\(ha", "~": "\\(ti"}
+# words are not broken, and lines are not filled up
+LEFT = ".nh\n.ad l\n"
+QUOTED = re.compile(r"`([^`\n]+)`")
 
 
 def escaped(text: str) -> str:
-    """A text in the language of manual pages."""
-    lines = text.replace("\\", "\\e").replace("-", "\\-").split("\n")
-    return "\n".join("\\&" + line if line.startswith((".", "'")) else line for line in lines)
+    """A text in which no character has a meaning of its own."""
+    return "".join(ESCAPES.get(it, it) for it in text)
+
+
+def bold(text: str) -> str:
+    """A text in bold."""
+    return "\\fB%s\\fR" % escaped(text)
+
+
+def italic(text: str) -> str:
+    """A text in italics, as values have."""
+    return "\\fI%s\\fR" % escaped(text)
+
+
+def line_of(text: str) -> str:
+    """A line whose first character is no control character."""
+    return "\\&" + text if text.startswith(".") else text
+
+
+def prose(text: str) -> str:
+    """A paragraph, in which words between backquotes are bold."""
+    body = "".join(bold(it) if k % 2 else escaped(it) for k, it in enumerate(QUOTED.split(text)))
+    wrapped = textwrap.wrap(body, WIDTH, break_long_words=False, break_on_hyphens=False)
+    return "\n".join(map(line_of, wrapped)) + "\n"
 
 
 def verbatim(text: str) -> str:
     """Lines that stay as they are."""
-    return ".nf\n%s\n.fi\n" % escaped(text.rstrip("\n"))
+    lines = textwrap.dedent(text).strip("\n").split("\n")
+    return ".RS 4\n.nf\n%s\n.fi\n.RE\n" % "\n".join(line_of(escaped(it.rstrip())) for it in lines)
 
 
-def usage() -> str:
-    """What `vindaesk --help` prints."""
-    ended = subprocess.run([os.path.join(TOP, "vindaesk"), "--help"], stderr=subprocess.PIPE)
-    if ended.returncode:
-        raise Failure("vindaesk --help ends with status %d" % ended.returncode, NOT_RUN)
-    return ended.stderr.decode()
+def paragraphs(text: str) -> str:
+    """A text: its paragraphs, and those that are indented, as examples are, as they are."""
+    blocks = [it for it in re.split(r"\n\s*\n", text.strip("\n")) if it.strip()]
+    return ".PP\n".join(verbatim(it) if it.startswith("    ") else prose(it) for it in blocks)
 
 
-def doc_of(tool: str) -> str:
-    """What a tool says of itself."""
-    with open(os.path.join(TOP, "tools", "vindaesk", "command_line", tool + ".py"), encoding="utf-8") as file:
-        return ast.get_docstring(ast.parse(file.read())) or ""
+def shown(argument: Argument) -> str:
+    """An argument as the list of arguments begins with it."""
+    value = italic(argument.value) if argument.value else "|".join(map(bold, argument.choices))
+    if not argument.names:
+        return value
+    return ", ".join(map(bold, argument.names)) + (" " + value if value else "")
 
 
-def page(tools: List[str]) -> bytes:
-    """The page of these tools."""
-    version = places.version()
-    parts = [
-        '.TH VINDAESK 1 "" "%s"\n' % escaped(version),
-        ".SH NAME\nvindaesk \\- the view tree of Android without the device\n",
-        ".SH SYNOPSIS\n", verbatim(usage()), ".SH TOOLS\n",
-        *[".SS vindaesk\\-%s\n%s" % (escaped(name), verbatim(doc_of(name))) for name in tools],
-        ".SH FILES\nThe lines of scripts, refusals and statuses are in docs/SCRIPT.md, the tools in docs/TOOLS.md,\n"
-        "of the folder lib/vindaesk beside the folder of the commands.\n",
-    ]
-    return "".join(parts).encode()
+def in_synopsis(argument: Argument) -> str:
+    """An argument as a call has it."""
+    one = shown(argument).split(", ")[-1]
+    one += " ..." if argument.is_repeated else ""
+    return one if argument.is_needed else "[%s]" % one
+
+
+def synopsis(command: Command) -> str:
+    """How a command is called."""
+    known = [it for it in command.arguments if "--help" not in it.names and "--version" not in it.names]
+    parts = [in_synopsis(it) for it in sorted(known, key=lambda it: not it.names)]
+    return "\n".join([bold(" ".join(["vindaesk", command.name]).strip()), *parts]) + "\n"
+
+
+def listed(arguments: List[Argument]) -> str:
+    """A list of arguments with what each means."""
+    found = []
+    for it in arguments:
+        one_of = "one of " + ", ".join(it.choices) if it.choices and it.value else ""
+        text = "; ".join(filter(None, (it.text, one_of))) or "see above"
+        found.append(".TP\n%s\n%s" % (line_of(shown(it)), prose(text)))
+    return "".join(found)
+
+
+def section(title: str, body: str) -> str:
+    """A section, or nothing where it has nothing."""
+    return ".SH %s\n%s" % (title, body) if body else ""
+
+
+def parts_of(command: Command) -> str:
+    """The commands of a command."""
+    found = []
+    for it in command.parts:
+        words = " ".join([bold(it.name), *map(in_synopsis, it.words())])
+        found.append(".TP\n%s\n%s" % (words, prose(it.summary + ".")))
+    return "".join(found)
+
+
+def split(command: Command) -> Tuple[str, str]:
+    """What a command does, and the paragraphs on its status."""
+    blocks = re.split(r"\n\s*\n", command.text.strip("\n"))
+    status = [it for it in blocks if it.startswith("The status is")]
+    return "\n\n".join(it for it in blocks if it not in status), "\n\n".join(status)
+
+
+def see_also(command: Command, commands: List[Command]) -> str:
+    """The pages of the tools on that of `vindaesk`, and this one on theirs."""
+    found = [it for it in commands if bool(it.name) != bool(command.name)]
+    return " ,\n".join(".BR %s (1)" % escaped(it.called()) for it in found) + "\n"
+
+
+def page(command: Command, commands: List[Command], date: int) -> str:
+    """The page of one of these commands. The date is in seconds since 1970."""
+    does, status = split(command)
+    day = time.strftime("%Y-%m-%d", time.gmtime(date))
+    return "".join([
+        '.TH %s 1 "%s" "%s" "Vindaesk"\n' % (command.called().upper(), day, places.version()), LEFT,
+        section("NAME", prose("%s - %s" % (command.called(), command.summary))),
+        section("SYNOPSIS", synopsis(command)),
+        section("DESCRIPTION", paragraphs(does)),
+        section("COMMANDS", parts_of(command)),
+        section("ARGUMENTS", listed(command.words())),
+        section("OPTIONS", listed(command.options())),
+        section("EXIT STATUS", paragraphs(status)),
+        section("SEE ALSO", see_also(command, commands)),
+    ])

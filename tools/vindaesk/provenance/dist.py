@@ -20,7 +20,7 @@ import os
 from ..common.failures import Failure, NOT_BUILT
 from ..common.places import TOP
 from . import memory
-from .sources import Listing
+from .sources import FILES, FOLDER as FOLDER_OF_SOURCES, Listing
 
 FOLDER = os.path.join(TOP, "dist")
 PROGRAM = os.path.join(FOLDER, "view_tool")
@@ -48,8 +48,26 @@ def read() -> dict[str, list[str]]:
 
 
 def is_of(listing: Listing) -> bool:
-    """Whether the program of dist/ is of these sources."""
-    return is_there() and read().get("sources") == [listing.checksum()]
+    """Whether the program of dist/ is of these sources: by their checksum where it is known, else by git, which knows it
+    sooner than all files are read, and else by that of the files."""
+    if not is_there():
+        return False
+    wanted = read()
+    sources = wanted.get("sources", [""])[0]
+    if listing.kept() is None and is_of_commit(wanted):
+        listing.keep(sources)
+        return True
+    return listing.checksum() == sources
+
+
+def is_of_commit(wanted: dict[str, list[str]]) -> bool:
+    """Whether git says that the sources are those of PROVENANCE, and that none of them is changed or new."""
+    from . import git
+
+    where = (FOLDER_OF_SOURCES, *FILES)
+    ids = git.lines("rev-parse", *("HEAD:./" + it for it in where))
+    noted = [line.split(" ")[-1] for line in [*wanted.get("tree", []), *wanted.get("blob", [])]]
+    return ids == noted and git.lines("status", "--porcelain", "--untracked-files=all", "--", *where) == []
 
 
 def sums() -> str:

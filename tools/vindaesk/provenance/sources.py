@@ -69,15 +69,25 @@ class Listing:
         """Whether nothing that decides whether the program is up to date was written after a time."""
         return not any(it[2] > time and is_read(it[0]) for it in self.entries)
 
+    def state(self) -> bytes:
+        """The entries as bytes. Form 2 has the same bytes for equal values, which later ones do not have."""
+        return marshal.dumps(self.entries, 2)
+
+    def kept(self) -> str | None:
+        """The checksum, where it is known for these entries."""
+        return memory.recalled(KEPT, self.state()) if self.top == TOP else None
+
+    def keep(self, checksum: str) -> None:
+        """Notes the checksum, so that the sources are not read again until one changes."""
+        if self.top == TOP:
+            memory.keep(KEPT, self.state(), self.latest(), checksum)
+
     def checksum(self) -> str:
-        """The checksum over the sources. It is kept, so that they are read once until one changes."""
-        # form 2 has the same bytes for equal values, which later ones do not have
-        state = marshal.dumps(self.entries, 2)
-        found = memory.recalled(KEPT, state) if self.top == TOP else None
+        """The checksum over the sources."""
+        found = self.kept()
         if found is None:
             found = self.read()
-            if self.top == TOP:
-                memory.keep(KEPT, state, self.latest(), found)
+            self.keep(found)
         return found
 
     def read(self) -> str:
