@@ -11,7 +11,8 @@ from typing import Dict, Iterable, Iterator, Tuple
 from running import PROGRAM, TOP, Checks, named
 from tools import first, place, unlike
 from vindaesk.common import files
-from vindaesk.layouts import attributes, compiler, documents, resource_names, source_reader, source_writer, values
+from vindaesk.layouts import attributes, compiler, documents, source_reader, source_writer, values
+from vindaesk.scripts import resource_names
 
 INBOX = os.path.join(TOP, "examples", "inbox")
 APP = os.path.join(INBOX, "inbox.apk")
@@ -243,10 +244,10 @@ def unpacks() -> str:
     with place() as it:
         why = unlike(it.call("unpack", APP, "made/in"), 0, None, "")
         found = it.call("unpack", APP, "made/in")
-        wanted = LISTED + "resources.script has 9 values, and 1 that no line can say\n"
+        wanted = LISTED + "resources.lines has 9 values, and 1 that no line can say\n"
         why = why or unlike(found, 0, wanted.encode(), "")
-        if why or it.read("made/in/resources.script").decode() != LINES:
-            return why or "resources.script is '%s'" % it.read("made/in/resources.script").decode()
+        if why or it.read("made/in/resources.lines").decode() != LINES:
+            return why or "resources.lines is '%s'" % it.read("made/in/resources.lines").decode()
         for name, body in app_layouts():
             stem = re.sub(r"res/layout(-\w+)?/(\w+)", r"\2\1", name)
             if it.read(os.path.join("made/in", stem)) != body:

@@ -13,7 +13,8 @@ from functools import partial
 from typing import Iterator, Tuple
 
 from running import PROGRAM, TOP, Checks, difference, named, run
-from vindaesk.layouts import compiler, resource_names, source_reader
+from vindaesk.layouts import compiler, source_reader
+from vindaesk.scripts import resource_names
 
 GREATEST = 0xFFFFFFFF
 READ = ""

@@ -2,9 +2,11 @@
 import json
 import os
 import re
+import time
 from typing import Any, Dict, List
 
 import chromium
+import golden
 from running import Checks, Skipped
 from tools import RED, UNSETTLED, WITHOUT, place, unlike
 
@@ -42,7 +44,8 @@ def data_of(page: bytes) -> Any:
 
 def records() -> str:
     with place() as it:
-        said = "page: line 16: refused 28 NoView: remove v9\npage: line 20: refused 31 Syntax: x\n"
+        said = ("page: standard input:16:8: 28 NoView: no view has this number or id\n"
+                "page: standard input:20:1: 31 Syntax: no line begins with 'x'\n")
         found = it.call("page", "-", "a.html", "--title", "a <b>", given=TOUCHED)
         page = it.read("a.html")
         if unlike(found, 1, b"", said) or OUTSIDE.search(page) or b"<title>a &lt;b></title>" not in page:
@@ -74,7 +77,7 @@ def limits() -> str:
         text = UNSETTLED + "frame\nremove v1\nframe\n"
         found = it.call("page", "-", "-", given=text)
         lines = [step["line"] for step in data_of(found[1])["steps"]]
-        return unlike(found, 1, None, "line 12: refused 34 NoRoot: frame") or ("" if lines == [5, 10] else "%s" % lines)
+        return unlike(found, 1, None, "standard input:12:1: 34 NoRoot: the tree has no root") or ("" if lines == [5, 10] else "%s" % lines)
 
 
 def wrong_scripts() -> str:
@@ -135,24 +138,93 @@ def is_shown(browser: chromium.Browser) -> str:
     return "" if log[:1] == ["line 17: down 0 80 100 → done yes"] and len(log) == 3 else "touches: %s" % log
 
 
+def keeps_its_place(browser: chromium.Browser) -> str:
+    """How the window scrolls by itself, or the page does not follow the mouse and its address."""
+    browser.value("chosen = views[views.length - 1].number; document.activeElement.blur(); scrollTo(0, 0)")
+    for act in ("document.getElementById('after').click()", "choose(5, false)", "document.getElementById('before').click()"):
+        browser.value(act)
+        if browser.value("scrollY"):
+            return "after %s it has scrolled by %s" % (act, browser.value("scrollY"))
+    browser.value("location.hash = '#2/v2'")
+    left, top, width = stage(browser)
+    point = "new PointerEvent('%s', {clientX: %f, clientY: %f, bubbles: true})"
+    over = point % ("pointermove", left + width * 80 / 160, top + width * 30 / 160)
+    browser.value("document.getElementById('stage').dispatchEvent(%s)" % over)
+    pointed = facts(browser)["Number"]
+    browser.value("document.getElementById('stage').dispatchEvent(%s)" % (point % ("pointerleave", 0, 0)))
+    browser.value("location.hash = '#3/v3'")
+    time.sleep(0.2)
+    found = (pointed, facts(browser)["Number"], browser.value("document.getElementById('frame').value"))
+    if found != ("v4", "v3", "3"):
+        return "of the mouse, and of the address, it shows %s" % (found,)
+    browser.value("document.querySelector('#zoom [value=\"1\"]').click()")
+    return "" if stage(browser)[2] == 160 else "at 1:1 the picture is %s pixels wide" % stage(browser)[2]
+
+
 def shows() -> str:
     if not chromium.COMMAND:
         raise Skipped("chromium")
     with place() as it:
         it.call("page", "-", "a.html", given=TOUCHED)
         for width, is_dark in ((1200, False), (360, True)):
-            with chromium.Browser(width, 800, is_dark) as browser:
+            with chromium.Browser(width, 500, is_dark) as browser:
                 browser.open(os.path.join(it.folder, "a.html"))
-                why = is_shown(browser)
+                why = is_shown(browser) or keeps_its_place(browser)
                 if browser.value("document.documentElement.scrollWidth > innerWidth"):
                     why = why or "it is wider than the window"
                 dark = browser.value("getComputedStyle(document.body).backgroundColor")
                 if (dark == "rgb(15, 19, 24)") != is_dark:
                     why = why or "its background is %s" % dark
                 unnamed = browser.value("[...document.querySelectorAll('button, input, [role=tree]')].filter(it => "
-                                        "!it.ariaLabel && !it.getAttribute('aria-labelledby')).length")
+                                        "!it.ariaLabel && !it.getAttribute('aria-labelledby') && !(it.labels || []).length).length")
                 if why or unnamed:
                     return "%d pixels wide: %s" % (width, why or "%d parts have no name" % unnamed)
+        return ""
+
+
+def of_report(browser: chromium.Browser) -> str:
+    """How what a browser shows of a report is not as it should be, by keys too."""
+    shown = "document.getElementById('name').textContent + ' ' + document.querySelector('#modes :checked').value"
+    steps = (("j", "./a@large side"), ("2", "./a@large overlay"), ("3", "./a@large difference"), ("k", "./a@small difference"),
+             ("1", "./a@small side"))
+    for key, wanted in steps:
+        browser.value("document.dispatchEvent(new KeyboardEvent('keydown', {key: '%s', bubbles: true}))" % key)
+        if browser.value(shown) != wanted:
+            return "after the key %s it shows %s" % (key, browser.value(shown))
+    browser.value("location.hash = '#b@new'")
+    time.sleep(0.2)
+    found = (browser.value(shown), browser.value("document.querySelectorAll('#stage img').length"),
+             browser.value("document.getElementById('accept').textContent.split(' ').slice(1).join(' ')"),
+             browser.value("document.getElementById('why').textContent"))
+    wanted_now = ("./b@new side", 1, ". --accept ./b@new", "it has no b@new.png; --accept writes one")
+    if found != wanted_now:
+        return "of a new case it shows %s" % (found,)
+    browser.value("location.hash = '#a@large'")
+    time.sleep(0.2)
+    browser.value("document.querySelector('#modes [value=overlay]').click()")
+    for share, clip in ((0, "100%"), (100, "0%"), (30, "70%")):
+        browser.value("document.getElementById('share').value = %d; document.getElementById('share').oninput()" % share)
+        if not browser.value("document.querySelector('.over').style.clipPath").endswith(clip + ")"):
+            return "with the slider at %d: %s" % (share, browser.value("document.querySelector('.over').style.clipPath"))
+    rows = browser.value("[...document.querySelectorAll('#regions button')].map(it => it.textContent)")
+    return "" if rows and all('in v2 TextView @id/reply "Answer"' in it for it in rows) else "regions: %s" % rows
+
+
+def shows_report() -> str:
+    if not chromium.COMMAND:
+        raise Skipped("chromium")
+    with place() as it:
+        golden.put_cards(it)
+        it.call("runall", ".", "--report", "out")
+        for width, is_dark in ((1200, False), (360, True)):
+            with chromium.Browser(width, 700, is_dark) as browser:
+                browser.open(os.path.join(it.folder, "out", "index.html"))
+                why = of_report(browser)
+                if browser.value("document.documentElement.scrollWidth > innerWidth"):
+                    why = why or "it is wider than the window"
+                dark = browser.value("getComputedStyle(document.body).backgroundColor")
+                if why or (dark == "rgb(15, 19, 24)") != is_dark:
+                    return "%d pixels wide: %s" % (width, why or "its background is %s" % dark)
         return ""
 
 
@@ -161,3 +233,4 @@ def checks() -> Checks:
     yield "the page: limits", limits
     yield "the page: wrong scripts", wrong_scripts
     yield "browser: shows a page", shows
+    yield "browser: shows a report", shows_report

@@ -146,5 +146,46 @@ def ends_early() -> str:
     return unlike(zip(made, wanted))
 
 
+def takes_any_text() -> str:
+    """Characters that end lines elsewhere are a part of a text here; a carriage return right before a line feed is not."""
+    text = "a\u2028b\u2029c\x85d\x0be\x0cf\x1cg"
+    with Session() as s:
+        replies = s.script("window 100 40\r\nadd root TextView match match\r\ntext v1 %s\nframe\n" % text)
+        return unlike([(replies, ["v1", "settled 0"]), (s.tree()[0].text, text)])
+
+
+def keeps_pointers() -> str:
+    """A drag that leads too far is refused before a pointer goes down."""
+    with Session() as s:
+        s.script("window 100 40\nadd root View match match\nanswer v1 click\nframe")
+        try:
+            return "a drag: %s" % s.drag("v1", 5000000, 0)
+        except ValueError:
+            return "" if "v1 click" in s.tap("v1") else "the next tap is no click"
+
+
+def knows_names() -> str:
+    """Views by the names of their ids, in calls, in trees and in refusals; and a file that is included."""
+    with place() as it:
+        it.put("ids.txt", "app:id/send = 0x7f080002\n")
+        it.put("a.lines", "window 100 40\nadd root View match match\nid v1 @id/send\nanswer @id/send click\nframe\n")
+        with Session(it.folder) as s:
+            s.script("include a.lines")
+            node = s.tree()[0]
+            made: List[object] = [s.bounds("@id/send"), "v1 click" in s.tap("@id/send"), (node.id, node.id_name)]
+            try:
+                s.set("@id/send", "text", "x")
+            except LineRefused as refused:
+                made.append(refused.line)
+            try:
+                s.tap("@id/sent")
+            except Failure as failure:
+                made.append(str(failure))
+    said = "@id/sent is not in %s; did you mean 'send'?: bounds @id/sent" % os.path.join(it.folder, "ids.txt")
+    wanted = [Bounds(0, 0, 100, 40), True, ("@7f080002", "@id/send"), "text @id/send x", said]
+    return unlike(zip(made, wanted))
+
+
 def checks() -> Checks:
-    yield from named("a session", (lays_out, inflates, refuses, touches, takes_pictures, ends_early))
+    yield from named("a session", (lays_out, inflates, refuses, touches, takes_pictures, ends_early, takes_any_text,
+                                   keeps_pointers, knows_names))

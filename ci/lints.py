@@ -110,7 +110,7 @@ def screens() -> str:
         # a line that is refused at one density alone
         large = "window 9 9\ndpi 160\nx\nframe\n"
         found = it.call("lint", "-", "--dpi", "160,320", given=large)
-        return why or unlike(found, 1, b"", "line 3: refused 31 Syntax: x\n")
+        return why or unlike(found, 1, b"", "standard input:3:1: 31 Syntax: no line begins with 'x'\n")
 
 
 def own_rules() -> str:
@@ -140,7 +140,7 @@ def wrong_scripts() -> str:
         why = why or unlike(it.call("lint", "folder"), 2, b"", "folder cannot be read: Is a directory")
         why = why or unlike(it.call("lint", "-"), 1, b"", "there are no bounds: the script opens no window\n")
         refused = it.call("lint", "-", given="ad x\nwindow 9 9\nadd root View 1 1\nframe\n")
-        why = why or unlike(refused, 1, b"", "lint: line 1: refused 31 Syntax: ad x\n")
+        why = why or unlike(refused, 1, b"", "lint: standard input:1:1: 31 Syntax: no line begins with 'ad'; did you mean 'add'?\n")
         killed = it.call("lint", "-", given=FAULTS, **it.stand_in("kill -9 $$"))
         why = why or unlike(killed, 137, b"", "ended by the signal SIGKILL")
         ended = it.call("lint", "-", given="add root FrameLayout 1 1\ninflate folder into v1\n")

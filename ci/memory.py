@@ -14,7 +14,7 @@ import tempfile
 from functools import partial
 from typing import Dict, List, Optional, Sequence, Tuple
 
-from running import PROGRAM, SECONDS, TOP, Checks
+from running import PROGRAM, SECONDS, TOP, Checks, run
 
 PAGE = 4096
 MAX_STEPS = 192
@@ -58,7 +58,8 @@ def touching() -> bytes:
     for view in range(3, 203):
         made += ["add v2 View match 40", "bg v%d #ff%06x" % (view, view * 4099 % (1 << 24))]
     made += ["hook v%d size v%d match 41" % (view, view + 1) for view in range(3, 27)]
-    made += ["frame", "frame", "down 0 5 5", "move 0 5 1", "up 0", "scroll v1 0 900", "save", "scroll v1 0 0", "restore"]
+    # each frame fires some of the hooks, until it settles
+    made += ["frame"] * 13 + ["down 0 5 5", "move 0 5 1", "up 0", "scroll v1 900", "save", "scroll v1 0", "restore"]
     return lines(*made, "frame", "bounds v3", "digest", "remove v2", "restore 01")
 
 
@@ -114,6 +115,20 @@ SCRIPTS = {
     "deep relative": deep(["RelativeLayout"]),
     "restoring": restoring(),
 }
+
+
+# how many lines of a script are meant to be refused
+REFUSED = {"touching": 1, "refused": 51}
+
+
+def refused(name: str, script: bytes) -> str:
+    """Whether other lines are refused than those that are meant."""
+    with tempfile.TemporaryDirectory() as folder:
+        with open(os.path.join(folder, "a.xml"), "wb") as file:
+            file.write(contents("a.xml"))
+        written = run([PROGRAM, "run"], script, folder)[0].split(b"\n")
+    found = [line.decode() for line in written if b": refused " in line]
+    return "" if len(found) == REFUSED.get(name, 0) else "refused: %s" % found[:9]
 
 
 def limited(kind: int, limit: int) -> None:
@@ -192,6 +207,8 @@ def sweep(words: List[str], given: bytes, kind_name: str) -> str:
 
 def checks() -> Checks:
     yield "memory/start", starts_in_little
+    for name, script in SCRIPTS.items():
+        yield "memory/lines/%s" % name, partial(refused, name, script)
     for kind_name in LIMITS:
         for name, script in SCRIPTS.items():
             yield "memory/%s/%s" % (kind_name, name), partial(sweep, ["run"], script, kind_name)

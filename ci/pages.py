@@ -28,7 +28,8 @@ from typing import Callable, Dict, Iterable, Iterator, List, Optional, Tuple
 
 from running import PROGRAM, TOP, Check, Checks, difference, run
 from vindaesk.common import files
-from vindaesk.layouts import compiler, documents, resource_names, source_reader
+from vindaesk.layouts import compiler, documents, source_reader
+from vindaesk.scripts import resource_names
 
 # the number of the first line, its words, and the lines
 Block = Tuple[int, List[str], List[str]]

@@ -17,7 +17,7 @@ import xml.etree.ElementTree
 import zlib
 from typing import Any, Dict, Iterable, Iterator, List, Optional, Sequence, Tuple, Union
 
-from running import SECONDS, TOP, Checks, named
+from running import PROGRAM, SECONDS, TOP, Checks, named
 from vindaesk.pictures import png
 
 # the status, what is written, and what is said
@@ -212,7 +212,7 @@ def composes_windows() -> str:
         blue = red.replace("in 0", "in 1").replace("ff0000", "0000ff")
         text = "at 0 0 0\n%sat 1 1 0\nin 2 frame\n%s" % (red, blue)
         found = it.call("screenshot", "-", "a.png", "--stack", "3x2", given=text)
-        why = unlike(found, 1, b"", "screenshot: line 7: refused 43 NoPane: in 2 frame\n")
+        why = unlike(found, 1, b"", "screenshot: standard input:7:4: 43 NoPane: no window of this number is open\n")
         wanted = png.Picture(3, 2, [b"\xff\0\0" + b"\0\0\xff" * 2] * 2)
         return why or ("" if png.parsed(it.read("a.png")) == wanted else "the picture of the windows is wrong")
 
@@ -221,14 +221,14 @@ def reports_refused_lines() -> str:
     with place() as it:
         text = "# one\nad root View 1 1\n" + RED + "frame" + " " * 1020 + "\n\nbounds\nré\x07t"
         found = it.call("screenshot", "-", "a.png", given=text)
-        said = ["line 2: refused 31 Syntax: ad root View 1 1", "line 7: refused 32 LongLine: frame" + " " * 155 + " ..",
-                "line 10: refused 31 Syntax: ré\\x07t"]
-        why = unlike(found, 1, b"", "".join("screenshot: %s\n" % line for line in said))
+        said = ["2:1: 31 Syntax: no line begins with 'ad'; did you mean 'add'?",
+                "7:1025: 32 LongLine: the line has more than 1024 bytes", "10:1: 31 Syntax: no line begins with 'ré\\x07t'"]
+        why = unlike(found, 1, b"", "".join("screenshot: standard input:%s\n" % line for line in said))
         if why or it.names() != ["a.png"]:
             return why or "files: %s" % it.names()
         found = it.call("tree", "-", given="\n" * 100 + "x\n" * 60 + RED)
         lines = found[2].splitlines()
-        ends = ["tree: line 101: refused 31 Syntax: x", "tree: 10 more lines are refused"]
+        ends = ["tree: standard input:101:1: 31 Syntax: no line begins with 'x'", "tree: 10 more lines are refused"]
         if (len(lines), lines[::50]) != (51, ends):
             return "of 60 refused lines it says '%s'" % found[2]
         return unlike(found, 1, b"v1 View 0 0 2 2 bg #ffff0000\n")
@@ -281,7 +281,8 @@ def takes_frames() -> str:
         text = UNSETTLED.replace("frame\n", "bg v1 #ff00ff00\nframe\nbounds\n")
         text += "bg v1 #ff0000ff\nframe\nremove v1\nframe\n"
         found = it.call("screenshot", "-", "--frames", "made/in", "last.png", given=text)
-        said = "line 13: refused 36 Unsettled: bounds\nscreenshot: line 17: refused 34 NoRoot: frame\n"
+        said = ("standard input:13:1: 36 Unsettled: the last frame has not settled\n"
+                "screenshot: standard input:17:1: 34 NoRoot: the tree has no root\n")
         why = unlike(found, 1, b"", "screenshot: " + said)
         if why:
             return why
@@ -349,7 +350,7 @@ def follows_views() -> str:
         if why or unlike(found, 0):
             return why or unlike(found, 0)
         whole = json.loads(found[1].decode())
-        wanted = {"number": 3, "parent": 2, "depth": 3, "class": "TextView", "id": None, "text": "é\n\\ z",
+        wanted = {"number": 3, "parent": 2, "depth": 3, "class": "TextView", "id": None, "id_name": None, "text": "é\n\\ z",
                   "bounds": [0, 0, 50, 100], "window": [0, -30, 50, 70], "scroll": None, "visibility": "invisible",
                   "background": "#00000000"}
         if (whole["window"], whole["views"][2]) != ([100, 100], wanted):
@@ -532,6 +533,45 @@ def shows_progress() -> str:
         return "" if out.endswith(b"1 passed, 1 failed\n") and b"of 2" not in out else "it writes %r" % out
 
 
+def shows_long_work() -> str:
+    """What a terminal shows of a tool that waits for a slow program; nothing of it stays."""
+    with place() as it:
+        real = os.environ.get("VINDAESK_PROGRAM") or PROGRAM
+        slow = it.stand_in("'%s' \"$@\" | while IFS= read -r it; do printf '%%s\\n' \"$it\"; sleep 0.4; done" % real)
+        it.put("a.script", RED + "frame\n" * 8)
+        for words in (("tree", "a.script"), ("screenshot", "a.script", "--frames", "made"), ("page", "a.script", "-")):
+            mine, theirs = pty.openpty()
+            started = it.start("tools/" + words[0], *words[1:], stderr=theirs, **slow)
+            os.close(theirs)
+            started.communicate(timeout=SECONDS)
+            shown = os.read(mine, 4096).decode()
+            os.close(mine)
+            if started.returncode or not re.search(r"\] \d+ of \d+ parts of the script", shown) or shown[-4:] != "\r\x1b[K":
+                return "%s: status %d, it shows %r" % (words, started.returncode, shown)
+        return ""
+
+
+def closed_streams() -> str:
+    """Each tool whose standard input, output or error is closed: it ends with a sentence, or as it should."""
+    with place() as it:
+        it.put("a.script", RED)
+        it.put("a.png", png.written(png.Picture(2, 2, [b"\xff\0\0" * 2] * 2)))
+        it.copy(os.path.join(EXAMPLES, "page.xml"))
+        calls = {"screenshot": "a.script b.png", "picdiff": "a.png a.png", "tree": "a.script", "runall": "a.script",
+                 "check": "a.script", "axml": "--text page.xml -", "lint": "a.script", "page": "a.script -",
+                 "unpack": os.path.join(EXAMPLES, "inbox/inbox.apk") + " made", "install": "prefix"}
+        for tool in TOOLS:
+            for closed in ("<&-", ">&-", "2>&-", "<&- >&- 2>&-"):
+                line = "exec '%s' %s %s" % (os.path.join(TOP, "tools", tool), calls[tool], closed)
+                ended = subprocess.run(["bash", "-c", line], cwd=it.folder, stdout=subprocess.PIPE, stderr=subprocess.PIPE)
+                said = ended.stderr.decode()
+                if "Traceback" in said or ended.returncode not in (0, 1, 2, 4):
+                    return "%s %s: status %d, '%s'" % (tool, closed, ended.returncode, said)
+        line = "exec '%s' a.script >&-" % os.path.join(TOP, "tools", "tree")
+        ended = subprocess.run(["bash", "-c", line], cwd=it.folder, stderr=subprocess.PIPE)
+        return unlike((ended.returncode, b"", ended.stderr.decode()), 4, b"", "tree: standard output: ")
+
+
 def unknown_words() -> str:
     """The checks and the benchmark, by a word that names nothing."""
     with place() as it:
@@ -549,5 +589,6 @@ def checks() -> Checks:
     yield from named("the tools", (
         helps, lacks_program, takes_pictures, composes_windows, reports_refused_lines, lacks_pictures, lacks_files,
         takes_frames, ends_with_the_program, can_be_interrupted, follows_views, follows_files, reads_png,
-        refuses_broken_pictures, compares_pictures, runs_all, runs_all_that_break, shows_progress, unknown_words
+        refuses_broken_pictures, compares_pictures, runs_all, runs_all_that_break, shows_progress, shows_long_work,
+        closed_streams, unknown_words
     ))

@@ -1,8 +1,9 @@
 """The layouts of an app, under names that lines can say, and the values of the resources that they name."""
 import os
 import re
-from typing import Dict, Iterable, Iterator, List, NamedTuple, Optional, Tuple
+from typing import Container, Dict, Iterable, Iterator, List, NamedTuple, Optional, Tuple
 
+from ..common import progress
 from ..common.failures import Failure
 from ..common.messages import shown
 from ..layouts import attributes, dimensions, documents
@@ -13,13 +14,14 @@ from .archives import Archive, failure
 
 LAYOUT = re.compile(r"res/layout(-[^/]+)?/([^/]+)\.xml")
 TABLE = "resources.arsc"
-SCRIPT = "resources.script"
+SCRIPT = "resources.lines"
 UNSAYABLE = re.compile(r"[^A-Za-z0-9_.-]")
 MAX_NAME = 64
 # the longest files that the program reads, and how much of an app is taken
 MAX_LAYOUT = 1 << 20
 MAX_TABLE = 1 << 24
 MAX_ALL = 1 << 28
+MAX_LAYOUTS = 10000
 # how many ids one call looks up, and how many resources may have a value
 TOGETHER = 64
 MAX_VALUES = 4096
@@ -52,7 +54,10 @@ def layouts_of(archive: Archive) -> List[Unpacked]:
     found: Dict[str, Unpacked] = {}
     named = [it for it in map(LAYOUT.fullmatch, archive.names()) if it]
     size = 0
-    for it in sorted(named, key=lambda it: (bool(it[1]), it[0])):
+    if len(named) > MAX_LAYOUTS:
+        raise failure(archive.path, "it has more than %d layouts" % MAX_LAYOUTS)
+    # a name that lines can say is its own before another one becomes it
+    for it in sorted(named, key=lambda it: (bool(it[1]), bool(UNSAYABLE.search(it[2])), it[0])):
         path, (of, stem) = it[0], it.groups()
         name = said(stem, of or "", found)
         found[name] = Unpacked(path, name, archive.read(path, MAX_LAYOUT))
@@ -64,9 +69,13 @@ def layouts_of(archive: Archive) -> List[Unpacked]:
     return list(found.values())
 
 
-def table_of(archive: Archive) -> Optional[bytes]:
-    """The compiled table of resources, where there is one."""
-    return archive.read(TABLE, MAX_TABLE) if TABLE in archive.infos else None
+def table_of(archive: Archive) -> Tuple[Optional[bytes], str]:
+    """The compiled table of resources; or nothing, and why."""
+    if TABLE not in archive.infos:
+        return None, "the app has no %s" % TABLE
+    if archive.infos[TABLE].file_size > MAX_TABLE:
+        return None, "%s has more than %d bytes" % (TABLE, MAX_TABLE)
+    return archive.read(TABLE, MAX_TABLE), ""
 
 
 def put(folder: str, files: Dict[str, bytes]) -> None:
@@ -80,7 +89,7 @@ def named(names: List[str], folder: str, refused: Dict[str, str]) -> List[int]:
     """The resources that known attributes of a folder's layouts name, in order, but ids of views. The layouts that are
     refused are noted."""
     found: Dict[int, None] = {}
-    for name in names:
+    for name in progress.counted(names, len(names), "layouts"):
         lines, why = documents.printed(name, folder)
         if lines is None:
             refused[name] = why
@@ -121,8 +130,9 @@ def text_of(text: str) -> bytes:
     return plain + b"\r" if plain.endswith(b"\r") else plain
 
 
-def line_of(answer: str) -> Tuple[bytes, bool]:
-    """The line that gives a resource its value, by what `lookup` says of it; or a comment, since no line can say it."""
+def line_of(answer: str, paths: Container[str]) -> Tuple[bytes, bool]:
+    """The line that gives a resource its value, by what `lookup` says of it; or a comment, since no line can say it. A
+    text that is the path of a file of the app means that file."""
     found = ANSWER.fullmatch(answer)
     if not found:
         raise Failure("the program wrote an answer of no known form: %s" % shown(answer.encode()))
@@ -134,6 +144,8 @@ def line_of(answer: str) -> Tuple[bytes, bool]:
         size = dimension(int(rest, 16))
         line = ("res @%s dimen %s" % (number, size)).encode() if size else b""
         why = "is no whole number of a unit"
+    elif kind == "text" and rest != "none" and documents.unescaped(rest[1:-1]) in paths:
+        why = "is the file %s" % shown(rest[1:-1].encode())
     elif kind == "text" and rest != "none":
         line = b"res @%s text %s" % (number.encode(), text_of(rest[1:-1]))
         why = "is too long for a line"
@@ -143,11 +155,11 @@ def line_of(answer: str) -> Tuple[bytes, bool]:
     return (line if is_said else ("# @%s %s" % (number, why)).encode()), is_said
 
 
-def lines_of(found: List[str]) -> Iterator[Tuple[bytes, bool]]:
-    """The lines for what `lookup` says, each with whether it gives a value."""
+def lines_of(found: List[str], paths: Container[str] = ()) -> Iterator[Tuple[bytes, bool]]:
+    """The lines for what `lookup` says, each with whether it gives a value, in an app of these files."""
     count = 0
     for answer in found:
-        line, is_said = line_of(answer)
+        line, is_said = line_of(answer, paths)
         count += is_said
         if count > MAX_VALUES:
             line, is_said = b"# @%s is one more than may have a value" % answer[:8].encode(), False

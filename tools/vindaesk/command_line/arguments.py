@@ -1,10 +1,15 @@
 """The arguments of a tool."""
 import argparse
 import io
+import os
 import sys
-from typing import Callable, List
+from typing import Callable, List, NamedTuple
 
+from ..common import files
+from ..common.failures import Failure, NOT_RUN
 from ..common.places import version
+from ..scripts import script
+from ..scripts.script import Script
 
 
 class ShowVersion(argparse.Action):
@@ -20,6 +25,66 @@ def parser(doc: str) -> argparse.ArgumentParser:
     found = argparse.ArgumentParser(description=doc, formatter_class=argparse.RawDescriptionHelpFormatter)
     found.add_argument("--version", action=ShowVersion, nargs=0, help="prints the version")
     return found
+
+
+def add_script(found: argparse.ArgumentParser) -> None:
+    """The arguments of a tool that takes a script."""
+    found.add_argument("script", metavar="SCRIPT", help="the script, or - for standard input")
+    found.add_argument("--ids", metavar="FILE", help="the list of ids by names; ids.txt beside the script without it")
+    found.add_argument("--config", metavar="NAME,..", type=names, default=[],
+                       help="in this configuration of NAME.toml or vindaesk.toml beside the script")
+    found.add_argument("--expanded", action="store_true",
+                       help="prints the script that the program is given, with ids and included lines, and ends")
+
+
+def names(word: str) -> List[str]:
+    """Names joined by commas."""
+    return word.split(",")
+
+
+class Adapted(NamedTuple):
+    """A script in a configuration, whose name is empty where there is none."""
+
+    name: str
+    script: Script
+
+
+def scripts(given: argparse.Namespace, is_strict: bool = True) -> List[Adapted]:
+    """The script of a call in each configuration that is asked for; without one as it is. Names without an id stay, if
+    the call is not strict."""
+    if not given.config:
+        made = script.named(script.written_in(given.script), given.script, given.ids, is_strict)
+        return [Adapted("", made)]
+    from ..testing import configurations
+
+    found = configurations.chosen(given.script, given.config)
+    return [Adapted(it.name, configurations.read(given.script, it, given.ids, is_strict)) for it in found]
+
+
+def single(given: argparse.Namespace, is_strict: bool = True) -> Script:
+    """The same for a tool that takes one configuration."""
+    found = scripts(given, is_strict)
+    if len(found) != 1:
+        raise Failure("--config takes one name here; %s has %s" % (
+            given.script, ", ".join(it.name for it in found)), NOT_RUN)
+    return found[0].script
+
+
+def out_of(path: str, name: str, given: argparse.Namespace) -> str:
+    """Where the outcome of a configuration goes: with its name, where there may be several."""
+    if not name or (given.config == [name] and "all" not in given.config):
+        return path
+    if path == "-":
+        raise Failure("several configurations need a file", NOT_RUN)
+    stem, ending = os.path.splitext(path)
+    return "%s@%s%s" % (stem, name, ending)
+
+
+def show_expanded(given: argparse.Namespace, made: Script) -> bool:
+    """Prints what the program is given, where that was asked for."""
+    if given.expanded:
+        files.write("-", b"".join(line + b"\n" for line in made.lines))
+    return bool(given.expanded)
 
 
 def count(least: int, most: int) -> Callable[[str], int]:

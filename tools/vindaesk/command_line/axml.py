@@ -11,11 +11,12 @@ Each value that does not fit is reported with file, line and column; then the st
 """
 import argparse
 import os
-from typing import Optional, Sequence, Tuple
+from typing import List, Optional, Sequence, Tuple
 
 from ..common import failures, files, messages
+from ..common.failures import Failure
 from ..layouts import compiler, documents, source_reader, source_writer
-from ..layouts.resource_names import Names
+from ..scripts.resource_names import Names
 from . import arguments
 from .uses import Purpose, Use
 
@@ -41,16 +42,29 @@ def list_of(given: argparse.Namespace) -> Tuple[str, Names]:
     return path, Names(files.read(path) if is_there else b"", path)
 
 
+def source_of(compiled: bytes, name: str, names: Names) -> bytes:
+    """A source of a compiled file. One that does not fit is written all the same, and that is reported."""
+    made = source_writer.text(documents.of_file(compiled, name), names).encode()
+    try:
+        _, wrong = source_reader.read(made, "the source", names)
+    except Failure as failure:
+        raise Failure("%s cannot be written as a source: %s" % (name, failure), failures.NOT_RUN)
+    if wrong:
+        more = "; and %d more" % (len(wrong) - 1) if len(wrong) > 1 else ""
+        messages.say("this tool itself refuses what it writes: %s%s" % (wrong[0], more))
+    return made
+
+
 def main(words: Optional[Sequence[str]] = None) -> int:
     given = reader().parse_intermixed_args(words)
     source = files.read(given.source, source_reader.MAX_BYTES)
     path, names = list_of(given)
     if given.text:
-        nodes = documents.of_file(source, files.named(given.source))
-        files.write(given.out, source_writer.text(nodes, names).encode())
+        files.write(given.out, source_of(source, files.named(given.source), names))
         return 0
-    nodes, wrong = source_reader.read(source, files.named(given.source), names)
-    for sentence in wrong:
+    notes: List[str] = []
+    nodes, wrong = source_reader.read(source, files.named(given.source), names, notes)
+    for sentence in [*notes, *wrong]:
         messages.say(sentence)
     if wrong:
         return failures.WRONG

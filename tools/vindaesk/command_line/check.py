@@ -11,7 +11,6 @@ from typing import Optional, Sequence
 
 from ..common import failures
 from ..lint import refused_lines
-from ..scripts import script
 from . import arguments
 from .uses import Purpose, Use
 
@@ -21,7 +20,7 @@ USE = Use(Purpose.CHECK, "vindaesk check faults.script", "which lines of a scrip
 def reader() -> argparse.ArgumentParser:
     """The arguments."""
     found = arguments.parser(__doc__)
-    found.add_argument("script", metavar="SCRIPT", help="the script, or - for standard input")
+    arguments.add_script(found)
     found.add_argument("--format", choices=sorted(refused_lines.FORMATS), default="plain", help="plain without it")
     return found
 
@@ -30,7 +29,10 @@ def main(words: Optional[Sequence[str]] = None) -> int:
     given = reader().parse_args(words)
     arguments.write_any_text()
     status = 0
-    for found in refused_lines.findings(script.read(given.script)):
-        print(refused_lines.FORMATS[given.format](found, given.script))
+    made = arguments.single(given, is_strict=False)
+    if arguments.show_expanded(given, made):
+        return 0
+    for found in refused_lines.findings(made):
+        print(refused_lines.FORMATS[given.format](found))
         status = failures.WRONG
     return status

@@ -11,12 +11,11 @@ The status is 0 where nothing is found, and 1 where something is or a line of th
 reported on standard error. It is 1 too where there is no window, no frame, no root, or the last frame has not settled.
 """
 import argparse
-from typing import Dict, List, Optional, Sequence
+from typing import Dict, Optional, Sequence
 
 from ..common import failures, messages
 from ..lint import linter, rules
 from ..lint.rules import Rule
-from ..scripts import script
 from ..scripts.replies import Refused
 from ..views import screens
 from ..views.screens import Screen
@@ -26,22 +25,17 @@ from .uses import Purpose, Use
 USE = Use(Purpose.CHECK, "vindaesk lint card.script --dpi 160,320", "what is wrong with a layout, on several screens")
 
 
-def names(word: str) -> List[str]:
-    """The names of rules."""
-    return word.split(",")
-
-
 def reader() -> argparse.ArgumentParser:
     """The arguments."""
     found = arguments.parser(__doc__)
-    found.add_argument("script", metavar="SCRIPT", help="the script, or - for standard input")
+    arguments.add_script(found)
     found.add_argument("--dpi", metavar="N,..", type=arguments.counts(screens.LEAST_DPI, screens.MOST_DPI),
                        default=[None], help="dots an inch, 40 to 1000")
     found.add_argument("--width", metavar="N,..", type=arguments.counts(1, 16384), default=[None],
                        help="widths of the window in dp")
     found.add_argument("--rules", metavar="FILE.py", action="append", default=[], help="rules of your own")
-    found.add_argument("--only", metavar="RULE,..", type=names, help="these rules alone")
-    found.add_argument("--skip", metavar="RULE,..", type=names, default=[], help="all rules but these")
+    found.add_argument("--only", metavar="RULE,..", type=arguments.names, help="these rules alone")
+    found.add_argument("--skip", metavar="RULE,..", type=arguments.names, default=[], help="all rules but these")
     return found
 
 
@@ -60,8 +54,10 @@ def main(words: Optional[Sequence[str]] = None) -> int:
     parser = reader()
     given = parser.parse_args(words)
     wanted = chosen(given, parser)
-    made = script.read(given.script)
-    refused = Refused()
+    made = arguments.single(given)
+    if arguments.show_expanded(given, made):
+        return 0
+    refused = Refused(made)
     all_screens = [Screen(dpi, width) for dpi in given.dpi for width in given.width]
     found = linter.found_on(made, all_screens, refused, wanted)
     for it, where in sorted(found.items(), key=lambda pair: pair[0].number):

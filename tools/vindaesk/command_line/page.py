@@ -4,6 +4,9 @@ It has the picture of each frame that settles, with the views beside it; the bou
 that is pointed at or chosen; the touches after each frame, drawn over its picture; and a slider over the frames. Layout
 files are taken from the folder of the script.
 
+With --config NAME the script is carried out in a configuration of NAME.toml or vindaesk.toml beside it; with several,
+or all, each has a page OUT@NAME.html.
+
 Each line that is refused is reported on standard error, and makes the status 1; the page is written all the same. Where
 no frame has settled, the status is 1 and nothing is written.
 """
@@ -13,9 +16,9 @@ from typing import Optional, Sequence
 
 from ..common import files, messages
 from ..pages import page
-from ..scripts import script
 from ..scripts.replies import Refused
 from . import arguments
+from .arguments import Adapted
 from .uses import Purpose, Use
 
 USE = Use(Purpose.LOOK, "vindaesk page reader.script out.html", "a page in HTML with each frame, its views and touches")
@@ -24,21 +27,33 @@ USE = Use(Purpose.LOOK, "vindaesk page reader.script out.html", "a page in HTML 
 def reader() -> argparse.ArgumentParser:
     """The arguments."""
     found = arguments.parser(__doc__)
-    found.add_argument("script", metavar="SCRIPT", help="the script, or - for standard input")
-    found.add_argument("out", metavar="OUT.html", help="the page, or - for standard output")
+    arguments.add_script(found)
+    found.add_argument("out", metavar="OUT.html", nargs="?", help="the page, or - for standard output")
     found.add_argument("--frames", metavar="N", type=arguments.count(1, 10000), default=100,
                        help="shows the first N frames, 1 to 10000; 100")
     found.add_argument("--title", metavar="TEXT", help="the title; without it, the name of the script")
     return found
 
 
-def main(words: Optional[Sequence[str]] = None) -> int:
-    given = reader().parse_intermixed_args(words)
-    made = script.read(given.script)
-    refused = Refused()
-    found = page.recorded(made, refused, given.frames)
+def written(it: Adapted, given: argparse.Namespace) -> int:
+    """Writes the page of a script. Returns the status."""
+    refused = Refused(it.script)
+    found = page.recorded(it.script, refused, given.frames)
     if found.more:
         messages.say("the page has the first %d frames, and %d more are left out" % (len(found.steps), found.more))
     title = given.title or os.path.basename(files.named(given.script))
-    files.write(given.out, page.page(title, found))
+    title += " @" + it.name if it.name else ""
+    files.write(arguments.out_of(given.out, it.name, given), page.page(title, found))
     return refused.end()
+
+
+def main(words: Optional[Sequence[str]] = None) -> int:
+    parser = reader()
+    given = parser.parse_intermixed_args(words)
+    if not (given.out or given.expanded):
+        parser.error("OUT.html is needed")
+    status = 0
+    for it in arguments.scripts(given):
+        if not arguments.show_expanded(given, it.script):
+            status |= written(it, given)
+    return status

@@ -1,16 +1,22 @@
 """How many pixels of two PNG files differ, by how much at most, and within which box.
 
-The box is left, top, right and bottom, the last two exclusive. OUT.png shows the first picture dimmed, and red pixels
-where the second one differs. One of the files may be - for standard input.
+The box is left, top, right and bottom, the last two exclusive. Where there are several regions apart from each other,
+each has a line with its own box; with --script the view that is there is named. OUT.png shows the first picture dimmed,
+and red pixels where the second one differs. One of the files may be - for standard input.
 
 The status is 0 where no pixel differs, 1 where some do, and 2 where the sizes differ or a file is broken.
 """
 import argparse
-from typing import Optional, Sequence
+from typing import List, Optional, Sequence
 
 from ..common import failures, files
 from ..common.failures import Failure
+from ..common.messages import printable
 from ..pictures import difference, png
+from ..scripts.replies import Refused
+from ..testing import evidence
+from ..views import placement
+from ..views.placement import Placed
 from . import arguments
 from .uses import Purpose, Use
 
@@ -27,7 +33,18 @@ def reader() -> argparse.ArgumentParser:
     found.add_argument(
         "--tolerance", metavar="N", type=arguments.count(0, 255), default=0, help="channels may differ by N, 0 to 255"
     )
+    found.add_argument("--script", metavar="SCRIPT", help="the script of B.png: names the view of each region")
+    found.add_argument("--config", metavar="NAME", type=arguments.names, default=[], help="the configuration of B.png")
+    found.add_argument("--ids", metavar="FILE", help="the list of ids of the script")
     return found
+
+
+def views_of(given: argparse.Namespace) -> List[Placed]:
+    """The views of the script whose picture the second one is; none without it."""
+    if not given.script:
+        return []
+    made = arguments.single(given)
+    return placement.views_of(made, Refused(made, is_silent=True))
 
 
 def main(words: Optional[Sequence[str]] = None) -> int:
@@ -42,6 +59,10 @@ def main(words: Optional[Sequence[str]] = None) -> int:
         raise Failure("the sizes differ: %d by %d, and %d by %d" % (before[:2] + after[:2]), failures.NOT_RUN)
     found, picture = difference.compared(before, after, given.tolerance)
     print(difference.in_words(found))
+    rows = evidence.regions_in(found, views_of(given))
+    if given.script or len(rows) > 1:
+        for line in evidence.lines_of(rows, len(found.regions) - len(rows)):
+            print("  " + printable(line))
     if given.out:
         files.write(given.out, png.written(picture))
     return failures.WRONG if found.pixels else 0

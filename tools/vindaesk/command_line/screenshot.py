@@ -4,6 +4,9 @@ Carries out the script, asks for the picture of its last frame by lines `pixels`
 the last frame is not seen. Layout files are taken from the folder of the script. With --stack the script is one of a
 stack of windows, and lines `compose` ask for the picture.
 
+With --config NAME the script is carried out in a configuration of NAME.toml or vindaesk.toml beside it; with several,
+or all, each has a picture OUT@NAME.png.
+
 Each line that is refused is reported on standard error, and makes the status 1; the picture is written all the same.
 Where there is no window, no frame, or the last one has not settled, the status is 1 and nothing is written.
 """
@@ -26,7 +29,7 @@ USE = Use(Purpose.LOOK, "vindaesk screenshot card.script out.png --scale 2",
 def reader() -> argparse.ArgumentParser:
     """The arguments."""
     found = arguments.parser(__doc__)
-    found.add_argument("script", metavar="SCRIPT", help="the script, or - for standard input")
+    arguments.add_script(found)
     found.add_argument("out", metavar="OUT.png", nargs="?", help="the picture, or - for standard output")
     found.add_argument("--scale", metavar="N", type=arguments.count(1, 8), default=1, help="a pixel is N by N, 1 to 8")
     found.add_argument("--frames", metavar="DIR", help="writes DIR/0001.png and so on, one for each frame that settles")
@@ -43,36 +46,45 @@ def size(text: str) -> Tuple[int, int]:
     return side(width), side(height)
 
 
-def of_stack(made: Script, given: argparse.Namespace, parser: argparse.ArgumentParser) -> int:
+def of_stack(made: Script, given: argparse.Namespace, out: str) -> int:
     """Writes the picture of a stack of windows. Returns the status."""
-    if given.frames or not given.out:
-        parser.error("--stack takes OUT.png, and no --frames")
-    refused = Refused()
+    refused = Refused(made)
     picture = frames.composed(made, refused, given.stack)
     status = refused.end()
-    files.write(given.out, png.written(picture, given.scale))
+    files.write(out, png.written(picture, given.scale))
+    return status
+
+
+def of_script(made: Script, given: argparse.Namespace, out: Optional[str], folder: Optional[str]) -> int:
+    """Writes the picture of the last frame, and into a folder that of each frame. Returns the status."""
+    if folder:
+        os.makedirs(folder, exist_ok=True)
+    refused = Refused(made)
+    count = 0
+    for frame in frames.frames(made, refused, bool(folder)):
+        last = frame
+        if folder and frame.picture and frame.is_new:
+            count += 1
+            files.replace(os.path.join(folder, "%04d.png" % count), png.written(frame.picture, given.scale))
+    status = refused.end()
+    picture = frames.picture_of(last)
+    if out:
+        files.write(out, png.written(picture, given.scale))
     return status
 
 
 def main(words: Optional[Sequence[str]] = None) -> int:
     parser = reader()
     given = parser.parse_intermixed_args(words)
-    if not (given.out or given.frames):
+    if not (given.out or given.frames or given.expanded):
         parser.error("OUT.png or --frames DIR is needed")
-    made = script.read(given.script)
-    if given.stack:
-        return of_stack(made, given, parser)
-    if given.frames:
-        os.makedirs(given.frames, exist_ok=True)
-    refused = Refused()
-    count = 0
-    for frame in frames.frames(made, refused, bool(given.frames)):
-        last = frame
-        if given.frames and frame.picture and frame.is_new:
-            count += 1
-            files.replace(os.path.join(given.frames, "%04d.png" % count), png.written(frame.picture, given.scale))
-    status = refused.end()
-    picture = frames.picture_of(last)
-    if given.out:
-        files.write(given.out, png.written(picture, given.scale))
+    if given.stack and (given.frames or not given.out):
+        parser.error("--stack takes OUT.png, and no --frames")
+    status = 0
+    for it in arguments.scripts(given):
+        if arguments.show_expanded(given, it.script):
+            continue
+        out = given.out and arguments.out_of(given.out, it.name, given)
+        folder = given.frames and arguments.out_of(given.frames, it.name, given)
+        status |= of_stack(it.script, given, out) if given.stack else of_script(it.script, given, out, folder)
     return status

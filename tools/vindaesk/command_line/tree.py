@@ -24,16 +24,19 @@ USE = Use(Purpose.LOOK, "vindaesk tree card.script", "each view that a script le
 def reader() -> argparse.ArgumentParser:
     """The arguments."""
     found = arguments.parser(__doc__)
-    found.add_argument("script", metavar="SCRIPT", help="the script, or - for standard input")
+    arguments.add_script(found)
     found.add_argument("--json", action="store_true", help="writes JSON")
     return found
 
 
 def main(words: Optional[Sequence[str]] = None) -> int:
     given = reader().parse_args(words)
-    made = script.read(given.script)
-    refused = Refused()
+    made = arguments.single(given)
+    if arguments.show_expanded(given, made):
+        return 0
+    refused = Refused(made)
     views = placement.views_of(made, refused)
-    text = placement.as_json(script.last_window(made.lines) or (0, 0), views) if given.json else placement.as_text(views)
+    window = script.last_window(made.lines) or (0, 0)
+    text = placement.as_json(window, views) if given.json else placement.as_text(views)
     files.write("-", text.encode())
     return refused.end()

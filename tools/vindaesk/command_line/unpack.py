@@ -1,7 +1,7 @@
 """The layout files of an app, and a script of lines that give the resources that they name their values.
 
 The layouts res/layout/NAME.xml are written as DIR/NAME.xml, those of other configurations as DIR/NAME-land.xml and so
-on, and the lines as DIR/resources.script; what is there under these names is replaced. A resource whose value no line
+on, and the lines as DIR/resources.lines; what is there under these names is replaced. A resource whose value no line
 can say has a comment there.
 
 The status is 1 where a layout is broken, or where the values cannot be looked up; the layouts are written all the same.
@@ -10,7 +10,7 @@ It is 2 where the app cannot be unpacked; then nothing is written.
 import argparse
 import os
 import tempfile
-from typing import Dict, List, Optional, Sequence, Tuple
+from typing import Container, Dict, List, Optional, Sequence, Tuple
 
 from ..apps import archives, unpacker
 from ..apps.unpacker import Unpacked
@@ -31,7 +31,9 @@ def reader() -> argparse.ArgumentParser:
     return found
 
 
-def looked_up(layouts: List[Unpacked], table: Optional[bytes]) -> Tuple[Optional[List[Tuple[bytes, bool]]], bool]:
+def looked_up(
+    layouts: List[Unpacked], table: Optional[bytes], no_table: str, paths: Container[str]
+) -> Tuple[Optional[List[Tuple[bytes, bool]]], bool]:
     """The lines of the script and how many of them are values, or nothing where there are none to be had; and whether
     all went well. What did not is reported."""
     refused: Dict[str, str] = {}
@@ -42,21 +44,22 @@ def looked_up(layouts: List[Unpacked], table: Optional[bytes]) -> Tuple[Optional
             if it.name in refused:
                 say("%s is %s" % (it.path, refused[it.name]))
         if ids and table is None:
-            say("no values are written: the app has no %s" % unpacker.TABLE)
+            say("no values are written: %s" % no_table)
             return None, False
         unpacker.put(folder, {unpacker.TABLE: table or b""})
         found, why = unpacker.answers(ids, folder)
     if why:
         say("no values are written: %s" % why)
         return None, False
-    return list(unpacker.lines_of(found)), not refused
+    return list(unpacker.lines_of(found, paths)), not refused
 
 
 def main(words: Optional[Sequence[str]] = None) -> int:
     given = reader().parse_args(words)
     with archives.opened(given.app) as archive:
-        layouts, table = unpacker.layouts_of(archive), unpacker.table_of(archive)
-    lines, is_well = looked_up(layouts, table)
+        layouts, (table, no_table) = unpacker.layouts_of(archive), unpacker.table_of(archive)
+        paths = set(archive.infos)
+    lines, is_well = looked_up(layouts, table, no_table, paths)
     os.makedirs(given.folder, exist_ok=True)
     for it in layouts:
         files.replace(os.path.join(given.folder, it.name), it.body)

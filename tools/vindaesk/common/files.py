@@ -49,6 +49,28 @@ def replace(path: str, body: bytes) -> None:
             os.unlink(place)
 
 
+def check_place(path: str) -> None:
+    """A place in which no file can be written is a failure: known before long work, and not after it."""
+    try:
+        if os.path.exists(path) and not os.path.isfile(path):
+            raise Failure("%s cannot be written: it is no file" % path, NOT_RUN)
+        handle, place = tempfile.mkstemp(dir=os.path.dirname(os.path.realpath(path)))
+        os.close(handle)
+        os.unlink(place)
+    except OSError as error:
+        raise Failure("%s cannot be written: %s" % (path, error.strerror), NOT_RUN)
+
+
+def remove(path: str) -> None:
+    """Takes a file away, where it is there."""
+    try:
+        os.unlink(path)
+    except FileNotFoundError:
+        pass
+    except OSError as error:
+        raise Failure("%s cannot be removed: %s" % (path, error.strerror), NOT_RUN)
+
+
 def mask() -> int:
     """Which rights a new file does not get."""
     now = os.umask(0o077)

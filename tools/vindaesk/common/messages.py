@@ -2,6 +2,8 @@
 import os
 import sys
 
+from . import progress
+
 
 def printable(text: str) -> str:
     """A text whose control characters are escaped."""
@@ -14,9 +16,18 @@ def shown(text: bytes, limit: int = 160) -> str:
     return plain if len(plain) <= limit and len(text) <= 4 * limit else plain[:limit] + " .."
 
 
+def tool(name: str) -> str:
+    """How a tool beside this one is called: as `tools/check`, or `vindaesk-check` where tools are installed so."""
+    folder, own = os.path.split(sys.argv[0])
+    if own == "vindaesk":
+        return "vindaesk " + name
+    return "vindaesk-" + name if own.startswith("vindaesk-") else os.path.join(folder, name)
+
+
 def say(sentence: str) -> None:
     """Writes a sentence on standard error, after the tool's name. Where that is closed, the sentence is lost."""
     try:
+        progress.clear()
         print("%s: %s" % (os.path.basename(sys.argv[0]), printable(sentence)), file=sys.stderr)
     except OSError:
         return

@@ -104,6 +104,19 @@ KNOWN = {
 }
 
 
+def is_slip(one: str, other: str) -> bool:
+    """Whether two names differ by one letter more, one less, another one, or two in the wrong order."""
+    at = next((place for place, pair in enumerate(zip(one, other)) if pair[0] != pair[1]), min(len(one), len(other)))
+    before, after = one[at:], other[at:]
+    is_turned = before[:2] == after[1::-1] and before[2:] == after[2:]
+    return before != after and (is_turned or before[1:] in (after, after[1:]) or before == after[1:])
+
+
+def slip(name: str) -> str:
+    """The known attribute of which a name is most likely a slip, or nothing. No attribute of Android itself is one."""
+    return next((it for it in KNOWN if is_slip(name, it)), "") if name not in KNOWN else ""
+
+
 def form_of(namespace: str, name: str) -> Form:
     """What the text of an attribute may be."""
     return KNOWN[name].form if namespace == ANDROID and name in KNOWN else ANY

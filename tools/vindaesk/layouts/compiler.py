@@ -112,13 +112,18 @@ class Writer:
         return chunk(kind, struct.pack("<II", line, NONE), body)
 
 
-def line_at(nodes: List[Node], place: int) -> int:
-    """The line of the element that begins after a namespace, or has ended before it; 0 for any other node."""
-    node = nodes[place]
-    if not isinstance(node, Namespace):
-        return 0
-    near = nodes[place + 1 :] if node.begins else reversed(nodes[:place])
-    return next((it.line for it in near if not isinstance(it, Namespace)), 0)
+def lines_of(nodes: List[Node]) -> List[int]:
+    """For each namespace the line of the element that begins after it, or has ended before it; 0 for any other node."""
+    found = [0] * len(nodes)
+    for places, begins in ((range(len(nodes) - 1, -1, -1), True), (range(len(nodes)), False)):
+        line = 0
+        for place in places:
+            node = nodes[place]
+            if not isinstance(node, Namespace):
+                line = node.line
+            elif node.begins is begins:
+                found[place] = line
+    return found
 
 
 def compiled(nodes: List[Node]) -> bytes:
@@ -127,6 +132,5 @@ def compiled(nodes: List[Node]) -> bytes:
     writer = Writer(keys)
     ids = [key[0] for key in keys if key[0] != LAST]
     parts = [pool(keys), chunk(MAP, b"", struct.pack("<%dI" % len(ids), *ids))]
-    for place, node in enumerate(nodes):
-        parts.append(writer.node(node, line_at(nodes, place)))
+    parts += [writer.node(node, line) for node, line in zip(nodes, lines_of(nodes))]
     return chunk(XML, b"", b"".join(parts))

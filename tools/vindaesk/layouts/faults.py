@@ -16,8 +16,8 @@ from ..scripts.grammar import CLASSES, guess
 from ..scripts.refusals import REFUSALS
 from ..scripts.replies import Part, Refusal
 from . import attributes, compiler, documents, values
-from .documents import ANDROID, Attribute, End, Node, Start
-from .resource_names import Names
+from .documents import ANDROID, REFERENCE, Attribute, End, Node, Start
+from ..scripts.resource_names import Names
 
 ELEMENT = re.compile(rb" element ([1-9][0-9]*)$")
 MEMBER = re.compile(rb" e([1-9][0-9]*)")
@@ -25,15 +25,16 @@ OFFSET = re.compile(rb" at ([0-9]+)$")
 UNRESOLVED, THEME, BAD_VALUE, DUPLICATE, NO_SIZE, CYCLE, UNKNOWN_CLASS = 12, 13, 14, 16, 17, 18, 23
 OF_ATTRIBUTES = (UNRESOLVED, THEME, BAD_VALUE, DUPLICATE)
 SIZES = ("layout_width", "layout_height")
+KINDS = {"color": "a colour", "dimen": "a dimension", "text": "a text"}
 NOT_XML, MISSING = 5, 39
 # how many files are looked into
 MOST = 100
 
 
-def shown(it: Attribute) -> str:
-    """An attribute as a source has it."""
+def shown(it: Attribute, names: Names) -> str:
+    """An attribute as a source has it, with resources by their names."""
     name = ("android:" if it.namespace == ANDROID else "") + it.name
-    text = values.shown(it.value, attributes.form_of(it.namespace, it.name), Names())
+    text = values.shown(it.value, attributes.form_of(it.namespace, it.name), names)
     if text is None:
         text = "%02x %08x" % (it.value.kind, it.value.word)
     return '%s="%s"' % (name, messages.shown(text.encode("utf-8", "replace"), 60))
@@ -42,8 +43,9 @@ def shown(it: Attribute) -> str:
 class Files:
     """The layout files of a script, after the lines `dpi` and `res` that were carried out so far."""
 
-    def __init__(self, folder: str):
+    def __init__(self, folder: str, names: Names):
         self.folder = folder
+        self.names = names
         self.settings: List[bytes] = []
         self.known: Dict[Tuple[str, bytes, int], str] = {}
 
@@ -89,8 +91,19 @@ class Files:
             why = "the element has no %s" % " and no ".join("android:" + it for it in SIZES if it not in there)
         elif number in OF_ATTRIBUTES:
             culprit = self.culprit(found[0], number)
-            places += ": " + shown(culprit) if culprit else ""
+            places += ": " + shown(culprit, self.names) if culprit else ""
+            why = self.other_kind(culprit) or why if culprit and number == BAD_VALUE else why
         return messages.printable("%s: %s: %s" % (name, places, why))
+
+    def other_kind(self, it: Attribute) -> str:
+        """What is said where an attribute names a resource whose value is of a kind that it cannot have."""
+        name = b"@%x" % it.value.word
+        for line in reversed(self.settings) if it.value.kind == REFERENCE else ():
+            words = [word for word in line.split(b" ") if word]
+            if words[0] == b"res" and b"@" + words[1][1:].lstrip(b"0").lower() == name:
+                kind = KINDS.get(words[2].decode("utf-8", "replace"), "another value")
+                return "this resource is %s; here has to be %s" % (kind, values.said(attributes.form_of(it.namespace, it.name)))
+        return ""
 
     def culprit(self, start: Start, number: int) -> Optional[Attribute]:
         """The attribute for which an element is refused; nothing where that cannot be found."""

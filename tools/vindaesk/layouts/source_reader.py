@@ -1,15 +1,17 @@
 """The nodes of a document from its source, which is XML as people write it."""
-from typing import Dict, List, Tuple
+from typing import Dict, List, Optional, Tuple
 from xml.parsers import expat
 
 from ..common.failures import Failure, WRONG
 from . import attributes, values
-from .documents import Attribute, End, Namespace, Node, STRING, Start, Text
-from .resource_names import Names
+from .documents import ANDROID, Attribute, End, Namespace, Node, STRING, Start, Text
+from ..scripts.resource_names import Names
 from .values import Unfit
 
 # more than any source whose compiled form is read
 MAX_BYTES = 1 << 24
+# how many attributes the program reads of an element
+MAX_ATTRIBUTES = 256
 # what is for other tools alone, and left out
 FOR_TOOLS = "http://schemas.android.com/tools"
 # parts the address of a namespace from a name
@@ -39,7 +41,9 @@ class Reader:
         self.names = names
         self.nodes: List[Node] = []
         self.wrong: List[str] = []
-        self.text, self.line = "", 0
+        self.notes: List[str] = []
+        self.texts: List[str] = []
+        self.line = 0
         self.spaces: List[Namespace] = []
         self.open: List[Tuple[Start, List[Namespace]]] = []
         self.prefixes: Dict[str, str] = {}
@@ -67,13 +71,14 @@ class Reader:
 
     def data(self, text: str) -> None:
         """A part of a text."""
-        if not self.text:
+        if not self.texts:
             self.line = self.parser.CurrentLineNumber
-        self.text += text
+        self.texts.append(text)
 
     def end_text(self) -> None:
         """Keeps a text that is more than blank; what is blank at its ends becomes one space each."""
-        text, self.text = self.text, ""
+        text = "".join(self.texts)
+        self.texts = []
         if text.strip(BLANK):
             before, after = (" " if it in BLANK else "" for it in (text[0], text[-1]))
             self.nodes.append(Text(self.line, before + text.strip(BLANK) + after))
@@ -89,12 +94,17 @@ class Reader:
             prefix = self.prefixes.get(namespace, "")
             self.wrong.append("%s: %s%s: %s" % (self.place(), prefix and prefix + ":", name, unfit))
             return []
+        meant = attributes.slip(name) if namespace == ANDROID else ""
+        if meant:
+            self.notes.append("%s: android:%s is passed over; did you mean '%s'?" % (self.place(), name, meant))
         return [Attribute(namespace, name, value, value.text if value.kind == STRING else None)]
 
     def start(self, whole: str, pairs: List[str]) -> None:
         """An element that begins."""
         self.end_text()
         namespace, name = parted(whole)
+        if len(pairs) > 2 * MAX_ATTRIBUTES:
+            raise Failure("%s: the element has more than %d attributes" % (self.place(), MAX_ATTRIBUTES), WRONG)
         found = [it for pair in zip(pairs[::2], pairs[1::2]) for it in self.attribute(*pair)]
         node = Start(self.parser.CurrentLineNumber, namespace, name, sorted(found, key=order))
         self.nodes += [*self.spaces, node]
@@ -109,8 +119,11 @@ class Reader:
         self.nodes += [it._replace(begins=False) for it in reversed(spaces)]
 
 
-def read(source: bytes, file: str, names: Names) -> Tuple[List[Node], List[str]]:
-    """The nodes of a source, and in a sentence each what does not fit in it."""
+def read(
+    source: bytes, file: str, names: Names, notes: Optional[List[str]] = None
+) -> Tuple[List[Node], List[str]]:
+    """The nodes of a source, and in a sentence each what does not fit in it. What fits and is most likely a mistake is
+    added to the notes."""
     if source.startswith(COMPILED):
         raise Failure("%s:1:1: this is no XML: it is compiled; --text makes a source of it" % file, WRONG)
     reader = Reader(file, names)
@@ -119,4 +132,8 @@ def read(source: bytes, file: str, names: Names) -> Tuple[List[Node], List[str]]
     except expat.ExpatError as error:
         place = "%s:%d:%d" % (file, error.lineno, error.offset + 1)
         raise Failure("%s: this is no XML: %s" % (place, expat.ErrorString(error.code)), WRONG)
+    except (LookupError, ValueError) as error:
+        raise Failure("%s:1:1: this is no XML in an encoding that can be read: %s" % (file, error), WRONG)
+    if notes is not None:
+        notes += reader.notes
     return reader.nodes, reader.wrong

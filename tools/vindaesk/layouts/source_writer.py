@@ -7,12 +7,14 @@ from xml.sax.saxutils import escape
 from ..common.failures import Failure, NOT_RUN
 from . import attributes, values
 from .documents import ANDROID, Attribute, End, Namespace, Node, Start, Text
-from .resource_names import Names
+from ..scripts.resource_names import Names
 
 HEAD = '<?xml version="1.0" encoding="utf-8"?>'
 NAME = re.compile(r"[A-Za-z_][\w.-]*")
 # characters that no source can have
 FORBIDDEN = re.compile("[^\t\n\r\u0020-\ud7ff\ue000-\ufffd\U00010000-\U0010ffff]")
+# addresses that mean XML itself
+RESERVED = ("http://www.w3.org/XML/1998/namespace", "http://www.w3.org/2000/xmlns/")
 MANY = 1 << 32
 # more blank lines than these are left out
 MAX_BLANK = 1000
@@ -35,6 +37,15 @@ def name_of(text: str, line: int) -> str:
     if not NAME.fullmatch(text):
         raise failure(line, "'%s' is no name" % text)
     return text
+
+
+def check_namespace(it: Namespace, line: int) -> None:
+    """A namespace that no source can have is a failure."""
+    if it.prefix:
+        name_of(it.prefix, line)
+    reserved = it.prefix.lower().startswith("xml") or it.address in RESERVED or (it.prefix and not it.address)
+    if reserved or FORBIDDEN.search(it.address):
+        raise failure(line, "its namespace '%s' with the prefix '%s' can be in no source" % (it.address, it.prefix))
 
 
 def quoted(text: str) -> str:
@@ -90,6 +101,8 @@ class Renderer:
         """The tag of an element, in one line or, where the next element leaves room, in one for each attribute."""
         if len({(it.namespace, it.name) for it in node.attributes}) < len(node.attributes):
             raise failure(node.line, "it has two attributes of one name")
+        for it in self.spaces:
+            check_namespace(it, node.line)
         name = self.prefixed(node.namespace, node.name, node.line)
         found = [self.attribute(it, node.line) for it in node.attributes]
         spaces = ["xmlns%s=%s" % (it.prefix and ":" + it.prefix, quoted(it.address)) for it in self.spaces]

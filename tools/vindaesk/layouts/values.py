@@ -1,6 +1,7 @@
 """The values of attributes as texts of a source, and back. docs/FORMATS.md has what the types and the words mean."""
 import functools
 import itertools
+import math
 import operator
 import re
 import struct
@@ -12,14 +13,14 @@ from .attributes import Form
 from .documents import (
     BOOLEAN, COLOURS, DIMENSION, FLOAT, FRACTION, HEXADECIMAL, NULL, REFERENCE, STRING, THEME, Value, WHOLE,
 )
-from .resource_names import Names, Unnamed
+from ..scripts.resource_names import Names, Unnamed
 
 NAMED = re.compile(r"@(\+?)(?:([A-Za-z_][\w.]*):)?(\w+)/([\w.$-]+)", re.ASCII)
 BY_NUMBER = re.compile(r"@(?:0x)?([0-9A-Fa-f]{1,8})")
 THEMED = re.compile(r"\?(?:([A-Za-z_][\w.]*):)?(?:attr/)?([\w.$-]+)", re.ASCII)
 THEMED_BY_NUMBER = re.compile(r"\?(?:0x)?([0-9A-Fa-f]{8})")
 COLOUR = re.compile(r"#([0-9A-Fa-f]{3}|[0-9A-Fa-f]{4}|[0-9A-Fa-f]{6}|[0-9A-Fa-f]{8})")
-NUMBER = r"[-+]?(?:\d+\.?\d*|\.\d+)(?:[eE][-+]?\d{1,2})?"
+NUMBER = r"[-+]?(?:\d+(?:\.\d*)?|\.\d+)(?:[eE][-+]?\d{1,2})?"
 REAL = re.compile(NUMBER, re.ASCII)
 LENGTH = re.compile(r"(%s)(px|dip|dp|sp|pt|in|mm)" % NUMBER, re.ASCII)
 SHARE = re.compile(r"(%s)%%(p?)" % NUMBER, re.ASCII)
@@ -38,6 +39,8 @@ class Unfit(Exception):
 
 def single(number: float) -> float:
     """A number as 32 bits keep it."""
+    if math.isinf(number):
+        raise Unfit("the number is too large")
     try:
         (kept,) = struct.unpack("<f", struct.pack("<f", number))
         return float(kept)

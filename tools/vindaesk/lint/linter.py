@@ -4,6 +4,7 @@ import os
 import types
 from typing import Dict, Iterable, List, NamedTuple, Tuple
 
+from ..common import progress
 from ..common.failures import Failure, NOT_RUN
 from ..scripts import script
 from ..scripts.replies import Refused
@@ -26,7 +27,7 @@ class Finding(NamedTuple):
 def laid_out(made: Script, screen: Screen, refused: Refused) -> Tuple[Page, str]:
     """What a script leaves on a screen, and the screen in words."""
     parts, dpi = screens.parts_on(made.lines, screen)
-    views = placement.views_after(parts, made.folder, refused)
+    views = placement.views_after(parts, made, refused)
     width, _ = script.last_window([line for part in parts for line in part.lines]) or (0, 0)
     shown = Page(rules.seen_in(views), text_sizes.needs(parts, made.folder, views), dpi)
     return shown, "%d dpi, %g dp" % (dpi, round(width * PLAIN_DPI / dpi, 1))
@@ -51,7 +52,8 @@ def found_on(
 ) -> Dict[Finding, List[str]]:
     """What rules find, each with the screens on which they do. Refused lines are reported on the way."""
     found: Dict[Finding, List[str]] = {}
-    for screen in wanted:
+    screens_of = list(wanted)
+    for screen in progress.counted(screens_of, len(screens_of), "screens"):
         shown, name = laid_out(made, screen, refused)
         for finding in findings_of(shown, chosen):
             found.setdefault(finding, []).append(name)

@@ -38,8 +38,7 @@ class Seen(NamedTuple):
 
     def name(self) -> str:
         """Number, class, id and text of the view, as messages have them."""
-        text = '"%s"' % self.view.text if self.view.text else None
-        return " ".join(filter(None, ["v%d" % self.view.number, self.view.kind, placement.name_of(self.view.id), text]))
+        return placement.title(self.view)
 
 
 class Page(NamedTuple):
@@ -80,12 +79,8 @@ def rule(name: str) -> Callable[[Rule], Rule]:
 
 def seen_in(views: List[Placed]) -> Dict[int, Seen]:
     """The views that are seen, by their numbers."""
-    found: Dict[int, Seen] = {}
-    for it in views:
-        parent = it.view.parent
-        if it.bounds and it.window and it.view.visibility == "visible" and (not parent or parent.number in found):
-            found[it.view.number] = Seen(it.view, it.bounds, it.window, it.scroll)
-    return found
+    found = [(it.view, it.bounds, it.window, it.scroll) for it in placement.seen(views)]
+    return {it.number: Seen(it, bounds, window, scroll) for it, bounds, window, scroll in found if bounds and window}
 
 
 @rule("outside")

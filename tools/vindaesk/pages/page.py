@@ -5,6 +5,7 @@ import json
 import os
 from typing import Dict, Iterator, List, Optional
 
+from ..common import embedding
 from ..common.failures import Failure
 from ..pictures import frames, png
 from ..pictures.png import Picture
@@ -16,8 +17,6 @@ from ..views.placement import Placed
 
 TEMPLATE = os.path.join(os.path.dirname(os.path.abspath(__file__)), "page.html")
 TOUCHES = (b"down", b"move", b"up", b"cancel")
-# the places in the template
-TITLE, DATA = "<!--TITLE-->", "<!--DATA-->"
 BOUNDS = [b"bounds"]
 
 Record = Dict[str, object]
@@ -74,8 +73,8 @@ def view_record(it: Placed) -> Record:
 class Recording:
     """What there is to show of a script, put together as answers come: at most a number of frames."""
 
-    def __init__(self, folder: str, most: int):
-        self.tree = view_tree.Tree(folder)
+    def __init__(self, made: Script, most: int):
+        self.tree = view_tree.Tree(made.folder, made.ids)
         self.most = most
         self.pictures, self.views = Pool(), Pool()
         self.steps: List[Record] = []
@@ -129,7 +128,7 @@ class Recording:
 
 def recorded(made: Script, refused: Refused, most: int) -> Recording:
     """What there is to show of a script. Refused lines are reported on the way."""
-    found = Recording(made.folder, most)
+    found = Recording(made, most)
     for part, answer in replies.answers(list(parts_of(made.lines)), made.folder):
         if part.first:
             refused.add_all(part, answer)
@@ -141,17 +140,8 @@ def recorded(made: Script, refused: Refused, most: int) -> Recording:
     return found
 
 
-def embedded(data: Record) -> str:
-    """JSON for an element of a page, which no text of a view can end."""
-    text = json.dumps(data, ensure_ascii=False, separators=(",", ":"))
-    return text.replace("&", "\\u0026").replace("<", "\\u003c").replace(">", "\\u003e")
-
-
 def page(title: str, found: Recording) -> bytes:
     """The whole page."""
-    with open(TEMPLATE, encoding="utf-8") as file:
-        head, rest = file.read().split(DATA)
-    data = {"title": title, "steps": found.steps, "pictures": found.pictures.rows, "views": found.views.rows,
-            "more": found.more}
-    plain = title.replace("&", "&amp;").replace("<", "&lt;")
-    return (head.replace(TITLE, plain) + embedded(data) + rest).encode("utf-8", "replace")
+    data: Record = {"title": title, "steps": found.steps, "pictures": found.pictures.rows, "views": found.views.rows,
+                    "more": found.more}
+    return embedding.page(TEMPLATE, title, data)

@@ -1,6 +1,8 @@
 """Where two pictures differ."""
-from typing import List, NamedTuple, Tuple
+import itertools
+from typing import Dict, List, NamedTuple, Tuple
 
+from ..common import progress
 from .png import Picture
 
 # a pixel that differs, in the picture of a difference
@@ -8,12 +10,62 @@ MARKED = b"\xff\x00\x00"
 QUARTER = bytes(it // 4 for it in range(256))
 
 
+Box = Tuple[int, int, int, int]
+# pixels that differ are in one region where less than two cells are between them; a cell is a square of this side
+CELL = 4
+
+
+class Region(NamedTuple):
+    """A part in which pixels differ: the box around them, and how many there are."""
+
+    box: Box
+    pixels: int
+
+
 class Difference(NamedTuple):
-    """How many pixels differ, the greatest difference of a channel, and the box around them."""
+    """How many pixels differ, the greatest difference of a channel, the box around them, and their regions, from the
+    top."""
 
     pixels: int
     greatest: int
-    box: Tuple[int, int, int, int]
+    box: Box
+    regions: Tuple[Region, ...] = ()
+
+
+def around(one: Region, other: Region) -> Region:
+    """Two regions as one."""
+    (left, top, right, bottom), box = one.box, other.box
+    whole = (min(left, box[0]), min(top, box[1]), max(right, box[2]), max(bottom, box[3]))
+    return Region(whole, one.pixels + other.pixels)
+
+
+class Cells:
+    """The pixels that differ, in squares of a picture."""
+
+    def __init__(self) -> None:
+        self.cells: Dict[Tuple[int, int], Region] = {}
+
+    def add(self, columns: List[int], row: int) -> None:
+        """Adds pixels of a row, whose columns go up."""
+        for cell, group in itertools.groupby(columns, lambda column: column // CELL):
+            found = list(group)
+            key, new = (cell, row // CELL), Region((found[0], row, found[-1] + 1, row + 1), len(found))
+            self.cells[key] = around(self.cells[key], new) if key in self.cells else new
+
+    def regions(self) -> Tuple[Region, ...]:
+        """The regions: squares that touch, at a corner too, are in one."""
+        left, found = dict(self.cells), []
+        while left:
+            key, region = left.popitem()
+            open_ones = [key]
+            while open_ones:
+                x, y = open_ones.pop()
+                for near in itertools.product((x - 1, x, x + 1), (y - 1, y, y + 1)):
+                    if near in left:
+                        region = around(region, left.pop(near))
+                        open_ones.append(near)
+            found.append(region)
+        return tuple(sorted(found, key=lambda it: (it.box[1], it.box[0])))
 
 
 def marks(before: bytes, after: bytes, tolerance: int) -> Tuple[List[int], int]:
@@ -36,16 +88,18 @@ def compared(before: Picture, after: Picture, tolerance: int = 0) -> Tuple[Diffe
     """How two pictures of one size differ, and a picture of that: the first one dimmed, and red where they differ."""
     count, greatest = 0, 0
     left, top, right, bottom = before.width, before.height, 0, 0
-    rows = []
-    for number, (one, other) in enumerate(zip(before.rows, after.rows)):
+    rows, cells = [], Cells()
+    pairs = progress.counted(zip(before.rows, after.rows), before.height, "rows of both pictures")
+    for number, (one, other) in enumerate(pairs):
         found, most = marks(one, other, tolerance) if one != other else ([], 0)
         rows.append(dimmed(one, found))
         if found:
             count, greatest = count + len(found), max(greatest, most)
             left, right = min(left, found[0]), max(right, found[-1] + 1)
             top, bottom = min(top, number), number + 1
+            cells.add(found, number)
     box = (left, top, right, bottom) if count else (0, 0, 0, 0)
-    return Difference(count, greatest, box), Picture(before.width, before.height, rows)
+    return Difference(count, greatest, box, cells.regions()), Picture(before.width, before.height, rows)
 
 
 def in_words(found: Difference) -> str:

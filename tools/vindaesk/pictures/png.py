@@ -1,15 +1,18 @@
 """PNG files: a picture is written with 8 bits for each of red, green and blue, and read from any form of 8 bits a
 channel that is not interlaced."""
+import itertools
 import struct
 import zlib
 from typing import Iterator, List, NamedTuple, Tuple
 
+from ..common import progress
 from ..common.failures import Failure, NOT_RUN
 
 SIGNATURE = b"\x89PNG\r\n\x1a\n"
 # how many bytes a pixel has, by the colour type: grey, colour, palette, grey and alpha, colour and alpha
 BYTES = {0: 1, 2: 3, 3: 1, 4: 2, 6: 4}
-MAX_PIXELS = 1 << 26
+# more than four times what any device shows
+MAX_PIXELS = 1 << 24
 
 
 class Picture(NamedTuple):
@@ -69,24 +72,54 @@ def below(left: int, up: int, corner: int) -> int:
     return up if down <= both else corner
 
 
+def averaged(line: bytes, above: bytes, step: int) -> bytes:
+    """A row from its differences to the mean of the left and the upper neighbour."""
+    row = bytearray(line)
+    for k, up in enumerate(above):
+        left = row[k - step] if k >= step else 0
+        row[k] = (row[k] + (left + up) // 2) & 255
+    return bytes(row)
+
+
+def on_planes(line: bytes, above: bytes, step: int) -> bytes:
+    """A row from its differences to what `below` chooses, which is written out here, since most of the time of reading
+    goes into this."""
+    row = bytearray(line)
+    for k in range(step):
+        row[k] = (row[k] + above[k]) & 255
+    for k in range(step, len(row)):
+        left, up, corner = row[k - step], above[k], above[k - step]
+        across, down = up - corner, left - corner
+        both = across + down
+        across, down, both = abs(across), abs(down), abs(both)
+        if across <= down and across <= both:
+            row[k] = (row[k] + left) & 255
+        else:
+            row[k] = (row[k] + (up if down <= both else corner)) & 255
+    return bytes(row)
+
+
+def summed(line: bytes, step: int) -> bytes:
+    """A row from its differences to the left neighbour."""
+    row = bytearray(len(line))
+    for k in range(step):
+        row[k::step] = bytes(it & 255 for it in itertools.accumulate(line[k::step]))
+    return bytes(row)
+
+
 def unfiltered(kind: int, line: bytes, above: bytes, step: int) -> bytes:
     """A row from its filtered bytes and the row above; a pixel has `step` bytes."""
     if kind == 0:
         return line
+    if kind == 1:
+        return summed(line, step)
     if kind == 2:
         return bytes((it + up) & 255 for it, up in zip(line, above))
-    row = bytearray(line)
-    for k, it in enumerate(line):
-        left, corner = (row[k - step], above[k - step]) if k >= step else (0, 0)
-        if kind == 1:
-            row[k] = (it + left) & 255
-        elif kind == 3:
-            row[k] = (it + (left + above[k]) // 2) & 255
-        elif kind == 4:
-            row[k] = (it + below(left, above[k], corner)) & 255
-        else:
-            raise ValueError("a row has an unknown filter")
-    return bytes(row)
+    if kind == 3:
+        return averaged(line, above, step)
+    if kind == 4:
+        return on_planes(line, above, step)
+    raise ValueError("a row has an unknown filter")
 
 
 def over_black(row: bytes, step: int) -> bytes:
@@ -138,7 +171,7 @@ def parsed(file: bytes) -> Picture:
         raise ValueError("it has not 8 bits a channel, or is interlaced")
     if not 0 < width * height <= MAX_PIXELS:
         raise ValueError("it has no pixel, or more than %d" % MAX_PIXELS)
-    rows = rows_of(b"".join(body), width, height, BYTES[form])
+    rows = progress.counted(rows_of(b"".join(body), width, height, BYTES[form]), height, "rows of a picture")
     return Picture(width, height, [colours(row, form, palette) for row in rows])
 
 

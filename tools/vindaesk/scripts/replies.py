@@ -6,12 +6,19 @@ comes a line that is always refused: its refusal has its number, and ends the re
 import re
 from typing import Dict, Iterator, List, NamedTuple, Sequence, Tuple
 
+from ..common import progress
 from ..common.failures import Failure, WRONG
-from ..common.messages import say, shown
+from ..common.messages import say, tool
 from ..program import process
 from . import script
+from .script import Script
 
 MARK = b"?"
+# no view, window, root, settled frame or pointer of this kind: what a line before it should have made
+FOLLOWING = (28, 33, 34, 36, 37, 38)
+# what makes these; and refusals by which it is not known what a line should have made
+MAKING = [[b"window"], [b"add"], [b"inflate"], [b"id"], [b"frame"], [b"down"]]
+UNREAD = (30, 31, 32)
 REFUSED = re.compile(rb"line ([1-9][0-9]*): (refused ([0-9]+) [A-Za-z]+.*)", re.DOTALL)
 
 
@@ -39,26 +46,55 @@ class Answer(NamedTuple):
 
 
 class Refused:
-    """Says which lines of the user's script were refused: the first ones each by itself, the others by their number. A
-    script may be run several times: a line that is refused again for the same reason counts once."""
+    """Reports which lines of a script were refused, each with its place and the reason. A script may be run several
+    times: a line that is refused again for the same reason counts once.
+
+    Where a line that makes views was refused, most that follow are too. Those that only name what is not there are
+    counted then, and not listed.
+    """
 
     MOST = 50
 
-    def __init__(self, is_silent: bool = False) -> None:
+    def __init__(self, made: Script, is_silent: bool = False) -> None:
+        self.made = made
         self.count = 0
         self.known: Dict[Tuple[int, bytes], Refusal] = {}
         self.most = 0 if is_silent else self.MOST
+        self.shown = 0
+        # the names of refusals that were not listed, since they may follow from others, and how many there are
+        self.following: Dict[str, int] = {}
+        self.is_broken = False
 
     def add(self, part: Part, refusal: Refusal) -> None:
-        """Counts a refused line, and says which one it is."""
-        line = part.first + refusal.place
-        if (line, refusal.text) in self.known:
+        """Counts a refused line, and reports it."""
+        number = part.first + refusal.place
+        if (number, refusal.text) in self.known:
             return
-        self.known[line, refusal.text] = refusal
+        self.known[number, refusal.text] = refusal
         self.count += 1
-        if self.count <= self.most:
-            why = refusal.text.decode("utf-8", "replace")
-            say("line %d: %s: %s" % (line, why, shown(part.lines[refusal.place])))
+        if self.is_broken and refusal.number in FOLLOWING:
+            name = refusal.text.decode().split(" ")[2]
+            self.following[name] = self.following.get(name, 0) + 1
+            return
+        self.is_broken |= refusal.number in UNREAD or script.words_of(part.lines[refusal.place])[:1] in MAKING
+        self.shown += 1
+        if self.shown <= self.most:
+            say(self.sentence(number, refusal))
+
+    def sentence(self, number: int, refusal: Refusal) -> str:
+        """The place of a line, and why it was refused."""
+        # loaded where a line is refused, since that takes a tenth of a start
+        from . import reasons
+
+        place, expanded = self.made.place(number), self.made.expanded(number)
+        found = reasons.reason(self.made.lines[number - 1], refusal.number, refusal.text)
+        column = expanded.written_column(found.column)
+        return "%s:%d: %s: %s" % (place.place(), column, found.title, found.why)
+
+    def first(self) -> str:
+        """The place of the first refused line and why it was refused; nothing where none was."""
+        (number, _), refusal = next(iter(self.known.items()), ((0, b""), None))
+        return self.sentence(number, refusal) if refusal else ""
 
     def add_all(self, part: Part, answer: Answer) -> None:
         """Counts the refused lines of a part."""
@@ -66,14 +102,25 @@ class Refused:
             self.add(part, refusal)
 
     def end(self) -> int:
-        """Says how many more there are, and answers the status."""
-        if self.count > self.MOST:
-            say("%d more lines are refused" % (self.count - self.MOST))
+        """Reports how many more there are, and returns the status."""
+        if self.most and self.shown > self.MOST:
+            say("%d more lines are refused" % (self.shown - self.MOST))
+        if self.most and self.following:
+            count = sum(self.following.values())
+            say("%d more %s refused, by %s, as may follow from that; %s lists all" % (
+                count, "line is" if count == 1 else "lines are", " or ".join(self.following), tool("check")
+            ))
         return WRONG if self.count else 0
 
 
 def answers(parts: Sequence[Part], folder: str, form: str = "run") -> Iterator[Tuple[Part, Answer]]:
-    """Each part with its answer, as it comes, of a script that the program runs in this form."""
+    """Each part with its answer, as it comes, of a script that the program runs in this form. A terminal shows how many
+    there were, where they take long."""
+    return progress.counted(answered(parts, folder, form), len(parts), "parts of the script")
+
+
+def answered(parts: Sequence[Part], folder: str, form: str) -> Iterator[Tuple[Part, Answer]]:
+    """The same without that."""
     whole = script.joined([line for part in parts for line in (*part.lines, MARK)])
     left = iter(parts)
     part = next(left, None)

@@ -11,7 +11,8 @@
         s.frame()
         print(s.bounds(button), s.tap("@7f050001"))
 
-A view is named as in lines: by its number, as `v3`, or by its id, as `@7f050001`. Lengths and places are in pixels;
+A view is named as in lines: by its number, as `v3`, or by its id, as `@7f050001`, or as `@id/send`, where the folder's
+`ids.txt` has that name. Lengths and places are in pixels;
 those of the window count from its left upper corner. docs/SCRIPT.md has the lines, docs/TOUCH.md the events.
 
 A line that is refused raises `LineRefused` and changes nothing, so that the session can go on. Where the program itself
@@ -29,7 +30,7 @@ from ..common import files
 from ..common.failures import Failure
 from ..pictures import frames, png
 from ..program import process
-from ..scripts import script
+from ..scripts import names, script
 from ..views import placement, view_tree
 from ..views.placement import Box, Placed
 from ..views.view_tree import View
@@ -42,6 +43,8 @@ PIECE = 65536
 PATIENCE = 10
 # how many lines are sent before the answer to the first is read: neither they nor their replies fill a pipe
 TOGETHER = 1000
+# places of a pointer are from minus to plus this
+MAX_PLACE = 1048576
 
 Word = Union[str, int, bool]
 
@@ -97,6 +100,7 @@ class Node(NamedTuple):
     scroll: Optional[int]
     visibility: str
     background: Optional[str]
+    id_name: Optional[str] = None
 
 
 SETTLED = Frame(True, 0)
@@ -128,15 +132,18 @@ def node_of(it: Placed) -> Node:
     parent = "v%d" % view.parent.number if view.parent else None
     return Node(
         "v%d" % view.number, parent, view.depth, view.kind, placement.name_of(view.id), view.text, it.bounds, it.window,
-        it.scroll, view.visibility, view.background
+        it.scroll, view.visibility, view.background, view.id_name
     )
 
 
 class Session:
     """One program, which is started with it and ends with it. In a `with` statement it ends at its end."""
 
-    def __init__(self, folder: str = "."):
-        """Starts the program. Layout files are those of the folder."""
+    def __init__(self, folder: str = ".", ids: Optional[str] = None):
+        """Starts the program. Layout files are those of the folder, and names of ids those of its ids.txt, or of a list
+        by its path."""
+        self._folder = folder
+        self._ids = names.beside(folder, ids)
         self._process = subprocess.Popen(
             [process.path(), "run"], stdin=subprocess.PIPE, stdout=subprocess.PIPE, stderr=subprocess.DEVNULL,
             cwd=folder, bufsize=0
@@ -147,7 +154,7 @@ class Session:
         self._begun = b""
         self._count = 0
         self._is_open = True
-        self._views = view_tree.Tree(folder)
+        self._views = view_tree.Tree(folder, self._ids)
         self._window: Optional[Tuple[int, int]] = None
 
     def __enter__(self) -> "Session":
@@ -178,18 +185,24 @@ class Session:
         return [it.decode() for it in replies]
 
     def script(self, text: str) -> List[str]:
-        """Carries out the lines of a script, and returns all replies; the first line that is refused ends it."""
-        return [reply for line in text.splitlines() for reply in self.line(line)]
+        """Carries out the lines of a script, and of the files that it includes from the session's folder, and returns all
+        replies; the first line that is refused ends it."""
+        whole = text.encode("utf-8", "surrogateescape")
+        lines = script.Includer().lines(os.path.join(self._folder, "(session)"), whole, [])
+        return [reply for line in lines for reply in self.line(line.text.decode("utf-8", "surrogateescape"))]
 
     def _one(self, text: str) -> str:
         """Carries out a line that has one reply, which needs no mark after it."""
         return self._carried_out(self._bytes_of(text), self._single)[0].decode()
 
     def _bytes_of(self, text: str) -> bytes:
-        """A line for the program, without its line feed."""
+        """A line for the program, with ids in the place of their names, and without its line feed."""
         if "\n" in text:
             raise ValueError("a line has a line feed in it: %r" % text)
-        return text.encode("utf-8", "surrogateescape")
+        found = self._ids.expanded(text.encode("utf-8", "surrogateescape"))
+        if found.unknown:
+            raise Failure("%s: %s" % (found.unknown[0].why, text))
+        return found.text
 
     def _carried_out(self, line: bytes, ask: Callable[[bytes], List[bytes]]) -> List[bytes]:
         """The replies of a line that is not refused; what it makes of the views is followed."""
@@ -276,12 +289,11 @@ class Session:
         status = self._process.returncode
         return process.failed(status) if status not in (0, 1) else Failure("the program ended before its input did")
 
-    @staticmethod
-    def _refusal(line: bytes, reply: bytes) -> LineRefused:
+    def _refusal(self, line: bytes, reply: bytes) -> LineRefused:
         found = REFUSED.fullmatch(reply.decode("utf-8", "replace"))
         if not found:
             raise Failure("the program wrote what is no reply: %r" % reply[:80])
-        return LineRefused(line.decode("utf-8", "replace"), int(found[1]), found[2], found[3])
+        return LineRefused(self._ids.named(line).decode("utf-8", "replace"), int(found[1]), found[2], found[3])
 
     def _follow(self, line: bytes, replies: List[bytes]) -> None:
         """What a line made of the views, and of the window."""
@@ -358,8 +370,12 @@ class Session:
 
     def tree(self) -> List[Node]:
         """All views in preorder, each with its place in its parent and in the window."""
+        return [node_of(it) for it in self.placed()]
+
+    def placed(self) -> List[Placed]:
+        """The same with more of each view, for tools."""
         lines = self._carried_out(b"bounds", self._until_mark)
-        return [node_of(it) for it in placement.all_placed(self._views.root, lines)]
+        return placement.all_placed(self._views.root, lines)
 
     def in_window(self, view: str) -> Optional[Box]:
         """Where a view lies in the window, which it may leave, in pixels; None where it has no bounds."""
@@ -427,6 +443,8 @@ class Session:
         """A pointer goes down in the middle of what is seen of a view, moves by these pixels in equal steps, and goes
         up."""
         x, y = self._middle(view)
+        if max(abs(x + right), abs(y + down)) > MAX_PLACE:
+            raise ValueError("a drag by %d, %d leads out of the places that a pointer may have" % (right, down))
         replies = self.down(pointer, x, y)
         for step in range(1, steps + 1):
             replies += self.move(pointer, x + right * step // steps, y + down * step // steps)

@@ -1,90 +1,165 @@
 """Stored scripts with their answers, and what the program writes today.
 
-A case is a script NAME.script with NAME.answer, or a layout file NAME.xml with NAME.answer and no script of its name,
-which is printed by `dump`. NAME.status has the status, where it is not 0, and NAME.png the picture of a script's last
-frame.
+A case is a script NAME.script with NAME.answer, in each of its configurations one with NAME@CONFIGURATION.answer; or a
+layout file NAME.xml with NAME.answer and no script of its name, which is printed by `dump`. NAME.status has the status,
+where it is not 0, and NAME.png the picture of a script's last frame.
 """
 import difflib
 import os
 import subprocess
-import time
-from typing import Callable, Iterator, List, NamedTuple, Optional, Tuple
+from typing import Callable, Iterable, Iterator, List, NamedTuple, Optional
 
 from ..common import files
 from ..common.failures import Failure, NOT_RUN
+from ..common.messages import say
 from ..pictures import difference, frames, png
+from ..pictures.png import Picture
 from ..program import process
-from ..scripts import script
+from ..scripts import names, script
 from ..scripts.replies import Refused
+from ..scripts.script import Script
+from . import answers, configurations
+from .configurations import Configuration
 
 # a longer answer that differs gets no diff, since that takes long
 MAX_DIFF = 20000
 # the statuses of runs that reached their end
 ENDED = (0, 1)
+SCRIPT, LAYOUT = ".script", ".xml"
+ENDINGS = (".answer", ".status", ".png")
 
 
 class Case(NamedTuple):
-    """A case: its path without the ending, and whether it is a script."""
+    """A case: its path without the ending, whether it is a script, and its configuration, where it has one."""
 
     stem: str
     is_script: bool
+    configuration: Optional[Configuration] = None
 
     def file(self, ending: str) -> str:
         """One of its files."""
-        return self.stem + ending
+        of = "@" + self.configuration.name if self.configuration else ""
+        return self.stem + of + ending
 
     def has(self, ending: str) -> bool:
         """Whether it has this file."""
         return os.path.exists(self.file(ending))
 
-    def name(self) -> str:
+    def source(self) -> str:
         """What is run."""
-        return self.file(".script" if self.is_script else ".xml")
+        return self.stem + (SCRIPT if self.is_script else LAYOUT)
+
+    def name(self) -> str:
+        """What messages call it: the script, or NAME@CONFIGURATION."""
+        return self.file("") if self.configuration else self.source()
+
+    def has_picture(self) -> bool:
+        """Whether its picture is compared: it is there, or asked for."""
+        return self.is_script and (self.has(".png") or bool(self.configuration and self.configuration.picture))
+
+    def is_new(self) -> bool:
+        """Whether one of its files is not there yet."""
+        return not self.has(".answer") or (self.has_picture() and not self.has(".png"))
 
 
-class Result(NamedTuple):
-    """How a case went: why it failed, or nothing; whether its files were written; and how long it took."""
+class Written(NamedTuple):
+    """What the program writes over a case today, as answers are kept, and its status; and the same in numbers alone."""
 
-    case: Case
+    answer: bytes
+    status: int
+    plain: bytes
+
+
+class Pictures(NamedTuple):
+    """The stored picture of a case and that of today; None where there is none, and then why."""
+
+    wanted: Optional[Picture]
+    found: Optional[Picture]
     why: str
-    is_accepted: bool
-    seconds: float
 
 
-def case_of(path: str) -> Optional[Case]:
-    """The case of a file, where it is one."""
+def stored(path: str) -> bytes:
+    """The bytes of a file of a case. One that is a pipe or a device might never end."""
+    if os.path.exists(path) and not os.path.isfile(path):
+        raise Failure("%s is no file" % path, NOT_RUN)
+    return files.read(path)
+
+
+def cases_of(path: str, given: Optional[List[Configuration]] = None) -> List[Case]:
+    """The cases of a file: of a script one in each configuration, its own ones or those that are given; and itself,
+    where it has none, or an answer of its own."""
     stem, ending = os.path.splitext(path)
-    if ending == ".script":
-        return Case(stem, True)
+    if ending == SCRIPT and not os.path.isfile(path):
+        say("%s is no file, and is not run" % path)
+        return []
+    if ending == SCRIPT:
+        of = configurations.of_script(path) if given is None else given
+        plain = [Case(stem, True)] if not of or (given is None and os.path.exists(stem + ".answer")) else []
+        return plain + [Case(stem, True, it) for it in of]
     case = Case(stem, False)
-    return case if ending == ".xml" and case.has(".answer") and not case.has(".script") else None
+    is_case = ending == LAYOUT and os.path.isfile(path) and case.has(".answer") and not os.path.exists(stem + SCRIPT)
+    return [case] if is_case else []
 
 
-def cases_in(path: str) -> Iterator[Case]:
-    """The cases of a folder and of those below it, by their names; or that of a single file."""
+def cases_in(path: str, given: Optional[List[Configuration]] = None) -> Iterator[Case]:
+    """The cases of a folder and of those below it, by their names; or those of a single file."""
     if not os.path.exists(path):
         raise Failure("there is no folder %s" % path, NOT_RUN)
     if not os.path.isdir(path):
-        yield from filter(None, [case_of(path)])
-    for folder, inner, names in os.walk(path):
+        yield from cases_of(path, given)
+    for folder, inner, found in os.walk(path):
         inner.sort()
-        yield from filter(None, [case_of(os.path.join(folder, name)) for name in sorted(names)])
+        for name in sorted(found):
+            yield from cases_of(os.path.join(folder, name), given)
+
+
+def orphans(cases: Iterable[Case]) -> List[str]:
+    """Stored files of configurations that the scripts beside them have no longer."""
+    used = {case.file(ending) for case in cases for ending in ENDINGS}
+    stems = {case.stem for case in cases if case.configuration}
+    found = []
+    for folder in sorted({os.path.dirname(stem) for stem in stems}):
+        for name in sorted(os.listdir(folder or ".")):
+            path, ending = os.path.join(folder, name), os.path.splitext(name)[1]
+            if ending in ENDINGS and path not in used and path.rpartition("@")[0] in stems:
+                found.append(path)
+    return found
 
 
 def written_status(case: Case) -> int:
     """The status that a case should end with."""
-    text = files.read(case.file(".status")) if case.has(".status") else b"0"
+    text = stored(case.file(".status")) if case.has(".status") else b"0"
     if not text.strip().isdigit():
         raise Failure("%s has no number" % case.file(".status"), NOT_RUN)
     return int(text)
 
 
-def run(case: Case, seconds: float) -> Tuple[bytes, int]:
-    """What the program writes, and its status."""
+def made(case: Case) -> Script:
+    """The script of a case in its configuration."""
+    return configurations.read(case.source(), case.configuration)
+
+
+def is_plain(text: bytes) -> bool:
+    """Whether the program is given a script as it is: it has no name of an id, and no line of tools."""
+    return not (b"include" in text or (b"@" in text and b"/" in text))
+
+
+def run(case: Case, seconds: float) -> Written:
+    """What the program writes."""
     folder = os.path.dirname(os.path.abspath(case.stem))
-    if case.is_script:
-        return process.ran(["run"], files.read(case.name()), folder, seconds)
-    return process.ran(["dump", os.path.basename(case.name())], b"", folder, seconds)
+    if not case.is_script:
+        written, status = process.ran(["dump", os.path.basename(case.source())], b"", folder, seconds)
+        return Written(answers.of_dump(written, names.beside(folder)), status, written)
+    text = stored(case.source())
+    if is_plain(text) and not case.configuration:
+        written, status = process.ran(["run"], text, folder, seconds)
+        # a state may have ids, and a list may have their names
+        is_named = b"state " in written
+        kept = answers.of_run(written, Script([], folder, (), names.beside(folder))) if is_named else written
+        return Written(kept, status, written)
+    of = made(case)
+    written, status = process.ran(["run"], script.joined(of.lines), folder, seconds)
+    return Written(answers.of_run(written, of), status, written)
 
 
 def lines_of(text: bytes) -> List[str]:
@@ -105,48 +180,92 @@ def diff(wanted: bytes, found: bytes, name: str) -> str:
     return "\n".join(found_lines) or "the last line feed is missing in one of %s and what is written" % name
 
 
-def picture(case: Case) -> png.Picture:
-    """The picture of a script's last frame."""
-    *_, last = frames.frames(script.read(case.name()), Refused(is_silent=True))
-    return frames.picture_of(last)
+def picture(case: Case) -> Picture:
+    """The picture of a script's last frame. Where there is none, the failure has the first refused line too."""
+    of = made(case)
+    refused = Refused(of, is_silent=True)
+    *_, last = frames.frames(of, refused)
+    try:
+        return frames.picture_of(last)
+    except Failure as failure:
+        first = refused.first()
+        raise Failure("%s; %s" % (failure, first) if first else str(failure), failure.status)
 
 
-def picture_problem(case: Case) -> str:
-    """How the picture of a case differs from the stored one, or nothing."""
-    name = case.file(".png")
-    stored, found = png.read(files.read(name), name), picture(case)
-    if stored[:2] != found[:2]:
-        return "%s is %d by %d, and the picture %d by %d" % (name, *stored[:2], *found[:2])
-    apart, _ = difference.compared(stored, found)
+def missing(case: Case, ending: str) -> str:
+    """What is said of a file that a case should have."""
+    return "it has no %s; --accept writes one" % os.path.basename(case.file(ending))
+
+
+def compared(name: str, wanted: Optional[Picture], found: Optional[Picture], tolerance: int = 0) -> str:
+    """How two pictures differ, of which the first one is in a file of this name; nothing where they do not."""
+    if not wanted or not found or wanted == found:
+        return ""
+    if wanted[:2] != found[:2]:
+        return "%s is %d by %d, and the picture %d by %d" % (name, *wanted[:2], *found[:2])
+    apart, _ = difference.compared(wanted, found, tolerance)
     return "%s: %s" % (name, difference.in_words(apart)) if apart.pixels else ""
+
+
+def pictures(case: Case) -> Pictures:
+    """The pictures of a case that has one, and how they differ, or nothing."""
+    name, wanted, found, whys = case.file(".png"), None, None, []
+    try:
+        wanted = png.read(stored(name), name) if case.has(".png") else None
+        whys += [] if wanted else [missing(case, ".png")]
+    except Failure as failure:
+        whys.append(str(failure))
+    try:
+        found = picture(case)
+    except Failure as failure:
+        whys.append(str(failure))
+    return Pictures(wanted, found, "\n".join(filter(None, [*whys, compared(name, wanted, found)])))
+
+
+def picture_problem(case: Case, seconds: float) -> str:
+    """How the picture of today is not the stored one, or nothing."""
+    return pictures(case).why if case.has_picture() else ""
+
+
+def text_problem(case: Case, written: Written) -> str:
+    """How the answer of today or its status is not the stored one, or nothing."""
+    if written.status not in ENDED and not (case.has(".answer") and written.status == written_status(case)):
+        raise process.failed(written.status)
+    if not case.has(".answer"):
+        return missing(case, ".answer")
+    wanted, status = stored(case.file(".answer")), written_status(case)
+    if wanted not in (written.answer, written.plain):
+        return diff(wanted, written.answer, case.file(".answer"))
+    return "status %d in place of %d" % (written.status, status) if written.status != status else ""
+
+
+def answer_problem(case: Case, seconds: float) -> str:
+    """How the answer or the status of today is not the stored one, or nothing."""
+    return text_problem(case, run(case, seconds))
 
 
 def problem(case: Case, seconds: float) -> str:
     """Why a case fails, or nothing."""
-    written, status = run(case, seconds)
-    if not case.has(".answer"):
-        return "it has no %s; --accept writes one" % os.path.basename(case.file(".answer"))
-    wanted, wanted_status = files.read(case.file(".answer")), written_status(case)
-    if status not in (*ENDED, wanted_status):
-        return str(process.failed(status))
-    if written != wanted:
-        return diff(wanted, written, case.file(".answer"))
-    if status != wanted_status:
-        return "status %d in place of %d" % (status, wanted_status)
-    return picture_problem(case) if case.is_script and case.has(".png") else ""
+    return answer_problem(case, seconds) or picture_problem(case, seconds)
 
 
 def accept(case: Case, seconds: float) -> str:
     """Writes what a case results in today into its files; why that cannot be done, or nothing."""
-    written, status = run(case, seconds)
+    written = run(case, seconds)
+    status = written.status
     if status not in ENDED and not (case.has(".status") and written_status(case) == status):
         return str(process.failed(status))
-    if case.is_script and case.has(".png"):
+    if case.has_picture():
         files.replace(case.file(".png"), png.written(picture(case)))
-    files.replace(case.file(".answer"), written)
+    files.replace(case.file(".answer"), written.answer)
     if status or case.has(".status"):
         files.replace(case.file(".status"), b"%d\n" % status)
     return ""
+
+
+def too_long(seconds: float) -> str:
+    """What is said of a run that was ended after a number of seconds."""
+    return "it takes more than %g seconds" % seconds
 
 
 def reason(act: Callable[[Case, float], str], case: Case, seconds: float) -> str:
@@ -154,17 +273,6 @@ def reason(act: Callable[[Case, float], str], case: Case, seconds: float) -> str
     try:
         return act(case, seconds)
     except subprocess.TimeoutExpired:
-        return "it takes more than %g seconds" % seconds
+        return too_long(seconds)
     except Failure as failure:
         return str(failure)
-
-
-def tried(case: Case, seconds: float, accepts: bool = False) -> Result:
-    """How a case goes; where it fails and that is to be accepted, its files are written."""
-    begun = time.monotonic()
-    why = reason(problem, case, seconds)
-    is_accepted = False
-    if why and accepts:
-        why = reason(accept, case, seconds)
-        is_accepted = not why
-    return Result(case, why, is_accepted, time.monotonic() - begun)

@@ -4,7 +4,8 @@ import re
 from typing import List
 from xml.sax.saxutils import escape, quoteattr
 
-from .cases import Result
+from . import report
+from .trials import Result
 
 # the characters that XML cannot have
 FORBIDDEN = re.compile("[^\t\n\u0020-\ud7ff\ue000-\ufffd\U00010000-\U0010ffff]")
@@ -13,6 +14,15 @@ FORBIDDEN = re.compile("[^\t\n\u0020-\ud7ff\ue000-\ufffd\U00010000-\U0010ffff]")
 def plain(text: str) -> str:
     """A text that XML can have."""
     return FORBIDDEN.sub("?", text)
+
+
+def attachments(result: Result) -> str:
+    """The page and the pictures of a failure, in the form in which servers show files beside it."""
+    of = result.evidence
+    if of is None:
+        return ""
+    rows = [report.link(of), *("[[ATTACHMENT|%s]]" % os.path.abspath(of.path + ending) for ending in of.endings)]
+    return "    <system-out>%s</system-out>\n" % escape(plain("\n".join(rows)))
 
 
 def case_of(result: Result) -> str:
@@ -25,10 +35,10 @@ def case_of(result: Result) -> str:
         return head + "/>\n"
     first = plain(result.why.split("\n")[0])
     failure = "<failure message=%s>%s</failure>" % (quoteattr(first), escape(plain(result.why)))
-    return "%s>\n    %s\n  </testcase>\n" % (head, failure)
+    return "%s>\n    %s\n%s  </testcase>\n" % (head, failure, attachments(result))
 
 
-def report(results: List[Result]) -> bytes:
+def written(results: List[Result]) -> bytes:
     """The whole report."""
     failed = sum(bool(it.why) for it in results)
     head = '<testsuite name="vindaesk" tests="%d" failures="%d" errors="0" time="%.3f">\n' % (

@@ -61,13 +61,13 @@ def all_placed(root: Optional[View], lines: List[bytes]) -> List[Placed]:
 
 def views_of(made: Script, refused: Refused) -> List[Placed]:
     """All views that a script leaves, in preorder. Refused lines are reported on the way."""
-    return views_after(view_tree.parts_of(made.lines), made.folder, refused)
+    return views_after(view_tree.parts_of(made.lines), made, refused)
 
 
-def views_after(parts: List[Part], folder: str, refused: Refused) -> List[Placed]:
-    """The same of the parts of a script."""
-    tree = view_tree.Tree(folder)
-    for part, answer in replies.answers([*parts, Part([b"bounds"])], folder):
+def views_after(parts: List[Part], made: Script, refused: Refused) -> List[Placed]:
+    """The same of a script in these parts."""
+    tree = view_tree.Tree(made.folder, made.ids)
+    for part, answer in replies.answers([*parts, Part([b"bounds"])], made.folder):
         if part.first:
             refused.add_all(part, answer)
         tree.follow(part, answer)
@@ -82,6 +82,36 @@ def name_of(number: int) -> Optional[str]:
     return "@%x" % number if number else None
 
 
+def id_of(view: View) -> Optional[str]:
+    """The id of a view as messages show it: by its name, where it has one."""
+    return view.id_name or name_of(view.id)
+
+
+def title(view: View) -> str:
+    """Number, class, id and text of a view, as messages have them."""
+    text = json.dumps(view.text, ensure_ascii=False) if view.text else None
+    return " ".join(filter(None, ["v%d" % view.number, view.kind, id_of(view), text]))
+
+
+def seen(views: List[Placed]) -> List[Placed]:
+    """The views that are laid out and visible, as all around them, in preorder."""
+    found: Dict[int, Placed] = {}
+    for it in views:
+        parent = it.view.parent
+        if it.bounds and it.window and it.view.visibility == "visible" and (not parent or parent.number in found):
+            found[it.view.number] = it
+    return list(found.values())
+
+
+def view_at(views: List[Placed], box: Box) -> Optional[View]:
+    """The last view in preorder that is seen and has the whole of a box of the window in it."""
+    found = None
+    for it in seen(views):
+        if it.window and it.window[0] <= box[0] and it.window[1] <= box[1]:
+            found = it.view if box[2] <= it.window[2] and box[3] <= it.window[3] else found
+    return found
+
+
 def record(it: Placed) -> Dict[str, object]:
     """A view as JSON has it."""
     view = it.view
@@ -91,6 +121,7 @@ def record(it: Placed) -> Dict[str, object]:
         "depth": view.depth,
         "class": view.kind,
         "id": name_of(view.id),
+        "id_name": view.id_name,
         "text": view.text,
         "bounds": it.bounds,
         "window": it.window,
@@ -110,8 +141,7 @@ def as_json(window: Window, views: List[Placed]) -> str:
 def text_line(it: Placed) -> str:
     """A view as a line: what is as in a new view is left out, and the place in the window where it is the bounds."""
     view = it.view
-    words = ["v%d" % view.number, view.kind, name_of(view.id)]
-    words.append(json.dumps(view.text, ensure_ascii=False) if view.text else None)
+    words: List[Optional[str]] = [title(view)]
     words.append("%d %d %d %d" % it.bounds if it.bounds else "none")
     words.append("at %d %d %d %d" % it.window if it.window and it.window != it.bounds else None)
     words.append("scroll %d" % it.scroll if it.scroll is not None else None)

@@ -6,7 +6,8 @@ from ..common.failures import Failure
 from ..layouts import documents, elements
 from ..layouts.documents import Value
 from ..layouts.elements import Element
-from ..scripts import script
+from ..scripts import names, script
+from ..scripts.names import Ids
 from ..scripts.replies import Answer, Part
 
 TEXT_LINE = re.compile(rb" *text +[^ ]+ (.*)", re.DOTALL)
@@ -34,6 +35,8 @@ class View:
         self.kind = kind
         self.children: Dict[int, "View"] = {}
         self.id = 0
+        # its id by name, where the list of ids has one
+        self.id_name: Optional[str] = None
         self.text: Optional[str] = "" if kind == "TextView" else None
         self.visibility = VISIBILITIES[0]
         self.background: Optional[str] = CLEAR
@@ -86,8 +89,9 @@ class Armed:
 class Tree:
     """The views after some lines of a script."""
 
-    def __init__(self, folder: str):
+    def __init__(self, folder: str, ids: Ids = names.NONE):
         self.folder = folder
+        self.ids = ids
         self.views: Dict[int, View] = {}
         self.root: Optional[View] = None
         self.named: Dict[int, Dict[int, View]] = {}
@@ -119,6 +123,7 @@ class Tree:
         if view.id:
             self.named[view.id].pop(view.number)
         view.id = number
+        view.id_name = self.ids.name(number) if number else None
         if number:
             self.named.setdefault(number, {})[view.number] = view
 

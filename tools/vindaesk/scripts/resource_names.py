@@ -5,7 +5,6 @@ from typing import Dict, List, Optional, Tuple
 
 from ..common.failures import Failure, NOT_RUN
 from ..common.messages import shown
-from ..scripts.grammar import guess
 
 LINE = re.compile(r"(?:([A-Za-z_][\w.]*):)?(\w+)/([\w.$-]+) *= *(?:0x)?([0-9A-Fa-f]{8})", re.ASCII)
 # the package of what an app has itself, and where the ids of its views begin where there are none yet
@@ -28,6 +27,9 @@ class Names:
     def __init__(self, text: bytes = b"", file: str = "") -> None:
         self.ids: Dict[Name, int] = {}
         self.names: Dict[int, Name] = {}
+        # the packages but the system's, in the order of the list, and the last id of a view
+        self.packages: Dict[str, None] = {}
+        self.last = 0
         self.is_changed = False
         for number, line in enumerate(text.split(b"\n"), 1):
             line = line.strip()
@@ -48,19 +50,25 @@ class Names:
         """Gives a name its id."""
         self.ids[name] = number
         self.names[number] = name
+        if name[0] != SYSTEM:
+            self.packages[name[0]] = None
+        if number >> 24 == OWN and name[1] == "id":
+            self.last = max(self.last, number)
 
     def found(self, package: str, kind: str, name: str) -> Optional[int]:
         """The id of a name. Without a package it may be that of any but the system's."""
         if package:
             return self.ids.get((package, kind, name))
-        packages = dict.fromkeys(it[0] for it in self.ids if it[0] != SYSTEM)
-        ids = (self.ids.get((it, kind, name)) for it in packages)
+        ids = (self.ids.get((it, kind, name)) for it in self.packages)
         return next((it for it in ids if it is not None), None)
 
     def id_of(self, package: str, kind: str, name: str) -> int:
         """The id of a name, which has to be there."""
         number = self.found(package, kind, name)
         if number is None:
+            # the grammar is loaded where it is needed, since that takes a tenth of a start
+            from .grammar import guess
+
             whole = "%s%s/%s" % (package and package + ":", kind, name)
             near = guess(name, tuple(it[2] for it in self.ids if it[1] == kind))
             raise Unnamed("the list of ids has no %s%s" % (whole, near))
@@ -71,20 +79,18 @@ class Names:
         number = self.found("", "id", name)
         if number is None:
             number = self.next_id()
-            own = next((it[0] for it in self.ids if it[0] != SYSTEM), "app")
+            own = next(iter(self.packages), "app")
             self.put((own, "id", name), number)
             self.is_changed = True
         return number
 
     def next_id(self) -> int:
         """The id after the last one of a view; where there is none, the first of a type of which nothing has one."""
-        own = [number for number in self.names if number >> 24 == OWN]
-        views = [number for number in own if self.names[number][1] == "id"]
-        if not views:
-            return max([FIRST, *[((number >> 16) + 1) << 16 for number in own]])
-        if max(views) % ENTRIES == ENTRIES - 1 or max(views) + 1 in self.names:
+        if not self.last:
+            return max([FIRST, *[((number >> 16) + 1) << 16 for number in self.names if number >> 24 == OWN]])
+        if self.last % ENTRIES == ENTRIES - 1 or self.last + 1 in self.names:
             raise Unnamed("the list of ids has no room for a further name of a view")
-        return max(views) + 1
+        return self.last + 1
 
     def name_of(self, number: int, kind: str = "") -> Optional[str]:
         """The name of an id as a source has it, of some type where that matters."""
