@@ -64,6 +64,10 @@ class Archive:
         """The names of its files, in order."""
         return sorted(self.infos)
 
+    def has(self, name: str) -> bool:
+        """Whether there is a file of this name."""
+        return name in self.infos
+
     def read(self, name: str, limit: int) -> bytes:
         """The bytes of a file, which has at most this many."""
         info = self.infos[name]

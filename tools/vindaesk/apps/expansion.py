@@ -1,0 +1,214 @@
+"""The elements of a layout as the views that the inflater makes of them: `include`, `merge`, `ViewStub`, `view`,
+`fragment`, `requestFocus`, `tag`, and the `layout` of data binding are put in place or passed over."""
+from dataclasses import dataclass, field
+from enum import Enum
+from typing import Dict, List, NamedTuple, Optional, Tuple
+
+from ..common.failures import WRONG, Failure
+from ..resources.resources import File, Resources, Theme
+from ..resources.values import Value
+from .app_files import AppFiles
+from .element import Element
+from .report import Effect, Record
+from .styles import Lookup
+
+MAX_INCLUDES = 32
+MAX_VIEWS = 16384
+WITHOUT_VIEW = {
+    "requestFocus": "the view around it gets the focus",
+    "tag": "a tag is for the code of the app",
+    "data": "the variables of data binding are for the code of the app",
+}
+# what an `include` gives to the view in its place
+OVERRIDDEN = ("android:id", "android:visibility")
+
+
+@dataclass
+class View:
+    """A view of a layout before it is mapped: the name of its class, its attributes with those of an `include` over them,
+    the theme that it is in, and what is reported of it."""
+
+    name: str
+    attributes: Dict[str, Value]
+    theme: Theme
+    record: Record
+    parent: Optional["View"] = None
+    children: List["View"] = field(default_factory=list)
+
+
+class Place(NamedTuple):
+    """Where elements are expanded: the file, the files around it that include it, the theme, and the view around."""
+
+    file: File
+    chain: Tuple[str, ...]
+    theme: Theme
+    parent: Optional[View]
+
+
+class Options(NamedTuple):
+    """What is expanded: with `design` the attributes of the namespace `tools` too; with `stubs` the layouts of ViewStubs;
+    and how many items a list has."""
+
+    design: bool = False
+    stubs: bool = False
+    items: int = 3
+
+
+class Expansion:
+    """Expands the layouts of an app."""
+
+    def __init__(self, files: AppFiles, resources: Resources, lookup: Lookup, options: Options):
+        self.files, self.resources, self.lookup, self.options = files, resources, lookup, options
+        self.records: List[Record] = []
+
+    def layout(self, file: File, theme: Theme) -> List[View]:
+        """The views of a layout file, more than one where its root is a `merge`."""
+        self.records = []
+        return self.of_file(Place(file, (), theme, None), {})
+
+    def of_file(self, place: Place, given: Dict[str, Value]) -> List[View]:
+        """The views of a file; its root gets attributes that are given."""
+        path = place.file.path
+        if path in place.chain:
+            raise Failure("the layouts include one another in a circle: %s" % " > ".join((*place.chain, path)), WRONG)
+        if len(place.chain) >= MAX_INCLUDES:
+            raise Failure("layouts include one another more than %d deep: %s" % (MAX_INCLUDES, path), WRONG)
+        root = self.files.document(path, place.file.source)
+        if root is None:
+            raise Failure("%s is not in the app" % path, WRONG)
+        inner = place._replace(chain=(*place.chain, path))
+        if root.name == "layout":
+            self.without_view(root, inner, "the layout of data binding is that of the element in it")
+            found = [it for it in root.children if it.name != "data"]
+            for it in root.children:
+                if it.name == "data":
+                    self.skip(it, inner, WITHOUT_VIEW["data"])
+            return [view for it in found for view in self.element(it, inner, given)]
+        return self.element(root, inner, given)
+
+    def record(self, element: Element, place: Place) -> Record:
+        """A new row of the report."""
+        if len(self.records) >= MAX_VIEWS:
+            raise Failure("the layout has more than %d elements with those that it includes" % MAX_VIEWS, WRONG)
+        made = Record(element.name, place.file.path, element.line, element.column, tuple(element.attributes))
+        for key in element.repeated:
+            made.leave_out(key, "an attribute of this name came before", Effect.NONE)
+        self.records.append(made)
+        return made
+
+    def without_view(self, element: Element, place: Place, why: str) -> Record:
+        """An element that makes no view."""
+        record = self.record(element, place)
+        record.why_no_view = why
+        for key in element.attributes:
+            record.no_effect(key, why)
+        return record
+
+    def skip(self, element: Element, place: Place, why: str) -> None:
+        """An element that makes no view, and neither does anything in it."""
+        for it in element.walk():
+            self.without_view(it, place, why)
+
+    def element(self, element: Element, place: Place, given: Dict[str, Value]) -> List[View]:
+        """The views of an element."""
+        if element.name in WITHOUT_VIEW:
+            self.skip(element, place, WITHOUT_VIEW[element.name])
+            return []
+        if element.name == "include":
+            return self.include(element, place)
+        if element.name == "merge":
+            self.without_view(element, place, "the elements in a merge are put in its place")
+            return [view for it in element.children for view in self.element(it, place, {})]
+        return [self.view(element, place, given)]
+
+    def themed(self, attributes: Dict[str, Value], place: Place, record: Record) -> Theme:
+        """The theme of an element and of what is in it."""
+        for key in ("android:theme", "app:theme"):
+            value = attributes.get(key)
+            if value is None:
+                continue
+            record.use(key)
+            number = self.lookup.style_number(value, place.theme)
+            if number is not None and self.resources.bag(number) is not None:
+                return self.lookup.overlaid(place.theme, number)
+            if not value.is_null:
+                record.leave_out(key, "the theme is not in the resources", Effect.BOUNDS)
+        return place.theme
+
+    def view(self, element: Element, place: Place, given: Dict[str, Value]) -> View:
+        """The view of an element, with those in it."""
+        record = self.record(element, place)
+        attributes = self.merged(element.attributes, given, record)
+        name = element.name
+        if name == "view" and "class" in attributes and attributes["class"].text:
+            record.use("class")
+            name = attributes["class"].text or name
+        theme = self.themed(attributes, place, record)
+        made = View(name, attributes, theme, record, place.parent)
+        inner = place._replace(theme=theme, parent=made)
+        made.children = [view for it in element.children for view in self.element(it, inner, {})]
+        return made
+
+    def merged(self, own: Dict[str, Value], given: Dict[str, Value], record: Record) -> Dict[str, Value]:
+        """The attributes of an element with those of an `include` over them: where this has a width and a height, no
+        layout attribute of the element counts."""
+        is_placed = {"android:layout_width", "android:layout_height"} <= set(given)
+        found = dict(own)
+        for key in own:
+            if is_placed and key.startswith(("android:layout_", "app:layout_")) and key not in given:
+                record.no_effect(key, "the include has a width and a height, so this does not count")
+                del found[key]
+            elif key in given:
+                record.no_effect(key, "the include has another one")
+        found.update(given)
+        return found
+
+    def layout_of(self, key: str, element: Element, place: Place) -> Optional[File]:
+        """The layout file that an attribute names."""
+        value = element.attributes.get(key)
+        try:
+            resolved = self.resources.resolve(value, place.theme) if value else None
+        except Failure:
+            return None
+        if resolved is None or not resolved.is_string or resolved.text is None:
+            return None
+        return File(resolved.text, resolved.source) if self.files.has(resolved.text, resolved.source) else None
+
+    def include(self, element: Element, place: Place) -> List[View]:
+        """The views in the place of an `include`."""
+        record = self.record(element, place)
+        record.why_no_view = "the layout that it names is put in its place"
+        file = self.layout_of("layout", element, place)
+        if file is None:
+            record.why_no_view = "its layout is not in the app"
+            record.leave_out("layout", "the layout is not in the app", Effect.BOUNDS)
+            return []
+        record.use("layout")
+        theme = self.themed(element.attributes, place, record)
+        given = self.overrides(element, record)
+        root = self.files.document(*file)
+        if root is not None and root.name == "merge":
+            for key in given:
+                record.no_effect(key, "the layout has a merge as its root, so this does not count")
+            given = {}
+        return self.of_file(place._replace(file=file, theme=theme), given)
+
+    @staticmethod
+    def overrides(element: Element, record: Record) -> Dict[str, Value]:
+        """What an `include` gives to the root of its layout: its id and its visibility, and where it has a width and a
+        height all layout attributes."""
+        found: Dict[str, Value] = {}
+        is_placed = {"android:layout_width", "android:layout_height"} <= set(element.attributes)
+        for key, value in element.attributes.items():
+            if key.startswith(("android:layout_", "app:layout_")):
+                if is_placed:
+                    found[key] = value
+                    record.use(key)
+                else:
+                    record.no_effect(key, "an include without a width and a height does not place its layout")
+            elif key in OVERRIDDEN:
+                found[key] = value
+                record.use(key)
+            elif key not in record.fates and not key.startswith("tools:"):
+                record.no_effect(key, "an include has no such attribute")
+        return found
