@@ -11,7 +11,7 @@ from ..resources.framework import open_framework
 from ..resources.resources import File, Resources, Theme
 from ..resources.tables import Table as ResourceTable
 from ..resources.values import Value
-from . import app_files, report, writer
+from . import app_files, constraint_solver, report, writer
 from .app_files import MANIFEST, TABLE, AppFiles
 from .dex import Classes
 from .draft import MATCH, App, Node, colour_of, whole
@@ -19,6 +19,7 @@ from .drawables import Drawables
 from .element import Element
 from .expansion import Expansion, Options, View
 from .mapper import Mapper
+from .measurer import Measurer
 from .report import Record, Sums
 from .rules import RULES
 from .styles import Lookup
@@ -146,6 +147,8 @@ class OpenApp:
             views = made.expansion.layout(file, made.theme)
             root = self.root(views, made, request)
             found.records = made.expansion.records
+            writer.check(root, name)
+            constraint_solver.solve(root, Measurer(window, device.density))
             found.compiled = writer.compiled(root, name)
         except Failure as failure:
             found.records = list(made.expansion.records)

@@ -31,6 +31,8 @@ class Node:
     children: List["Node"] = field(default_factory=list)
     record: Optional[Record] = None
     is_added: bool = False
+    # of a ConstraintLayout, what its children are tied to
+    constraints: Optional[object] = None
 
 
 class App(NamedTuple):

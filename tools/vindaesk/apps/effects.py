@@ -1,6 +1,6 @@
 """On what each attribute that is not mapped has an effect in Android: on no bounds, picture or touch; or on these. One
 that is in no list is taken to have an effect on bounds."""
-from typing import Dict, Optional, Tuple
+from typing import Dict, Tuple
 
 from .report import Effect, Record
 
@@ -88,6 +88,18 @@ LIBRARY_WORDS = {
 }
 PLATFORM: Dict[str, Effect] = {name: effect for effect, names in WORDS.items() for name in names.split()}
 LIBRARY: Dict[str, Effect] = {name: effect for effect, names in LIBRARY_WORDS.items() for name in names.split()}
+# what classes of some kinds alone read: where a rule does not look for one, its class does not
+OF_SOME_CLASSES = {
+    "android:" + name for name in """
+        adjustViewBounds autoText baselineAligned baselineAlignedChildIndex button checkMark checked collapseColumns
+        columnCount columnWidth dividerPadding drawableBottom drawableEnd drawableLeft drawablePadding drawableRight
+        drawableStart drawableTop ems entries fillViewport gravity height hint horizontalSpacing inputType lines
+        maxEms maxHeight maxLength maxLines maxWidth measureAllChildren measureWithLargestChild minEms minLines
+        numColumns numStars orientation rowCount scrollHorizontally showDividers shrinkColumns singleLine src
+        stretchColumns switchMinWidth switchPadding text textAllCaps textAppearance textColor textOff textOn
+        thumbTextPadding verticalSpacing weightSum width clipToPadding splitMotionEvents
+    """.split()
+}
 # items of a style that count for bounds, for each class that reads them
 IN_STYLES = {"android:" + name for name in (
     "maxWidth", "maxHeight", "adjustViewBounds", "measureWithLargestChild", "measureAllChildren", "fillViewport",
@@ -118,14 +130,17 @@ def effect_of(key: str) -> Effect:
     return Effect.NONE
 
 
-def fate_of_rest(record: Record, key: str, is_layout: Optional[str] = None) -> None:
-    """Says of an attribute that nothing has used what becomes of it. `is_layout` is the parent's class, for an attribute
-    that its parent would read."""
+def fate_of_rest(record: Record, key: str, parent: str, is_known: bool) -> None:
+    """Says of an attribute that nothing has used what becomes of it, by the class of the parent, and whether the class of
+    the view itself is in the table."""
     if key.startswith("tools:"):
         record.no_effect(key, "it is for design tools alone")
         return
-    if is_layout and key.rpartition(":")[2].startswith("layout_") and is_foreign(key, is_layout):
-        record.no_effect(key, "a %s does not read it" % is_layout)
+    if parent and key.rpartition(":")[2].startswith("layout_") and is_foreign(key, parent):
+        record.no_effect(key, "a %s does not read it" % parent)
+        return
+    if is_known and key in OF_SOME_CLASSES:
+        record.no_effect(key, "a %s does not read it" % record.row)
         return
     effect = effect_of(key)
     if effect is Effect.NONE:
@@ -149,6 +164,8 @@ def is_foreign(key: str, parent: str) -> bool:
     name = key.rpartition(":")[2][len("layout_") :]
     if parent in READ_BY:
         return name not in READ_BY[parent]
+    if parent == "ConstraintLayout":
+        return key.startswith("android:")
     if parent == "RelativeLayout":
         return name in ("gravity", "weight") or name.startswith("constraint")
     return False

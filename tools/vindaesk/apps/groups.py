@@ -27,14 +27,12 @@ def map_direct(draft: Draft, mapper: Mapper, arguments: str) -> None:
     """A class that is one of the six, or measures and places as one."""
     boxes.put_box(draft)
     draft.node.kind = draft.kind
-    put_flags(draft)
+    check_gone(draft)
     draft.node.children = mapper.children(draft)
 
 
-def put_flags(draft: Draft) -> None:
-    """What groups have."""
-    draft.put_direct("clipToPadding")
-    draft.put_direct("splitMotionEvents")
+def check_gone(draft: Draft) -> None:
+    """Says where children that are gone would count for the size."""
     if draft.boolean("measureAllChildren") and any(is_gone(it) for it in draft.view.children):
         draft.record.leave_out("android:measureAllChildren", "children that are gone have no size", Effect.BOUNDS)
 
@@ -49,7 +47,6 @@ def map_linear(draft: Draft, mapper: Mapper, arguments: str) -> None:
     """A line of children, with dividers between; `vertical` or `horizontal` where the class says it."""
     boxes.put_box(draft)
     draft.node.kind = "LinearLayout"
-    put_flags(draft)
     put_orientation(draft, arguments)
     for name in ("gravity", "weightSum"):
         draft.put_direct(name)
@@ -144,7 +141,6 @@ def map_relative(draft: Draft, mapper: Mapper, arguments: str) -> None:
     """Children that are placed by rules."""
     boxes.put_box(draft)
     draft.node.kind = "RelativeLayout"
-    put_flags(draft)
     gravity = draft.number("gravity", GRAVITIES) or 0
     is_moved = gravity & ACROSS not in (0, 3) or gravity & DOWN not in (0, 0x30)
     if is_moved and draft.view.children:
@@ -158,7 +154,6 @@ def map_scroll(draft: Draft, mapper: Mapper, arguments: str) -> None:
     """A child that may be higher than the view."""
     boxes.put_box(draft)
     draft.node.kind = "ScrollView"
-    put_flags(draft)
     draft.put_direct("fillViewport")
     draft.node.children = mapper.children(draft)
     if len(draft.node.children) > 1:
@@ -171,7 +166,6 @@ def map_across(draft: Draft, mapper: Mapper, arguments: str) -> None:
     """A child that may be wider than the view."""
     boxes.put_box(draft)
     draft.node.kind = "FrameLayout"
-    put_flags(draft)
     fills = draft.boolean("fillViewport")
     draft.node.children = mapper.children(draft)
     for child in draft.node.children:
@@ -196,7 +190,6 @@ def map_table(draft: Draft, mapper: Mapper, arguments: str) -> None:
     boxes.put_box(draft)
     draft.node.kind = "LinearLayout"
     draft.put("orientation", whole(VERTICAL))
-    put_flags(draft)
     draft.put_direct("gravity")
     draft.node.children = mapper.children(draft, "TableLayout")
     put_dividers(draft)
@@ -231,7 +224,6 @@ def map_row(draft: Draft, mapper: Mapper, arguments: str) -> None:
     """A row of a table."""
     boxes.put_box(draft)
     draft.node.kind = "LinearLayout"
-    put_flags(draft)
     for name in ("gravity", "weightSum"):
         draft.put_direct(name)
     draft.node.children = mapper.children(draft, "TableRow")
@@ -242,7 +234,6 @@ def map_grid(draft: Draft, mapper: Mapper, arguments: str) -> None:
     """Rows of as many cells as there are columns."""
     boxes.put_box(draft)
     draft.node.kind = "LinearLayout"
-    put_flags(draft)
     columns = draft.number("columnCount", {}) or draft.number("app:columnCount", {}) or 0
     put_orientation(draft, "")
     runs_down = is_vertical(draft.node)
@@ -260,7 +251,6 @@ def map_absolute(draft: Draft, mapper: Mapper, arguments: str) -> None:
     """Children at places that are given."""
     boxes.put_box(draft)
     draft.node.kind = "FrameLayout"
-    put_flags(draft)
     draft.node.children = mapper.children(draft, "AbsoluteLayout")
 
 
@@ -277,7 +267,6 @@ def map_toolbar(draft: Draft, mapper: Mapper, arguments: str) -> None:
     """An icon, a title, and children in a line."""
     box = boxes.put_box(draft)
     draft.node.kind = "LinearLayout"
-    put_flags(draft)
     draft.put("gravity", whole(CENTRE_DOWN))
     library = "app:" if draft.app.lookup.number("app:contentInsetStart") else "android:"
     inset = draft.length(library + "contentInsetStart")
@@ -320,7 +309,6 @@ def map_coordinator(draft: Draft, mapper: Mapper, arguments: str) -> None:
     """A bar at the top with the content below it, and what floats over both."""
     boxes.put_box(draft)
     draft.node.kind = "FrameLayout"
-    put_flags(draft)
     nodes = mapper.children(draft)
     pairs = list(zip(draft.view.children, nodes))
     bars = [node for view, node in pairs if view.name.endswith("AppBarLayout")]
@@ -369,7 +357,6 @@ def map_drawer(draft: Draft, mapper: Mapper, arguments: str) -> None:
     """A content that fills the view, and drawers that are closed."""
     boxes.put_box(draft)
     draft.node.kind = "FrameLayout"
-    put_flags(draft)
     draft.node.children = mapper.children(draft)
     for view, node in zip(draft.view.children, draft.node.children):
         gravity = node.attributes.get("layout_gravity")
@@ -386,7 +373,6 @@ def map_swipe(draft: Draft, mapper: Mapper, arguments: str) -> None:
     """A child that fills the view."""
     boxes.put_box(draft)
     draft.node.kind = "FrameLayout"
-    put_flags(draft)
     draft.node.children = mapper.children(draft)
     for child in draft.node.children[:1]:
         child.attributes.update(layout_width=whole(MATCH), layout_height=whole(MATCH))
@@ -398,7 +384,6 @@ def map_card(draft: Draft, mapper: Mapper, arguments: str) -> None:
     """A frame with a colour, and the padding of its content in place of its own."""
     boxes.put_box(draft)
     draft.node.kind = "FrameLayout"
-    put_flags(draft)
     for name in ("padding", "paddingLeft", "paddingTop", "paddingRight", "paddingBottom", "paddingStart", "paddingEnd"):
         draft.node.attributes.pop(name, None)
         if "android:" + name in draft.own:

@@ -28,6 +28,12 @@ class Match(NamedTuple):
     why: str
 
 
+def put_flags(draft: Draft) -> None:
+    """What groups have."""
+    draft.put_direct("clipToPadding")
+    draft.put_direct("splitMotionEvents")
+
+
 class Mapper:
     """Maps the views of an app."""
 
@@ -67,15 +73,17 @@ class Mapper:
         draft = Draft(view, self.app, row.styles, parent)
         draft.kind = kind
         rule(draft, self, row.arguments)
+        if draft.view.children:
+            put_flags(draft)
         view.record.kind = draft.node.kind
-        self.rest(draft, parent)
+        self.rest(draft, parent, self.table.row(view.name) is not None)
         return draft.node
 
-    def rest(self, draft: Draft, parent: str) -> None:
+    def rest(self, draft: Draft, parent: str, is_known: bool) -> None:
         """Says of the attributes that nothing has used what becomes of them."""
         for key in draft.record.keys:
             if key not in draft.record.fates:
-                effects.fate_of_rest(draft.record, key, parent or None)
+                effects.fate_of_rest(draft.record, key, parent, is_known)
         for origin in (draft.attributes.style, draft.attributes.class_style):
             for number in origin:
                 self.rest_of_style(draft, number)

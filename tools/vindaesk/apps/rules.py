@@ -44,4 +44,5 @@ RULES: Dict[str, Rule] = {
     "fill": images.map_fill,
     "stub": images.map_stub,
     "gone": images.map_gone,
+    "helper": constraints.map_helper,
 }

@@ -148,6 +148,7 @@ def beside_of(draft: Draft) -> Beside:
             keys = ["android:drawable" + side, "app:drawable%sCompat" % side, *keys]
         drawable = GONE
         for key in keys:
+            draft.use(key)
             if draft.attributes.given(key) is not None and drawable is GONE:
                 drawable = draft.drawable(key)
         found.append(drawable if drawable.width >= 0 and drawable.height >= 0 else GONE)

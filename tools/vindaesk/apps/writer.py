@@ -73,13 +73,17 @@ def nodes_of(root: Node) -> List[DocumentNode]:
     return made
 
 
-def compiled(root: Node, name: str) -> bytes:
-    """The compiled file of elements; one that the program would not take is a failure."""
+def check(root: Node, name: str) -> None:
+    """A layout that the program would not take is a failure."""
     if depth_of(root) > MAX_DEPTH:
         raise Failure("%s: its views are more than %d deep" % (printable(name), MAX_DEPTH), WRONG)
     count = number(root)
     if count > MAX_VIEWS:
         raise Failure("%s: it has %d views; %d is the most" % (printable(name), count, MAX_VIEWS), WRONG)
+
+
+def compiled(root: Node, name: str) -> bytes:
+    """The compiled file of elements."""
     made = compiler.compiled(nodes_of(root))
     if len(made) > MAX_FILE:
         raise Failure("%s: compiled it has more than %d bytes" % (printable(name), MAX_FILE), WRONG)
