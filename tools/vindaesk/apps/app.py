@@ -7,7 +7,7 @@ from ..common.failures import NOT_RUN, WRONG, Failure
 from ..common.messages import printable
 from ..layouts import documents
 from ..resources.configuration import Configuration
-from ..resources.framework import open_framework
+from ..resources.framework import PATH as BUILT_IN
 from ..resources.resources import File, Resources, Theme
 from ..resources.tables import Table as ResourceTable
 from ..resources.values import Value
@@ -254,7 +254,9 @@ def target_of(manifest: Optional[Element]) -> int:
 
 
 def table_of(files: AppFiles, part: str) -> ResourceTable:
-    """The resource table of a part of an app."""
+    """The resource table of a part of an app, or of the framework."""
+    if not files.has(TABLE, part):
+        raise Failure("%s has no resources: there is no %s in it" % (printable(part), TABLE), NOT_RUN)
     return ResourceTable(files.read(TABLE, part, app_files.MAX_TABLE), part)
 
 
@@ -268,13 +270,12 @@ def opened(paths: Sequence[str], framework: Optional[str] = None) -> Iterator[Op
     """An app, for as long as it is read: an APK, several split APKs, a folder of these, or one into which an app was
     unpacked; with the framework's file, or without."""
     parts = app_files.files_of(paths)
-    everything = [*parts, *([framework] if framework and framework not in parts else [])]
-    with app_files.opened(everything) as files:
-        tables = [table_of(files, it) for it in everything if files.has(TABLE, it)]
+    base = framework or BUILT_IN
+    with app_files.opened([*parts, *([] if base in parts else [base])]) as files:
         if not any(files.has(TABLE, it) for it in parts):
             raise Failure("%s has no resources: there is no %s in it" % (printable(parts[0]), TABLE), NOT_RUN)
-        own = [it for it in tables if is_framework(it)]
-        rest = [it for it in tables if it not in own]
-        yield OpenApp(files, [*(own[:1] or [open_framework()]), *rest], parts)
+        tables = [table_of(files, it) for it in parts if files.has(TABLE, it)]
+        own = [it for it in tables if is_framework(it)] or [table_of(files, base)]
+        yield OpenApp(files, [own[0], *[it for it in tables if it not in own]], parts)
 
 

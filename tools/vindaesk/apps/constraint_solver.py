@@ -3,7 +3,7 @@ sizes in pixels say where they are. A group that is in another one is placed aft
 from typing import Dict, List, Optional, Tuple
 
 from . import constraint_axis
-from .constraint_axis import Axis, Place
+from .constraint_axis import Axis, Place, rounded
 from .constraints import SIZES, Child, Constraints, natural
 from .draft import MATCH, MAX_MARGIN, MAX_SIZE, WRAP, Node, length_of, whole
 from .measurer import Bounds, Measurer
@@ -125,7 +125,7 @@ def first_sizes(task: Task, sizes: Dict[int, Size]) -> Dict[int, Size]:
     for child in task.group.children:
         across, down = child.ties
         if child.ratio is not None and across.size == MATCH and down.size != MATCH:
-            found[child.number] = (int(sizes[child.number][1] * child.ratio), sizes[child.number][1])
+            found[child.number] = (rounded(sizes[child.number][1] * child.ratio), sizes[child.number][1])
             across.size, across.by_content = WRAP, False
     return found
 
@@ -135,7 +135,7 @@ def heights(task: Task, sizes: Dict[int, Size]) -> Dict[int, int]:
     found = {number: it[1] for number, it in sizes.items()}
     for child in task.group.children:
         if child.ratio is not None and child.ties[1].size == MATCH:
-            found[child.number] = int(task.widths[child.number] / child.ratio)
+            found[child.number] = rounded(task.widths[child.number] / child.ratio)
             child.ties[1].size = WRAP
     return found
 

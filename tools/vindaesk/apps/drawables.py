@@ -180,7 +180,16 @@ class Drawables:
         return otherwise if found is None else found
 
     def of_element(self, root: Element, shown: Shown) -> Drawable:
-        """The drawable of an element."""
+        """The drawable of an element, with its tint."""
+        found = self.untinted(root, shown)
+        value = root.attributes.get("android:tint")
+        tint = self.of(value, shown.theme, shown.depth + 1).colour if value else None
+        if tint is None or found.colour is None:
+            return found
+        return replace(found, colour=(found.colour >> 24) * (tint >> 24) // 255 << 24 | tint & 0xFFFFFF)
+
+    def untinted(self, root: Element, shown: Shown) -> Drawable:
+        """The drawable of an element, without its tint."""
         if root.name in ("selector", "animated-selector"):
             return self.of_states(root, shown)
         if root.name in LAYERS:
@@ -206,12 +215,7 @@ class Drawables:
     def of_attribute(self, element: Element, key: str, shown: Shown) -> Drawable:
         """The drawable that an attribute names."""
         value = element.attributes.get(key)
-        found = self.of(value, shown.theme, shown.depth + 1) if value else NOTHING
-        if "android:tint" in element.attributes and value:
-            tint = self.value(element, "android:tint", shown.theme)
-            if tint and tint.is_color and found.colour is not None:
-                found = replace(found, colour=(found.colour >> 24) << 24 | tint.color() & 0xFFFFFF)
-        return found
+        return self.of(value, shown.theme, shown.depth + 1) if value else NOTHING
 
     def of_child(self, element: Element, shown: Shown) -> Drawable:
         """The drawable that an item names, or that is in it."""
@@ -367,9 +371,6 @@ class Drawables:
         if largest is not None:
             key = "android:fillColor" if "android:fillColor" in largest.attributes else "android:strokeColor"
             colour = self.colour(largest, key, theme)
-        tint = self.colour(root, "android:tint", theme)
-        if tint is not None and colour is not None:
-            colour = (colour >> 24) << 24 | tint & 0xFFFFFF
         size = self.length(root, "width", theme, -1), self.length(root, "height", theme, -1)
         return Drawable(colour, *size, None, ("a vector as the colour of its largest path",))
 
