@@ -7,11 +7,12 @@ from ..common.failures import NOT_RUN, WRONG, Failure
 from ..common.messages import printable
 from ..layouts import documents
 from ..resources.configuration import Configuration
+from ..resources.devices import device
 from ..resources.framework import PATH as BUILT_IN
 from ..resources.resources import File, Resources, Theme
 from ..resources.tables import Table as ResourceTable
 from ..resources.values import Value
-from . import app_files, constraint_solver, report, writer
+from . import app_files, constraint_solver, report, source_tree, writer
 from .app_files import MANIFEST, TABLE, AppFiles
 from .dex import Classes
 from .draft import MATCH, App, Node, colour_of, whole
@@ -22,6 +23,7 @@ from .mapper import Mapper
 from .measurer import Measurer
 from .report import Record, Sums
 from .rules import RULES
+from .source_tree import SourceTree
 from .styles import Lookup
 from .widget_table import Table
 
@@ -235,6 +237,8 @@ def manifest_theme(manifest: Optional[Element], resources: Resources) -> Optiona
             if number is not None and resources.bag(number) is not None:
                 return number
     level = target_of(manifest)
+    if level == 0:
+        level = resources.device.sdk
     names = [it for least, it in DEFAULT_THEMES if manifest is not None and level >= least]
     for name in (*names, LAST_THEME):
         number = resources.find(name, "style", "android")
@@ -244,17 +248,29 @@ def manifest_theme(manifest: Optional[Element], resources: Resources) -> Optiona
 
 
 def target_of(manifest: Optional[Element]) -> int:
-    """The API level for which an app was made."""
+    """The API level for which an app was made; 0 where a source does not say it, since its build file does."""
     uses = next((it for it in manifest.children if it.name == "uses-sdk"), None) if manifest else None
     for key in ("android:targetSdkVersion", "android:minSdkVersion"):
         value = uses.attributes.get(key) if uses else None
         if value is not None and value.is_int:
             return value.number()
-    return 1
+    return 0 if manifest is not None and manifest.column else 1
+
+
+def add_sources(files: AppFiles, parts: List[str], base: str) -> None:
+    """Has the sources of a project in the place of their folders."""
+    found = [it for it in parts if source_tree.is_source(it)]
+    if found:
+        framework = Resources([table_of(files, base)], device())
+        for it in found:
+            files.sources[it] = SourceTree(it, framework)
 
 
 def table_of(files: AppFiles, part: str) -> ResourceTable:
     """The resource table of a part of an app, or of the framework."""
+    source = files.sources[part]
+    if isinstance(source, SourceTree):
+        return ResourceTable(source.table, part)
     if not files.has(TABLE, part):
         raise Failure("%s has no resources: there is no %s in it" % (printable(part), TABLE), NOT_RUN)
     return ResourceTable(files.read(TABLE, part, app_files.MAX_TABLE), part)
@@ -272,9 +288,9 @@ def opened(paths: Sequence[str], framework: Optional[str] = None) -> Iterator[Op
     parts = app_files.files_of(paths)
     base = framework or BUILT_IN
     with app_files.opened([*parts, *([] if base in parts else [base])]) as files:
-        if not any(files.has(TABLE, it) for it in parts):
-            raise Failure("%s has no resources: there is no %s in it" % (printable(parts[0]), TABLE), NOT_RUN)
-        tables = [table_of(files, it) for it in parts if files.has(TABLE, it)]
+        add_sources(files, parts, base)
+        with_table = [it for it in parts if files.is_source(it) or files.has(TABLE, it)]
+        tables = [table_of(files, it) for it in with_table or parts]
         own = [it for it in tables if is_framework(it)] or [table_of(files, base)]
         yield OpenApp(files, [own[0], *[it for it in tables if it not in own]], parts)
 

@@ -1,5 +1,5 @@
-"""The files of an app: of an APK, of several split APKs, or of a folder into which one was unpacked. The framework's
-file may be one of them."""
+"""The files of an app: of an APK, of several split APKs, of a folder into which one was unpacked, or of a project's source.
+The framework's file may be one of them."""
 import contextlib
 import os
 import re
@@ -7,9 +7,10 @@ from typing import Dict, Iterator, List, Optional, Sequence, Union
 
 from ..common.failures import NOT_RUN, Failure
 from ..common.messages import printable
-from . import archives, binary_xml
+from . import archives, binary_xml, source_tree
 from .archives import Archive
 from .element import Element
+from .source_tree import SourceTree
 
 TABLE = "resources.arsc"
 MANIFEST = "AndroidManifest.xml"
@@ -44,7 +45,7 @@ class Folder:
         return found
 
 
-Source = Union[Archive, Folder]
+Source = Union[Archive, Folder, SourceTree]
 
 
 class AppFiles:
@@ -62,7 +63,7 @@ class AppFiles:
 
     def is_source(self, source: str) -> bool:
         """Whether its files are as people write them, not as the build tools make them."""
-        return False
+        return isinstance(self.sources.get(source), SourceTree)
 
     def read(self, path: str, source: str, limit: int = MAX_FILE) -> bytes:
         """The bytes of a file that is there."""
@@ -75,6 +76,9 @@ class AppFiles:
     def document(self, path: str, source: str) -> Optional[Element]:
         """The outermost element of a compiled file, or nothing where the file is not there."""
         key = "%s\0%s" % (source, path)
+        found_in = self.sources.get(source)
+        if isinstance(found_in, SourceTree):
+            return found_in.document(path) if found_in.has(path) else None
         if key not in self.documents:
             found = binary_xml.read(self.read(path, source), path) if self.has(path, source) else None
             self.documents[key] = found
@@ -93,11 +97,20 @@ def files_of(paths: Sequence[str]) -> List[str]:
     for path in paths:
         try:
             is_split = os.path.isdir(path) and not os.path.exists(os.path.join(path, TABLE))
+            is_split = is_split and not source_tree.is_source(path)
             apks = apks_in(path) if is_split else []
         except OSError as error:
             raise Failure("%s cannot be read: %s" % (printable(path), error.strerror or error), NOT_RUN)
         found += apks or [path]
     return found
+
+
+    def name_of(self, number: int) -> str:
+        """The name of an id that a source uses, and that is not there."""
+        for it in self.sources.values():
+            if isinstance(it, SourceTree) and number in it.missing:
+                return it.missing[number]
+        return ""
 
 
 @contextlib.contextmanager

@@ -135,7 +135,8 @@ class Draft:
         """The name of what a reference names, or its number."""
         name = self.app.resources.name(value.data)
         sign = "?" if value.is_attribute else "@"
-        return sign + (("%s:%s/%s" % name) if name else "%08x" % value.data)
+        plain = "%s:%s/%s" % name if name else self.app.drawables.files.name_of(value.data)
+        return sign + (plain or "%08x" % value.data)
 
     def length(self, name: str) -> Optional[int]:
         """A length in pixels."""

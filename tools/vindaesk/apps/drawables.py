@@ -334,7 +334,7 @@ class Drawables:
             elif part.name == "corners":
                 picture.append("round corners are square")
         shape = root.attributes.get("android:shape")
-        if shape is not None and shape.data != 0:
+        if shape is not None and (shape.data != 0 or shape.text not in (None, "rectangle")):
             picture.append("a shape that is no rectangle as one")
         if made.colour is None:
             picture.append("a colour that is not in the resources is left out")

@@ -23,7 +23,8 @@ NUMBERS = os.path.join(os.path.dirname(__file__), "platform_attributes.txt")
 @dataclass
 class Element:
     """An element. Its attributes have keys as `android:text`, `app:srcCompat`, `tools:text`, or `style` where they have no
-    namespace. Lines and columns count from 1; a column is 0 in a compiled file, which has none."""
+    namespace. Lines and columns count from 1; a column is 0 in a compiled file, which has none. Of a source, `bound` are the
+    attributes with a value by data binding, `unbound` those without a default, and the text is kept where it is asked for."""
 
     name: str
     line: int
@@ -31,6 +32,9 @@ class Element:
     attributes: Dict[str, Value] = field(default_factory=dict)
     repeated: List[str] = field(default_factory=list)
     children: List["Element"] = field(default_factory=list)
+    bound: List[str] = field(default_factory=list)
+    unbound: List[str] = field(default_factory=list)
+    text: str = ""
 
     def walk(self) -> Iterator["Element"]:
         """This element and all below it, in the order in which they begin."""

@@ -8,6 +8,7 @@ from ..common.failures import WRONG, Failure
 from ..resources.resources import File, Resources, Theme
 from ..resources.values import Value
 from .app_files import AppFiles
+from .effects import effect_of
 from .element import Element
 from .report import Effect, Record
 from .styles import Lookup
@@ -90,11 +91,22 @@ class Expansion:
         """A new row of the report."""
         if len(self.records) >= MAX_VIEWS:
             raise Failure("the layout has more than %d elements with those that it includes" % MAX_VIEWS, WRONG)
-        made = Record(element.name, place.file.path, element.line, element.column, tuple(element.attributes))
+        keys = (*element.attributes, *element.unbound)
+        made = Record(element.name, place.file.path, element.line, element.column, keys)
         for key in element.repeated:
             made.leave_out(key, "an attribute of this name came before", Effect.NONE)
+        for key in element.bound:
+            self.say_bound(made, key, key in element.unbound)
         self.records.append(made)
         return made
+
+    @staticmethod
+    def say_bound(record: Record, key: str, has_no_default: bool) -> None:
+        """Says of an attribute with a value by data binding what is taken for it."""
+        if has_no_default:
+            record.leave_out(key, "a value by data binding without a default", effect_of(key))
+        else:
+            record.approximate(key, "a value by data binding: its default is taken", effect_of(key))
 
     def without_view(self, element: Element, place: Place, why: str) -> Record:
         """An element that makes no view."""
