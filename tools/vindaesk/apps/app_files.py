@@ -85,6 +85,14 @@ class AppFiles:
         return self.documents[key]
 
 
+def name_of_missing(files: AppFiles, number: int) -> str:
+    """The name of an id that a source uses, and that is not there."""
+    for it in files.sources.values():
+        if isinstance(it, SourceTree) and number in it.missing:
+            return it.missing[number]
+    return ""
+
+
 def apks_in(path: str) -> List[str]:
     """The APKs in a folder, the base first."""
     found = [it for it in sorted(os.listdir(path)) if it.endswith(".apk")]
@@ -103,14 +111,6 @@ def files_of(paths: Sequence[str]) -> List[str]:
             raise Failure("%s cannot be read: %s" % (printable(path), error.strerror or error), NOT_RUN)
         found += apks or [path]
     return found
-
-
-    def name_of(self, number: int) -> str:
-        """The name of an id that a source uses, and that is not there."""
-        for it in self.sources.values():
-            if isinstance(it, SourceTree) and number in it.missing:
-                return it.missing[number]
-        return ""
 
 
 @contextlib.contextmanager

@@ -8,6 +8,7 @@ from ..layouts import documents
 from ..layouts.attributes import Form
 from ..resources.resources import Resources, Theme
 from ..resources.values import Type, Value
+from .app_files import name_of_missing
 from .drawables import NOTHING, Drawable, Drawables, pixels
 from .expansion import View
 from .report import Effect, Record
@@ -135,7 +136,7 @@ class Draft:
         """The name of what a reference names, or its number."""
         name = self.app.resources.name(value.data)
         sign = "?" if value.is_attribute else "@"
-        plain = "%s:%s/%s" % name if name else self.app.drawables.files.name_of(value.data)
+        plain = "%s:%s/%s" % name if name else name_of_missing(self.app.drawables.files, value.data)
         return sign + (plain or "%08x" % value.data)
 
     def length(self, name: str) -> Optional[int]:

@@ -20,6 +20,10 @@ WITHOUT_VIEW = {
     "tag": "a tag is for the code of the app",
     "data": "the variables of data binding are for the code of the app",
 }
+STUBS = ("ViewStub", "androidx.appcompat.widget.ViewStubCompat", "android.support.v7.widget.ViewStubCompat")
+# attributes for design tools that replace no other
+OF_DESIGN = {"tools:listitem", "tools:layout", "tools:context", "tools:ignore", "tools:targetApi", "tools:showIn",
+             "tools:itemCount", "tools:locale", "tools:menu", "tools:parentTag", "tools:viewBindingIgnore"}
 # what an `include` gives to the view in its place
 OVERRIDDEN = ("android:id", "android:visibility")
 
@@ -128,6 +132,8 @@ class Expansion:
             return []
         if element.name == "include":
             return self.include(element, place)
+        if element.name in STUBS and self.options.stubs:
+            return self.stub(element, place)
         if element.name == "merge":
             self.without_view(element, place, "the elements in a merge are put in its place")
             return [view for it in element.children for view in self.element(it, place, {})]
@@ -151,6 +157,8 @@ class Expansion:
         """The view of an element, with those in it."""
         record = self.record(element, place)
         attributes = self.merged(element.attributes, given, record)
+        if self.options.design:
+            self.put_design(attributes, record)
         name = element.name
         if name == "view" and "class" in attributes and attributes["class"].text:
             record.use("class")
@@ -159,7 +167,50 @@ class Expansion:
         made = View(name, attributes, theme, record, place.parent)
         inner = place._replace(theme=theme, parent=made)
         made.children = [view for it in element.children for view in self.element(it, inner, {})]
+        if self.options.design:
+            made.children += self.design_children(element, inner, record)
         return made
+
+    @staticmethod
+    def put_design(attributes: Dict[str, Value], record: Record) -> None:
+        """Has attributes for design tools replace those of Android."""
+        for key in [it for it in attributes if it.startswith("tools:") and it not in OF_DESIGN]:
+            own = "android:" + key[len("tools:") :]
+            if own in attributes and own in record.keys:
+                record.no_effect(own, "the one for design tools replaces it")
+            attributes[own] = attributes[key]
+            record.use(key)
+
+    def design_children(self, element: Element, place: Place, record: Record) -> List[View]:
+        """The items of a list, and the layout of a fragment, that design tools show."""
+        found: List[View] = []
+        for key, count in (("tools:listitem", self.options.items), ("tools:layout", 1)):
+            file = self.layout_of(key, element, place) if key in element.attributes else None
+            for _ in range(count) if file is not None else ():
+                found += self.of_file(place._replace(file=file), {})
+                record.use(key)
+            if key in element.attributes and file is None:
+                record.leave_out(key, "the layout is not in the app", Effect.BOUNDS)
+        return found
+
+    def stub(self, element: Element, place: Place) -> List[View]:
+        """The views of the layout of a ViewStub, which takes its place."""
+        file = self.layout_of("android:layout", element, place)
+        if file is None:
+            return [self.view(element, place, {})]
+        record = self.record(element, place)
+        record.why_no_view = "its layout is put in its place"
+        given: Dict[str, Value] = {}
+        for key, value in element.attributes.items():
+            record.use(key)
+            if key.startswith("android:layout_"):
+                given[key] = value
+            elif key == "android:inflatedId":
+                given["android:id"] = value
+            elif key not in ("android:layout", "android:theme"):
+                record.no_effect(key, "the layout that takes its place does not have it")
+        theme = self.themed(element.attributes, place, record)
+        return self.of_file(place._replace(file=file, theme=theme), given)
 
     def merged(self, own: Dict[str, Value], given: Dict[str, Value], record: Record) -> Dict[str, Value]:
         """The attributes of an element with those of an `include` over them: where this has a width and a height, no
