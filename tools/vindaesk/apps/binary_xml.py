@@ -5,7 +5,8 @@ from typing import List, Tuple
 
 from ..layouts.documents import ANDROID
 from ..resources.values import Type, Value
-from .element import MAX_ATTRIBUTES, NAME_OF, Builder, Element, key_of, refusal
+from .element import MAX_ATTRIBUTES, Builder, Element, key_of, refusal
+from .platform_names import NAME_OF
 
 XML, POOL, MAP, START, END = 0x3, 0x1, 0x180, 0x102, 0x103
 UTF8 = 0x100

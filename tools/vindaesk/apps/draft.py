@@ -1,4 +1,5 @@
 """A view on its way to the output: its attributes by type, what was used of them, and what is written for it."""
+import struct
 from dataclasses import dataclass, field
 from fractions import Fraction
 from typing import Dict, List, NamedTuple, Optional, Set
@@ -302,6 +303,7 @@ def float_of(value: Value) -> Optional[documents.Value]:
         number = value.real()
         return documents.Value(documents.FLOAT, value.data) if 0 <= number <= MAX_WEIGHT else None
     if value.is_int and 0 <= value.number() <= MAX_WEIGHT:
-        return whole(value.number())
+        (word,) = struct.unpack("<I", struct.pack("<f", value.number()))
+        return documents.Value(documents.FLOAT, word)
     return None
 

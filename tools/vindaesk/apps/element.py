@@ -1,5 +1,4 @@
 """An element of a resource file: its attributes by their names, the elements below it, and where it is in its source."""
-import os
 from dataclasses import dataclass, field
 from typing import Dict, Iterator, List
 
@@ -17,7 +16,6 @@ PREFIXES = {ANDROID: "android", TOOLS: "tools", "": ""}
 MAX_ELEMENTS = 16384
 MAX_DEPTH = 100
 MAX_ATTRIBUTES = 1024
-NUMBERS = os.path.join(os.path.dirname(__file__), "platform_attributes.txt")
 
 
 @dataclass
@@ -95,18 +93,3 @@ class Builder:
         if self.open or not self.root:
             raise refusal(self.file, "an element does not end" if self.open else "it has no element")
         return self.root[0]
-
-
-def read_numbers() -> Dict[str, int]:
-    """The numbers of Android's public attributes by their names."""
-    found: Dict[str, int] = {}
-    with open(NUMBERS, encoding="ascii") as file:
-        rows = [line.split() for line in file if not line.startswith("#")]
-    for first, *names in rows:
-        for count, name in enumerate(names):
-            found[name] = 0x01010000 + int(first, 16) + count
-    return found
-
-
-NUMBER_OF = read_numbers()
-NAME_OF = {number: name for name, number in NUMBER_OF.items()}

@@ -11,7 +11,8 @@ from ..resources.qualifiers import parse_qualifiers
 from ..resources.resources import Resources
 from ..resources.values import Type, Value
 from . import source_values, source_xml
-from .element import NUMBER_OF, Element
+from .element import Element
+from .platform_names import ID_OF, NUMBER_OF
 from .source_xml import Names
 from .table_writer import Writer
 
@@ -146,8 +147,9 @@ class SourceTree(Names):
     def id_of(self, package: str, kind: str, name: str, is_new: bool) -> int:
         """The id of a name."""
         if package == "android":
-            if kind == "attr" and name in NUMBER_OF:
-                return NUMBER_OF[name]
+            known = NUMBER_OF if kind == "attr" else ID_OF if kind == "id" else {}
+            if name in known:
+                return known[name]
             found = self.framework.find(name, kind, "android")
             return found if found is not None else self.absent("android:%s/%s" % (kind, name))
         if (kind, name) in self.ids:

@@ -5,7 +5,8 @@ from typing import Iterator, List, NamedTuple, Optional
 from ..common.failures import Failure
 from ..resources.values import Type, Value
 from . import source_xml
-from .element import NUMBER_OF, Element
+from .element import Element
+from .platform_names import NUMBER_OF
 from .source_xml import Names, Unbound
 from .table_writer import Bag, Content
 

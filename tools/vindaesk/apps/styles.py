@@ -5,8 +5,8 @@ from typing import Dict, List, Mapping, NamedTuple, Optional, Tuple
 
 from ..common.failures import Failure
 from ..resources.resources import Item, Resources, Theme
+from .platform_names import NAME_OF, NUMBER_OF
 from ..resources.values import Value
-from .element import NAME_OF, NUMBER_OF
 
 NULL = Value(0, 0)
 

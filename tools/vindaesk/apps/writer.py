@@ -9,6 +9,7 @@ from ..layouts.documents import ANDROID, Attribute, End, Namespace, Start
 from ..layouts.documents import Node as DocumentNode
 from ..resources.resources import Resources
 from .draft import Node
+from .platform_names import ID_NAME_OF
 
 UNSAYABLE = re.compile(r"[^A-Za-z0-9_.-]")
 MAX_NAME = 64
@@ -115,6 +116,8 @@ def names_of(ids: Iterable[int], resources: Resources) -> Dict[int, str]:
         name = resources.name(it)
         if name is not None:
             found[it] = "%s:%s/%s" % name
+        elif it in ID_NAME_OF:
+            found[it] = "android:id/" + ID_NAME_OF[it]
     return found
 
 
