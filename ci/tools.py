@@ -360,7 +360,7 @@ def follows_views() -> str:
 
 
 # how a schema names the types
-TYPES = {"object": dict, "array": list, "string": str, "integer": int, "null": type(None)}
+TYPES = {"object": dict, "array": list, "string": str, "integer": int, "boolean": bool, "null": type(None)}
 
 
 def unfit(value: Any, schema: Any) -> str:

@@ -15,7 +15,8 @@ def notes(records):
 
 
 def test_an_image_is_as_large_as_its_drawable_and_padding(tmp_path):
-    # ImageView.onMeasure: the size of the drawable and the padding, at least the suggested minimum, resolved by the spec
+    # ImageView.onMeasure: the size of the drawable and the padding, at least the suggested minimum, resolved by the
+    # spec
     text = '<ImageView %s android:src="@drawable/pin" android:paddingLeft="3dp" android:paddingTop="2dp" />' % SIZE
     (kind, attributes, children), records = mapped(tmp_path, text, res__drawable__pin=VECTOR)
     assert kind == "FrameLayout" and not children
@@ -79,7 +80,8 @@ def test_a_single_line_does_not_break(tmp_path):
 
 
 def test_lines_and_characters_are_least_sizes(tmp_path):
-    # TextView.onMeasure and getDesiredHeight: minLines times the height of a line with the padding; ems times it as width
+    # TextView.onMeasure and getDesiredHeight: minLines times the height of a line with the padding; ems times it as
+    # width
     text = '<TextView %s android:minLines="3" android:ems="10" android:padding="5dp" />' % SIZE
     (_, attributes, _), _ = mapped(tmp_path, text)
     assert (attributes["minHeight"], attributes["minWidth"]) == (34, 80)

@@ -9,7 +9,8 @@ from ..layouts import documents
 from ..resources.configuration import Configuration
 from ..resources.devices import device
 from ..resources.framework import PATH as BUILT_IN
-from ..resources.resources import File, Resources, Theme
+from ..resources.resources import File, Resources
+from ..resources.themes import Theme
 from ..resources.tables import Table as ResourceTable
 from ..resources.values import Value
 from . import app_files, constraint_solver, report, source_tree, writer
@@ -40,8 +41,8 @@ FRAMEWORK = 1
 
 @dataclass(frozen=True)
 class Request:
-    """How layouts are made: the device; the theme by its name, else that of the manifest; which states drawables and colours
-    are in; and what is expanded."""
+    """How layouts are made: the device; the theme by its name, else that of the manifest; which states drawables and
+    colours are in; and what is expanded."""
 
     device: Configuration
     theme: str = ""

@@ -1,5 +1,5 @@
-"""The files of an app: of an APK, of several split APKs, of a folder into which one was unpacked, or of a project's source.
-The framework's file may be one of them."""
+"""The files of an app: of an APK, of several split APKs, of a folder into which one was unpacked, or of a project's
+source. The framework's file may be one of them."""
 import contextlib
 import os
 import re

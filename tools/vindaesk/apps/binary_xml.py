@@ -108,7 +108,7 @@ class Reader:
             self.start(at, head)
         elif kind == END:
             self.builder.end()
-        return at + size
+        return at + int(size)
 
 
 def read(data: bytes, file: str) -> Element:

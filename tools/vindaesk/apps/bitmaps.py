@@ -30,12 +30,13 @@ def colour_parts(row: bytes, form: int, palette: bytes, alphas: bytes) -> List[T
     if form == 0:
         return [(255, it, it, it) for it in row]
     if form == 2:
-        return [(255, *row[k : k + 3]) for k in range(0, len(row), 3)]
+        return [(255, *it) for it in zip(row[0::3], row[1::3], row[2::3])]
     if form == 3:
-        return [(alphas[it] if it < len(alphas) else 255, *palette[3 * it : 3 * it + 3]) for it in row]
+        known = [(palette[3 * it], palette[3 * it + 1], palette[3 * it + 2]) for it in range(len(palette) // 3)]
+        return [(alphas[it] if it < len(alphas) else 255, *known[it]) for it in row]
     if form == 4:
         return [(row[k + 1], row[k], row[k], row[k]) for k in range(0, len(row), 2)]
-    return [(row[k + 3], *row[k : k + 3]) for k in range(0, len(row), 4)]
+    return list(zip(row[3::4], row[0::4], row[1::4], row[2::4]))
 
 
 def mean(pixels: List[Tuple[int, int, int, int]]) -> int:
@@ -117,8 +118,8 @@ def run(line: List[Tuple[int, int, int, int]]) -> Tuple[int, int]:
 
 
 def of_nine_patch_source(data: bytes) -> Bitmap:
-    """The bitmap of a nine-patch as people draw it: its border of one pixel says at the right and at the bottom where the
-    content is, or else at the left and at the top where it stretches."""
+    """The bitmap of a nine-patch as people draw it: its border of one pixel says at the right and at the bottom
+    where the content is, or else at the left and at the top where it stretches."""
     found = of_png(data)
     rows = pixels_of(parts_of(data), MAX_SOURCE)
     if rows is None or len(rows) < found.height or found.width < 3 or found.height < 3:

@@ -15,7 +15,8 @@ def rounded(number: Fraction) -> int:
 
 
 class Axis(NamedTuple):
-    """An axis, 0 across and 1 down: how long it is, the padding at both ends, and the size of each child that is known."""
+    """An axis, 0 across and 1 down: how long it is, the padding at both ends, and the size of each child that is
+    known."""
 
     axis: int
     size: int
@@ -196,11 +197,11 @@ class Solver:
         style, bias = self.tie(children[0]).chain, self.tie(children[0]).bias
         count = len(shown)
         if style == PACKED:
-            lead, step = rest * bias, Fraction(0)
+            lead, step = Fraction(rest) * bias, Fraction(0)
         elif style == SPREAD_INSIDE and count > 1:
             lead, step = Fraction(0), Fraction(rest, count - 1)
         elif style == SPREAD_INSIDE:
-            lead, step = rest * bias, Fraction(0)
+            lead, step = Fraction(rest) * bias, Fraction(0)
         else:
             lead, step = Fraction(rest, count + 1), Fraction(rest, count + 1)
         at = low + lead
@@ -208,16 +209,16 @@ class Solver:
             at += gap
             size = sizes[child.number]
             self.places[child.number] = (rounded(at), rounded(at) + size)
-            at += size + (0 if child.is_gone else step)
+            at += size + (Fraction(0) if child.is_gone else step)
 
     def share(self, children: List[Child], sizes: Dict[int, int], rest: int) -> None:
         """Shares room among children by their weights; without weights each gets as much."""
         weights = [self.tie(it).weight for it in children]
-        total = sum(weights)
-        weights = weights if total else [Fraction(1)] * len(children)
+        weights = weights if any(weights) else [Fraction(1)] * len(children)
+        total = sum(weights, Fraction(0))
         begin = Fraction(0)
         for child, weight in zip(children, weights):
-            end = begin + Fraction(rest) * weight / (total or len(children))
+            end = begin + rest * weight / total
             sizes[child.number] = limited(self.tie(child), rounded(end) - rounded(begin))
             begin = end
 

@@ -1,5 +1,5 @@
-"""Places the children of ConstraintLayouts for one window: the program measures them, anchors place them, and margins and
-sizes in pixels say where they are. A group that is in another one is placed after it."""
+"""Places the children of ConstraintLayouts for one window: the program measures them, anchors place them, and
+margins and sizes in pixels say where they are. A group that is in another one is placed after it."""
 from typing import Dict, List, Optional, Tuple
 
 from . import constraint_axis
@@ -19,7 +19,8 @@ Size = Tuple[int, int]
 
 
 class Task:
-    """A group that is placed: how far it is, the size for which, the number of rounds, and the sizes of its children."""
+    """A group that is placed: how far it is, the size for which, the number of rounds, and the sizes of its
+    children."""
 
     def __init__(self, group: Constraints, around: Optional["Task"]):
         self.group, self.around = group, around

@@ -1,5 +1,5 @@
-"""The children of a ConstraintLayout: what each is tied to on each axis. Guidelines, barriers and groups are no views that
-are seen. apps/constraint_solver.py places them for one window."""
+"""The children of a ConstraintLayout: what each is tied to on each axis. Guidelines, barriers and groups are no
+views that are seen. apps/constraint_solver.py places them for one window."""
 from dataclasses import dataclass, field
 from fractions import Fraction
 from typing import List, NamedTuple, Optional, Set, Tuple
@@ -30,8 +30,8 @@ CONSTRAINT = "app:layout_constraint"
 
 
 class Anchor(NamedTuple):
-    """A side to which another one is tied: the id of a view, 0 for the parent; whether it is the side where the axis ends;
-    and the margin between in pixels, also for a view that is gone."""
+    """A side to which another one is tied: the id of a view, 0 for the parent; whether it is the side where the axis
+    ends; and the margin between in pixels, also for a view that is gone."""
 
     target: int
     is_end: bool
@@ -41,8 +41,8 @@ class Anchor(NamedTuple):
 
 @dataclass
 class Tie:
-    """A child on one axis: its anchors; its size in pixels, or WRAP, or MATCH where its anchors give it; and how it is placed
-    between them."""
+    """A child on one axis: its anchors; its size in pixels, or WRAP, or MATCH where its anchors give it; and how it
+    is placed between them."""
 
     begin: Optional[Anchor] = None
     end: Optional[Anchor] = None
@@ -58,7 +58,8 @@ class Tie:
 
 @dataclass
 class Child:
-    """A child: its id, or a number below 0; its element; what it is tied to across and down; its form, width by height."""
+    """A child: its id, or a number below 0; its element; what it is tied to across and down; its form, width by
+    height."""
 
     number: int
     node: Node
@@ -69,8 +70,8 @@ class Child:
 
 
 class Line(NamedTuple):
-    """A guideline, on an axis (0 across): a place from the begin, from the end, or as a share; or a barrier: the ids of views,
-    and whether it is at their ends."""
+    """A guideline, on an axis (0 across): a place from the begin, from the end, or as a share; or a barrier: the ids
+    of views, and whether it is at their ends."""
 
     number: int
     axis: int

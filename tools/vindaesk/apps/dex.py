@@ -1,5 +1,5 @@
-"""The classes of an app's code: which class each extends, and which methods it has. Of a file in Dalvik's format only the
-lists that say this are read."""
+"""The classes of an app's code: which class each extends, and which methods it has. Of a file in Dalvik's format
+only the lists that say this are read."""
 import struct
 from typing import Dict, List, Optional, Sequence, Tuple
 

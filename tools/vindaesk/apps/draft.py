@@ -7,7 +7,8 @@ from typing import Dict, List, NamedTuple, Optional, Set
 from ..layouts import attributes as known
 from ..layouts import documents
 from ..layouts.attributes import Form
-from ..resources.resources import Resources, Theme
+from ..resources.resources import Resources
+from ..resources.themes import Theme
 from ..resources.values import Type, Value
 from .app_files import name_of_missing
 from .drawables import NOTHING, Drawable, Drawables, pixels

@@ -1,11 +1,12 @@
 """What a drawable is to a layout: its own size, its padding, and one colour for what it shows."""
 from dataclasses import dataclass, replace
 from fractions import Fraction
-from typing import Callable, Dict, FrozenSet, List, NamedTuple, Optional, Tuple
+from typing import Dict, FrozenSet, List, NamedTuple, Optional, Tuple
 
 from ..common.failures import Failure
 from ..resources.configuration import ANYDPI, NODPI
-from ..resources.resources import Resources, Theme
+from ..resources.resources import Resources
+from ..resources.themes import Theme
 from ..resources.values import Type, Value
 from . import bitmaps
 from .app_files import AppFiles
@@ -64,9 +65,9 @@ def over(top: int, under: int) -> int:
     return found
 
 
-def joined_edges(one: Edges, other: Edges, how: Callable[[Tuple[int, int]], int]) -> Edges:
-    """Two edges of each side as one."""
-    left, top, right, bottom = map(how, zip(one, other))
+def joined_edges(one: Edges, other: Edges, is_sum: bool) -> Edges:
+    """Two edges of each side as one: their sum, or the larger one."""
+    left, top, right, bottom = (a + b if is_sum else max(a, b) for a, b in zip(one, other))
     return left, top, right, bottom
 
 
@@ -245,7 +246,8 @@ class Drawables:
             alpha = self.value(chosen, "android:alpha", shown.theme)
             factor = alpha.real() if alpha and alpha.type == Type.FLOAT else 1.0
             if 0 <= factor <= 1:
-                found = replace(found, colour=int((found.colour >> 24) * factor + SHIFTED) << 24 | found.colour & 0xFFFFFF)
+                alpha_word = int((found.colour >> 24) * factor + SHIFTED)
+                found = replace(found, colour=alpha_word << 24 | found.colour & 0xFFFFFF)
         varies = root.attributes.get("android:variablePadding")
         if (varies and varies.boolean()) or not any("android:drawable" in it.attributes or it.children for it in items):
             return found
@@ -279,7 +281,8 @@ class Drawables:
         )
 
     def of_layers(self, root: Element, shown: Shown) -> Drawable:
-        """Drawables over one another. The paddings of lower ones are room around upper ones, unless they are stacked."""
+        """Drawables over one another. The paddings of lower ones are room around upper ones, unless they are
+        stacked."""
         mode = root.attributes.get("android:paddingMode")
         is_nested = root.name != "ripple" and not (mode and (mode.text == "stack" or mode.data == 1))
         made = NOTHING
@@ -288,7 +291,7 @@ class Drawables:
         for item in [it for it in root.children if it.name == "item"][: 1 if root.name == "transition" else None]:
             layer = self.of_layer(item, shown, before if is_nested else NO_EDGES)
             inner = layer.padding or NO_EDGES
-            before = joined_edges(before, inner, sum if is_nested else max)
+            before = joined_edges(before, inner, is_nested)
             made = replace(made, width=max(made.width, layer.width), height=max(made.height, layer.height))
             number = item.attributes.get("android:id")
             if number is None or number.data != MASK:

@@ -131,8 +131,8 @@ def effect_of(key: str) -> Effect:
 
 
 def fate_of_rest(record: Record, key: str, parent: str, is_known: bool) -> None:
-    """Says of an attribute that nothing has used what becomes of it, by the class of the parent, and whether the class of
-    the view itself is in the table."""
+    """Says of an attribute that nothing has used what becomes of it, by the class of the parent, and whether the
+    class of the view itself is in the table."""
     if key.startswith("tools:"):
         record.no_effect(key, "it is for design tools alone")
         return

@@ -1,4 +1,5 @@
-"""An element of a resource file: its attributes by their names, the elements below it, and where it is in its source."""
+"""An element of a resource file: its attributes by their names, the elements below it, and where it is in its
+source."""
 from dataclasses import dataclass, field
 from typing import Dict, Iterator, List
 
@@ -20,9 +21,10 @@ MAX_ATTRIBUTES = 1024
 
 @dataclass
 class Element:
-    """An element. Its attributes have keys as `android:text`, `app:srcCompat`, `tools:text`, or `style` where they have no
-    namespace. Lines and columns count from 1; a column is 0 in a compiled file, which has none. Of a source, `bound` are the
-    attributes with a value by data binding, `unbound` those without a default, and the text is kept where it is asked for."""
+    """An element. Its attributes have keys as `android:text`, `app:srcCompat`, `tools:text`, or `style` where they
+    have no namespace. Lines and columns count from 1; a column is 0 in a compiled file, which has none. Of a source,
+    `bound` are the attributes with a value by data binding, `unbound` those without a default, and the text is kept
+    where it is asked for."""
 
     name: str
     line: int

@@ -1,11 +1,11 @@
 """The elements of a layout as the views that the inflater makes of them: `include`, `merge`, `ViewStub`, `view`,
 `fragment`, `requestFocus`, `tag`, and the `layout` of data binding are put in place or passed over."""
 from dataclasses import dataclass, field
-from enum import Enum
 from typing import Dict, List, NamedTuple, Optional, Tuple
 
 from ..common.failures import WRONG, Failure
-from ..resources.resources import File, Resources, Theme
+from ..resources.resources import File, Resources
+from ..resources.themes import Theme
 from ..resources.values import Value
 from .app_files import AppFiles
 from .effects import effect_of
@@ -30,8 +30,8 @@ OVERRIDDEN = ("android:id", "android:visibility")
 
 @dataclass
 class View:
-    """A view of a layout before it is mapped: the name of its class, its attributes with those of an `include` over them,
-    the theme that it is in, and what is reported of it."""
+    """A view of a layout before it is mapped: the name of its class, its attributes with those of an `include` over
+    them, the theme that it is in, and what is reported of it."""
 
     name: str
     attributes: Dict[str, Value]
@@ -51,8 +51,8 @@ class Place(NamedTuple):
 
 
 class Options(NamedTuple):
-    """What is expanded: with `design` the attributes of the namespace `tools` too; with `stubs` the layouts of ViewStubs;
-    and how many items a list has."""
+    """What is expanded: with `design` the attributes of the namespace `tools` too; with `stubs` the layouts of
+    ViewStubs; and how many items a list has."""
 
     design: bool = False
     stubs: bool = False
@@ -185,12 +185,15 @@ class Expansion:
         """The items of a list, and the layout of a fragment, that design tools show."""
         found: List[View] = []
         for key, count in (("tools:listitem", self.options.items), ("tools:layout", 1)):
-            file = self.layout_of(key, element, place) if key in element.attributes else None
-            for _ in range(count) if file is not None else ():
-                found += self.of_file(place._replace(file=file), {})
-                record.use(key)
-            if key in element.attributes and file is None:
+            file = self.layout_of(key, element, place)
+            if key not in element.attributes:
+                continue
+            if file is None:
                 record.leave_out(key, "the layout is not in the app", Effect.BOUNDS)
+                continue
+            record.use(key)
+            for _ in range(count):
+                found += self.of_file(place._replace(file=file), {})
         return found
 
     def stub(self, element: Element, place: Place) -> List[View]:

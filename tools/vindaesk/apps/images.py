@@ -1,5 +1,5 @@
-"""Views that are as large as a drawable, or as a size of their own: an empty FrameLayout has the size of its padding, at
-least its least size, which is how these are measured too."""
+"""Views that are as large as a drawable, or as a size of their own: an empty FrameLayout has the size of its
+padding, at least its least size, which is how these are measured too."""
 from typing import Tuple
 
 from ..layouts.attributes import VISIBILITIES

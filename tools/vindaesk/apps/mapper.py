@@ -41,8 +41,8 @@ class Mapper:
         self.app, self.table, self.rules, self.classes = app, table, rules, classes
 
     def match(self, view: View) -> Match:
-        """The row of a view's class: its own, or that of the nearest class that it extends, by the code of the app; or by
-        its name."""
+        """The row of a view's class: its own, or that of the nearest class that it extends, by the code of the app;
+        or by its name."""
         row = self.table.row(view.name)
         if row is not None:
             return Match(row, row.why)

@@ -5,12 +5,14 @@ from typing import List, Optional, Tuple
 
 from ..common.failures import WRONG, Failure
 from ..layouts import compiler
+from ..layouts.attributes import VISIBILITIES
 from ..program import process
 from . import writer
-from .draft import Node
+from .draft import Node, whole
 
 Bounds = Optional[Tuple[int, int, int, int]]
 NAME = "measured"
+INVISIBLE = VISIBILITIES["invisible"]
 
 
 class Measurer:
@@ -23,7 +25,7 @@ class Measurer:
         """The bounds of all elements in their parents, in the order in which they begin."""
         with tempfile.TemporaryDirectory() as folder:
             with open(os.path.join(folder, NAME + ".xml"), "wb") as file:
-                file.write(compiler.compiled(writer.nodes_of(root)))
+                file.write(compiler.compiled(writer.nodes_of(unpainted(root))))
             script = writer.script(NAME, self.window, self.density, []) + b"bounds\n"
             written, status = process.ran(["run"], script, folder)
         if status not in (0, 1):
@@ -33,6 +35,12 @@ class Measurer:
         if b": refused " in written or not found:
             raise Failure("the program refuses the layout: %s" % lines[0].decode("utf-8", "replace"), WRONG)
         return found
+
+
+def unpainted(root: Node) -> Node:
+    """The same elements, of which nothing is painted, since that takes most of the time."""
+    attributes = {"visibility": whole(INVISIBLE), **root.attributes}
+    return Node(root.kind, attributes, root.children, root.record)
 
 
 def bounds_of(line: bytes) -> Bounds:

@@ -35,9 +35,9 @@ class Note(NamedTuple):
 
 @dataclass
 class Record:
-    """The row of an element: its name, its file, and its line and column there, 0 where the file has none; the keys of its
-    attributes; the class that it became, its view's number and those of views that were added for it; the row of the table
-    by which it was mapped."""
+    """The row of an element: its name, its file, and its line and column there, 0 where the file has none; the keys
+    of its attributes; the class that it became, its view's number and those of views that were added for it; the row
+    of the table by which it was mapped."""
 
     element: str
     file: str

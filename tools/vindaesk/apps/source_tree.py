@@ -1,5 +1,6 @@
-"""A project's source: the resources in the `res` folders of its modules, without the build tools and their libraries. They
-are put into one table, so that all rules of compiled resources hold; what libraries have is not there."""
+"""A project's source: the resources in the `res` folders of its modules, without the build tools and their
+libraries. They are put into one table, so that all rules of compiled resources hold; what libraries have is not
+there."""
 import os
 import re
 from typing import Dict, Iterator, List, NamedTuple, Optional, Tuple
@@ -36,7 +37,8 @@ NEW_ID = re.compile(rb"@\+id/([\w.]+)")
 
 
 class ResourceFile(NamedTuple):
-    """A file in a folder of resources: its path in the project, the type and the configuration of its folder, its name."""
+    """A file in a folder of resources: its path in the project, the type and the configuration of its folder, its
+    name."""
 
     path: str
     kind: str

@@ -131,7 +131,8 @@ class Reader:
 
 
 def read(data: bytes, file: str, names: Names, keeps_text: bool = False) -> Element:
-    """The outermost element of a file. With `keeps_text` all attributes are texts, and elements have the text in them."""
+    """The outermost element of a file. With `keeps_text` all attributes are texts, and elements have the text in
+    them."""
     reader = Reader(file, names, keeps_text)
     try:
         reader.parser.Parse(data, True)

@@ -1,10 +1,11 @@
-"""Which value an attribute of a view has: its own, else that of its style, else that of the style which its class has by
-the theme, else that of the theme itself, as Android's `obtainStyledAttributes` takes them."""
+"""Which value an attribute of a view has: its own, else that of its style, else that of the style which its class
+has by the theme, else that of the theme itself, as Android's `obtainStyledAttributes` takes them."""
 from enum import Enum
 from typing import Dict, List, Mapping, NamedTuple, Optional, Tuple
 
 from ..common.failures import Failure
-from ..resources.resources import Item, Resources, Theme
+from ..resources.resources import Resources
+from ..resources.themes import Item, Theme
 from .platform_names import NAME_OF, NUMBER_OF
 from ..resources.values import Value
 

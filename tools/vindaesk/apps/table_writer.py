@@ -1,5 +1,5 @@
-"""A table of resources from the sources of an app, in the form that the build tools write: so all that is looked up in it
-follows the same rules as for a compiled app."""
+"""A table of resources from the sources of an app, in the form that the build tools write: so all that is looked up
+in it follows the same rules as for a compiled app."""
 import struct
 from typing import Dict, List, NamedTuple, Tuple, Union
 

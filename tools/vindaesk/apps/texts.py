@@ -3,7 +3,7 @@ lines, is a TextView in a FrameLayout: that has the same size."""
 from typing import List, Mapping, NamedTuple, Optional, Tuple
 
 from ..layouts.attributes import GRAVITIES
-from ..resources.resources import Item
+from ..resources.themes import Item
 from . import boxes
 from .boxes import Box
 from .draft import MAX_TEXT, Draft, Node, boolean_of, colour_of, length_of, text_of, whole

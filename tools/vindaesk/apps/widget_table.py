@@ -17,8 +17,8 @@ STYLE = re.compile(r"(android|app):\w+")
 
 
 class Row(NamedTuple):
-    """A row: the class as the table names it, the class that it becomes, the rule with its arguments, the attributes of a
-    theme that have the style of the class, and why its bounds are not exact, or nothing."""
+    """A row: the class as the table names it, the class that it becomes, the rule with its arguments, the attributes
+    of a theme that have the style of the class, and why its bounds are not exact, or nothing."""
 
     name: str
     kind: str

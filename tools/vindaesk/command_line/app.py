@@ -1,15 +1,14 @@
 """The layouts of an app as the program takes them, each for a device, with a report of what is exact and what is not.
 
 APP is an APK, or a folder: of split APKs, or into which an APK was unpacked. Further words are split APKs, if they end
-with .apk, and names of layouts; without names all layouts are made. Includes, styles, themes, resources and drawables are
-put in place, and each class becomes one of the six that the program has; docs/APPS.md says how, and what is exact.
+with .apk, and names of layouts; without names all layouts are made. Includes, styles, themes, resources and drawables
+are put in place, and each class becomes one of the six that the program has; docs/APPS.md says how, and what is exact.
 
-Without --out, --picture and so on it prints how many views are exact, and with --report what is not. --out writes for each
-layout NAME.xml, compiled, and NAME.script, and for all of them ids.txt and app.json.
+Without --out, --picture and so on it prints how many views are exact, and with --report what is not. --out writes for
+each layout NAME.xml, compiled, and NAME.script, and for all of them ids.txt and app.json.
 
-The status is 1 where a layout cannot be made, or with --strict where a view is not exact; the others are made all the
-same. It is 2 where the app cannot be read; then nothing is written.
-"""
+The status is 1 where a layout cannot be made, or with --strict where a view is not exact; the others are made all
+the same. It is 2 where the app cannot be read; then nothing is written."""
 import argparse
 import json
 from typing import List, Optional, Sequence, Tuple
@@ -67,8 +66,12 @@ def parts_of(given: argparse.Namespace) -> Tuple[List[str], List[str]]:
 def request_of(given: argparse.Namespace) -> Request:
     """How the layouts are made."""
     options = Options(given.design, given.inflate_stubs, given.items)
+    try:
+        wanted = device(given.config)
+    except Failure as failure:
+        raise Failure(str(failure), failures.NOT_RUN)
     return Request(
-        device(given.config), given.theme, frozenset(given.state), options, tuple(given.map), not given.no_window
+        wanted, given.theme, frozenset(given.state), options, tuple(given.map), not given.no_window
     )
 
 
