@@ -165,10 +165,20 @@ def put_least(draft: Draft, background: Drawable) -> Tuple[int, int]:
     return found[0], found[1]
 
 
+def depends_on_content(draft: Draft, axis: int) -> bool:
+    """Whether the width, on axis 0, or the height of a view depends on what is in it: where it wraps it, matches a
+    parent that wraps, or scrolls."""
+    size, around = draft.node.attributes[SIZES[axis]], draft.view.parent
+    if axis == 1 and draft.parent == "ScrollView":
+        return True
+    return size == whole(WRAP) or (size == whole(MATCH) and around is not None and around.by_content[axis])
+
+
 def put_box(draft: Draft) -> Box:
     """Writes what all views have."""
     draft.put_reference("id")
     put_place(draft)
+    draft.view.by_content = depends_on_content(draft, 0), depends_on_content(draft, 1)
     background = background_of(draft)
     if background.colour:
         draft.put("background", colour_of(background.colour))

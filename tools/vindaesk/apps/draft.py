@@ -13,7 +13,7 @@ from ..resources.values import Type, Value
 from .app_files import name_of_missing
 from .drawables import NOTHING, Drawable, Drawables, pixels
 from .expansion import View
-from .report import Effect, Record
+from .report import Effect, Fate, Note, Record
 from .styles import Attributes, Found, Lookup
 
 MATCH, WRAP = -1, -2
@@ -208,7 +208,7 @@ class Draft:
         for why in dict.fromkeys(made.picture):
             self.record.approximate(key, why, Effect.PICTURE)
         for why in dict.fromkeys(made.bounds) if effect is Effect.BOUNDS else ():
-            self.record.approximate(key, why, Effect.BOUNDS)
+            self.record.approximate(key, why, Effect.CONTENT)
         return made
 
     def colour(self, name: str) -> Optional[int]:
@@ -221,6 +221,13 @@ class Draft:
         if made.colour is None:
             self.record.leave_out(key, "; ".join(made.picture) or "the colour is not known", Effect.PICTURE)
         return made.colour
+
+    def place_differently(self, key: str, why: str, is_left_out: bool = False) -> None:
+        """Says that the children are placed otherwise than in Android: of each, and of the view itself."""
+        fate = Fate.LEFT_OUT if is_left_out else Fate.APPROXIMATED
+        self.record.note(Note(key, fate, Effect.CONTENT, why))
+        for child in self.view.children:
+            child.record.approximate("", "in a %s: %s" % (self.record.row, why), Effect.BOUNDS)
 
     # what is written
 

@@ -201,7 +201,7 @@ class Drawables:
             return self.of_vector(root, shown)
         if root.name in ("bitmap", "nine-patch"):
             return self.of_attribute(root, "android:src", shown)
-        if root.name in ("animation-list", "level-list"):
+        if root.name in ("animation-list", "level-list") or root.name.endswith("AnimationScaleListDrawable"):
             first = next((it for it in root.children if it.name == "item"), None)
             found = self.of_child(first, shown) if first else NOTHING
             return replace(found, picture=(*found.picture, "the first picture of an animation or of levels"))

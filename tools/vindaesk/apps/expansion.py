@@ -39,6 +39,8 @@ class View:
     record: Record
     parent: Optional["View"] = None
     children: List["View"] = field(default_factory=list)
+    # whether its width and its height depend on its content, once it is mapped
+    by_content: Tuple[bool, bool] = (False, False)
 
 
 class Place(NamedTuple):

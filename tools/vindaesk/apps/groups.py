@@ -112,14 +112,14 @@ def check_line(draft: Draft) -> None:
     """Says what of a line the program does not do: a common baseline, and the largest child as a measure for others."""
     if draft.boolean("measureWithLargestChild") and any("layout_weight" in it.attributes for it in draft.node.children):
         why = "children with a weight are not as large as the largest one"
-        draft.record.leave_out("android:measureWithLargestChild", why, Effect.BOUNDS)
+        draft.place_differently("android:measureWithLargestChild", why, True)
     is_aligned = draft.boolean("baselineAligned", otherwise=True)
     index = draft.number("baselineAlignedChildIndex", {})
     if index is not None and index >= 0:
         draft.record.no_effect("android:baselineAlignedChildIndex", "no parent aligns baselines")
     if is_aligned and not is_vertical(draft.node) and len(tops_of(draft)) > 1:
         key = "android:baselineAligned" if "android:baselineAligned" in draft.own else ""
-        draft.record.approximate(key, "children with a text are not placed on a common baseline", Effect.BOUNDS)
+        draft.place_differently(key, "children with a text are not placed on a common baseline")
 
 
 def tops_of(draft: Draft) -> Set[object]:
@@ -145,7 +145,7 @@ def map_relative(draft: Draft, mapper: Mapper, arguments: str) -> None:
     is_moved = gravity & ACROSS not in (0, 3) or gravity & DOWN not in (0, 0x30)
     if is_moved and draft.view.children:
         key = "android:gravity" if "android:gravity" in draft.own else ""
-        draft.record.leave_out(key, "a RelativeLayout does not move its children together", Effect.BOUNDS)
+        draft.place_differently(key, "a RelativeLayout does not move its children together", True)
     draft.use("android:ignoreGravity")
     draft.node.children = mapper.children(draft)
 
@@ -159,7 +159,7 @@ def map_scroll(draft: Draft, mapper: Mapper, arguments: str) -> None:
     if len(draft.node.children) > 1:
         draft.node.kind = "FrameLayout"
         draft.node.attributes.pop("fillViewport", None)
-        draft.record.approximate("", "it has several children, which Android refuses: a FrameLayout here", Effect.BOUNDS)
+        draft.place_differently("", "it has several children, which Android refuses: a FrameLayout here")
 
 
 def map_across(draft: Draft, mapper: Mapper, arguments: str) -> None:
@@ -171,7 +171,7 @@ def map_across(draft: Draft, mapper: Mapper, arguments: str) -> None:
     for child in draft.node.children:
         child.attributes["layout_width"] = whole(MATCH if fills else WRAP)
     if draft.node.children:
-        draft.record.approximate("", "what is in it is not wider than the view", Effect.BOUNDS)
+        draft.place_differently("", "what is in it is not wider than the view")
 
 
 def map_first(draft: Draft, mapper: Mapper, arguments: str) -> None:
@@ -203,7 +203,10 @@ def map_table(draft: Draft, mapper: Mapper, arguments: str) -> None:
             if number in stretched or -1 in stretched:
                 cell.attributes["layout_weight"] = whole(1)
     if stretched or shrunk or not is_even(rows):
-        draft.record.approximate("", "columns have the width of each row's own cells", Effect.BOUNDS)
+        draft.place_differently("", "columns have the width of each row's own cells")
+        for row_view in draft.view.children:
+            for cell_view in row_view.children:
+                cell_view.record.approximate("", "in a TableLayout: columns have the width of each row's cells", Effect.BOUNDS)
 
 
 def columns_of(draft: Draft, name: str) -> Set[int]:
@@ -286,7 +289,7 @@ def map_toolbar(draft: Draft, mapper: Mapper, arguments: str) -> None:
         added.append(title_of(draft, title, library))
     draft.node.children = added + children
     if draft.node.children:
-        draft.record.approximate("", "a toolbar places its icons, titles and children by rules of its own", Effect.BOUNDS)
+        draft.place_differently("", "a toolbar places its icons, titles and children by rules of its own")
 
 
 def square(draft: Draft, side: int) -> Node:
@@ -325,7 +328,7 @@ def map_coordinator(draft: Draft, mapper: Mapper, arguments: str) -> None:
         floating = [node for _, node in pairs if node is not bars[0] and node not in frame.children]
         draft.node.children = [column, *floating]
         if any("app:layout_scrollFlags" in it.attributes for it in below_of(draft.view)):
-            draft.record.approximate("", "the content is as high as it is while the bar is open", Effect.BOUNDS)
+            draft.place_differently("", "the content is as high as it is while the bar is open")
     else:
         draft.node.children = nodes
     for view, node in pairs:
@@ -377,7 +380,7 @@ def map_swipe(draft: Draft, mapper: Mapper, arguments: str) -> None:
     for child in draft.node.children[:1]:
         child.attributes.update(layout_width=whole(MATCH), layout_height=whole(MATCH))
     if boxes.is_wrapped(draft, "layout_width") or boxes.is_wrapped(draft, "layout_height"):
-        draft.record.approximate("", "it takes what there is; as large as its child here", Effect.BOUNDS)
+        draft.place_differently("", "it takes what there is; as large as its child here")
 
 
 def map_card(draft: Draft, mapper: Mapper, arguments: str) -> None:
@@ -426,7 +429,7 @@ def map_list(draft: Draft, mapper: Mapper, arguments: str) -> None:
     draft.node.kind = "FrameLayout"
     for key in ("android:entries", "tools:listitem"):
         if key == "android:entries" and draft.attributes.given(key) is not None:
-            draft.record.leave_out(key, "the entries are not shown", Effect.BOUNDS)
+            draft.record.leave_out(key, "the entries are not shown", Effect.CONTENT)
     items = mapper.children(draft)
     line = Node("LinearLayout" if items else "View", record=draft.record, is_added=True)
     line.attributes = {"layout_width": whole(MATCH), "layout_height": whole(WRAP) if items else length_of(0)}
@@ -457,5 +460,5 @@ def map_pager(draft: Draft, mapper: Mapper, arguments: str) -> None:
     draft.node.kind = "FrameLayout" if children else "View"
     draft.node.children = children
     if children:
-        draft.record.approximate("", "it takes what there is; as large as its children here", Effect.BOUNDS)
+        draft.place_differently("", "it takes what there is; as large as its children here")
 

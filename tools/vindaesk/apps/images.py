@@ -61,7 +61,7 @@ def adjusted(draft: Draft, box: Box, width: int, height: int) -> Tuple[int, int]
         if any(most):
             factor = min([1.0, *[it / size for it, size in zip(most, (width, height)) if it]])
             width, height = int(width * factor), int(height * factor)
-    draft.record.approximate("android:adjustViewBounds", "an image keeps its size, not its form", Effect.BOUNDS)
+    draft.record.approximate("android:adjustViewBounds", "an image keeps its size, not its form", Effect.CONTENT)
     return width, height
 
 
@@ -166,7 +166,7 @@ def map_clock(draft: Draft, mapper: Mapper, arguments: str) -> None:
     box = boxes.put_box(draft)
     dial = draft.drawable("dial")
     if dial.width < 0:
-        draft.record.approximate("", "the size of its dial is not known", Effect.BOUNDS)
+        draft.record.approximate("", "the size of its dial is not known", Effect.CONTENT)
     put_content(draft, box, max(dial.width, 0), max(dial.height, 0))
     put_colour(draft, box, dial)
 
@@ -175,7 +175,7 @@ def map_spinner(draft: Draft, mapper: Mapper, arguments: str) -> None:
     """A field that shows one of several entries, which are there with the code of the app."""
     box = boxes.put_box(draft)
     if draft.attributes.given("android:entries") is not None:
-        draft.record.leave_out("android:entries", "the entries are not shown, nor is their width known", Effect.BOUNDS)
+        draft.record.leave_out("android:entries", "the entries are not shown, nor is their width known", Effect.CONTENT)
     put_content(draft, box, 0, 0)
 
 

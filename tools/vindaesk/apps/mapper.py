@@ -66,16 +66,18 @@ class Mapper:
         kind = row.kind
         if view.children and kind in ("View", "TextView") and row.rule not in ("stub", "gone", "fill"):
             rule, kind = self.rules["direct"], "FrameLayout"
-            view.record.approximate("", "a %s with children: a FrameLayout here" % row.name, Effect.BOUNDS)
-        if why:
-            view.record.approximate("", why, Effect.BOUNDS)
         view.record.row = row.name
         draft = Draft(view, self.app, row.styles, parent)
+        if kind != row.kind:
+            draft.place_differently("", "a %s with children: a FrameLayout here" % row.name)
+        if why:
+            draft.place_differently("", why)
         draft.kind = kind
         rule(draft, self, row.arguments)
         if draft.view.children:
             put_flags(draft)
         view.record.kind = draft.node.kind
+        view.record.settle(any(view.by_content))
         self.rest(draft, parent, self.table.row(view.name) is not None)
         return draft.node
 

@@ -6,9 +6,11 @@ from typing import Dict, List, NamedTuple, Tuple
 
 
 class Effect(Enum):
-    """On what an attribute has an effect in Android."""
+    """On what an attribute has an effect in Android. One on the size of a view's content is one on its bounds where
+    it is as large as its content, and else one on the picture."""
 
     BOUNDS = "bounds"
+    CONTENT = "content"
     TEXT = "text"
     PICTURE = "picture"
     TOUCH = "touch"
@@ -77,6 +79,11 @@ class Record:
             self.fates[note.attribute] = note.fate
         if note not in self.notes:
             self.notes.append(note)
+
+    def settle(self, is_wrapped: bool) -> None:
+        """Says of notes on the size of the content on what they have an effect."""
+        effect = Effect.BOUNDS if is_wrapped else Effect.PICTURE
+        self.notes = [it._replace(effect=effect) if it.effect is Effect.CONTENT else it for it in self.notes]
 
     def has_effect(self, effect: Effect) -> bool:
         """Whether something that is not exact has an effect on this."""

@@ -109,7 +109,7 @@ def said_of(draft: Draft, given: str, items: Items, single: bool) -> Tuple[str, 
     hint = draft.text("hint")
     is_hint = not text and not given and bool(hint)
     if text and hint and len(hint) > len(text):
-        draft.record.approximate("android:hint", "a hint that is longer than the text does not count", Effect.BOUNDS)
+        draft.record.approximate("android:hint", "a hint that is longer than the text does not count", Effect.CONTENT)
     found = text or given or hint or ""
     most = draft.number("maxLength", {})
     if most is not None and most >= 0 and not is_hint:
@@ -121,7 +121,7 @@ def said_of(draft: Draft, given: str, items: Items, single: bool) -> Tuple[str, 
     found = found.replace("\r", "")
     if len(found.encode()) > MAX_TEXT:
         found = found.encode()[:MAX_TEXT].decode("utf-8", "ignore")
-        draft.record.approximate("android:text", "the text is cut after %d bytes" % MAX_TEXT, Effect.BOUNDS)
+        draft.record.approximate("android:text", "the text is cut after %d bytes" % MAX_TEXT, Effect.CONTENT)
     return found, is_hint
 
 
@@ -179,12 +179,12 @@ def check_most(draft: Draft, box: Box, text: str, lines: Lines) -> None:
             continue
         most = most * CELL_HEIGHT if name.endswith("ms") else most
         if longest > most:
-            draft.record.approximate("android:" + name, "the text is wider than this, and not cut", Effect.BOUNDS)
+            draft.record.approximate("android:" + name, "the text is wider than this, and not cut", Effect.CONTENT)
     high = draft.length("maxHeight")
     if high is not None and high < (text.count("\n") + 1) * CELL_HEIGHT + box.down:
-        draft.record.approximate("android:maxHeight", "the text is higher than this, and not cut", Effect.BOUNDS)
+        draft.record.approximate("android:maxHeight", "the text is higher than this, and not cut", Effect.CONTENT)
     if lines.most > 1 and lines.most != lines.least and len(text) > lines.most:
-        draft.record.approximate("android:maxLines", "a text of more lines is not cut", Effect.BOUNDS)
+        draft.record.approximate("android:maxLines", "a text of more lines is not cut", Effect.CONTENT)
 
 
 def is_moved(draft: Draft, gravity: int, text: str) -> bool:
@@ -342,7 +342,7 @@ def map_switch(draft: Draft, mapper: Mapper, arguments: str) -> None:
     height = max(thumb.height, track.height, 0)
     colour = track.colour if track.colour is not None else thumb.colour
     if thumb.width < 0 or thumb.colour is None:
-        draft.record.approximate("", "the size of its thumb is not known", Effect.BOUNDS)
+        draft.record.approximate("", "the size of its thumb is not known", Effect.CONTENT)
     beside = beside_of(draft)
     has_text = bool(draft.text("text"))
     room = (padding if has_text else 0) - beside.room
