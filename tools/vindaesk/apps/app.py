@@ -50,6 +50,12 @@ class Request:
     options: Options = Options()
     maps: Tuple[str, ...] = ()
     has_window: bool = True
+    in_pixels: bool = False
+
+    @property
+    def density(self) -> int:
+        """The density of the screen on which layouts are laid out."""
+        return self.device.density if self.in_pixels else BASE_DENSITY
 
 
 @dataclass
@@ -124,7 +130,7 @@ class OpenApp:
             resources = self.resources(request.device)
             lookup = Lookup(resources)
             theme, name = self.theme_of(request, resources)
-            app = App(resources, lookup, Drawables(self.files, resources, request.states))
+            app = App(resources, lookup, Drawables(self.files, resources, request.density, request.states))
             mapper = Mapper(app, Table(sorted(RULES), list(request.maps)), RULES, self.classes)
             expansion = Expansion(self.files, resources, lookup, request.options)
             self.made[request] = Made(resources, lookup, mapper, expansion, theme, name)
@@ -141,9 +147,8 @@ class OpenApp:
     def screen(self, name: str, request: Request, taken: Sequence[str] = ()) -> Screen:
         """A layout for a device. What is wrong with it is in the result."""
         made = self.shared(request)
-        device = request.device
-        window = window_of(device)
-        found = Screen(writer.file_name(name, taken), name, window, device.density, made.theme_name)
+        window = window_of(request.device, request.density)
+        found = Screen(writer.file_name(name, taken), name, window, request.density, made.theme_name)
         try:
             file = file_of(name, made.resources)
             found.file = file.path
@@ -151,7 +156,7 @@ class OpenApp:
             root = self.root(views, made, request)
             found.records = made.expansion.records
             writer.check(root, name)
-            constraint_solver.solve(root, Measurer(window, device.density))
+            constraint_solver.solve(root, Measurer(window, request.density))
             found.compiled = writer.compiled(root, name)
         except Failure as failure:
             found.records = list(made.expansion.records)
@@ -159,7 +164,7 @@ class OpenApp:
             return found
         found.ids = writer.names_of(writer.ids_in(root), made.resources)
         comments = ["%s of %s, with the theme %s" % (found.file, ", ".join(self.paths), made.theme_name)]
-        found.script = writer.script(found.name, window, device.density, comments)
+        found.script = writer.script(found.name, window, request.density, comments)
         return found
 
     @staticmethod
@@ -187,9 +192,9 @@ def layout_ids(resources: Resources) -> List[int]:
     return list(resources.ids("layout", package))
 
 
-def window_of(device: Configuration) -> Tuple[int, int]:
-    """The window of a device in pixels."""
-    sides = [(it * device.density * 2 + BASE_DENSITY) // (2 * BASE_DENSITY) for it in (device.width, device.height)]
+def window_of(device: Configuration, density: int) -> Tuple[int, int]:
+    """The window of a device on a screen of a density, in its pixels."""
+    sides = [(it * density * 2 + BASE_DENSITY) // (2 * BASE_DENSITY) for it in (device.width, device.height)]
     if not all(1 <= it <= MAX_SIDE for it in sides):
         raise Failure("a window of %d by %d pixels is too large: a side has at most %d" % (*sides, MAX_SIDE), NOT_RUN)
     return sides[0], sides[1]

@@ -47,8 +47,8 @@ class App(NamedTuple):
 
     @property
     def density(self) -> int:
-        """Dots an inch."""
-        return self.resources.device.density
+        """Dots an inch of the screen on which the layouts are laid out."""
+        return self.drawables.density
 
 
 def whole(number: int) -> documents.Value:
@@ -198,13 +198,19 @@ class Draft:
             return str(value.number())
         return "" if value.is_empty else None
 
+    def drawables(self) -> Drawables:
+        """The drawables in the states of the view."""
+        found = self.attributes.find("android:checked")
+        is_checked = found is not None and (found.value.text == "true" if found.value.text else found.value.data != 0)
+        return self.app.drawables.checked() if is_checked else self.app.drawables
+
     def drawable(self, name: str, effect: Effect = Effect.BOUNDS) -> Drawable:
         """A drawable; what is not exact of it is noted."""
         key = name if ":" in name else "android:" + name
         found = self.find(key)
         if found is None or found.value.is_null:
             return NOTHING
-        made = self.app.drawables.of(found.given, self.theme)
+        made = self.drawables().of(found.given, self.theme)
         for why in dict.fromkeys(made.picture):
             self.record.approximate(key, why, Effect.PICTURE)
         for why in dict.fromkeys(made.bounds) if effect is Effect.BOUNDS else ():
@@ -217,7 +223,7 @@ class Draft:
         found = self.find(key)
         if found is None or found.value.is_null:
             return None
-        made = self.app.drawables.of(found.given, self.theme)
+        made = self.drawables().of(found.given, self.theme)
         if made.colour is None:
             self.record.leave_out(key, "; ".join(made.picture) or "the colour is not known", Effect.PICTURE)
         return made.colour

@@ -105,11 +105,17 @@ class Shown(NamedTuple):
 class Drawables:
     """Reads the drawables of an app, each once for each theme."""
 
-    def __init__(self, files: AppFiles, resources: Resources, states: FrozenSet[str] = frozenset()):
-        self.files, self.resources = files, resources
-        self.density = resources.device.density
+    def __init__(self, files: AppFiles, resources: Resources, density: int, states: FrozenSet[str] = frozenset()):
+        self.files, self.resources, self.density = files, resources, density
         self.states = states | PLAIN if "state_disabled" not in states else (states | PLAIN) - {"state_enabled"}
         self.found: Dict[Tuple[str, str, Tuple[int, ...]], Drawable] = {}
+        self.of_checked: Optional[Drawables] = None
+
+    def checked(self) -> "Drawables":
+        """The same, of views that are checked."""
+        if self.of_checked is None:
+            self.of_checked = Drawables(self.files, self.resources, self.density, self.states | {"state_checked"})
+        return self.of_checked
 
     def of(self, value: Value, theme: Theme, depth: int = 0) -> Drawable:
         """The drawable of a value."""

@@ -36,7 +36,7 @@ WORDS = {
         autoSizeStepGranularity textFontWeight textLocale
     """,
     Effect.PICTURE: """
-        alpha backgroundTint backgroundTintMode cacheColorHint checked childDivider childIndicator clipChildren
+        alpha backgroundTint backgroundTintMode cacheColorHint childDivider childIndicator clipChildren
         clipToOutline cropToPadding divider dividerHeight drawableTint drawableTintMode drawSelectorOnTop
         duplicateParentState addStatesFromChildren elevation ellipsize fadeScrollbars fadingEdge fadingEdgeLength
         footerDividersEnabled foreground foregroundGravity foregroundInsidePadding foregroundTint foregroundTintMode

@@ -1,5 +1,5 @@
 """Groups: those that are one of the six classes, and those that are made of these."""
-from typing import List, Optional, Set
+from typing import Dict, List, Optional, Set
 
 from ..layouts.attributes import GRAVITIES, ORIENTATIONS, VISIBILITIES
 from . import boxes
@@ -117,15 +117,22 @@ def check_line(draft: Draft) -> None:
     index = draft.number("baselineAlignedChildIndex", {})
     if index is not None and index >= 0:
         draft.record.no_effect("android:baselineAlignedChildIndex", "no parent aligns baselines")
-    if is_aligned and not is_vertical(draft.node) and len(tops_of(draft)) > 1:
+    tops = {} if not is_aligned or is_vertical(draft.node) else tops_of(draft)
+    if len(set(tops.values())) > 1:
+        why = "children with a text are not placed on a common baseline"
         key = "android:baselineAligned" if "android:baselineAligned" in draft.own else ""
-        draft.place_differently(key, "children with a text are not placed on a common baseline")
+        draft.record.approximate(key, why, Effect.CONTENT)
+        for number in tops:
+            record = draft.node.children[number].record
+            if record is not None:
+                record.approximate("", "in a %s: %s" % (draft.record.row, why), Effect.BOUNDS)
 
 
-def tops_of(draft: Draft) -> Set[object]:
-    """How far below the top of a line the texts of its children begin, for those that would share a baseline."""
-    found: Set[object] = set()
-    for child in draft.node.children:
+def tops_of(draft: Draft) -> Dict[int, object]:
+    """How far below the top of a line the texts of its children begin, for those that would share a baseline, by their
+    places in the line."""
+    found: Dict[int, object] = {}
+    for number, child in enumerate(draft.node.children):
         is_text = child.kind == "TextView" or any(it.kind == "TextView" and it.is_added for it in child.children)
         own = child.attributes.get("layout_gravity") or draft.node.attributes.get("gravity")
         down = own.word & DOWN if own else 0
@@ -133,7 +140,7 @@ def tops_of(draft: Draft) -> Set[object]:
         if is_text and down in (0, 0x30) and child.attributes.get("visibility") != whole(GONE) and high != whole(MATCH):
             names = ("padding", "paddingTop", "layout_margin", "layout_marginTop", "minHeight")
             text = [it.attributes.get("layout_gravity") for it in child.children if it.is_added and it.kind == "TextView"]
-            found.add((tuple(child.attributes.get(it) for it in names), tuple(text), high != whole(WRAP) and high))
+            found[number] = tuple(child.attributes.get(it) for it in names), tuple(text), high != whole(WRAP) and high
     return found
 
 

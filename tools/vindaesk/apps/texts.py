@@ -286,6 +286,7 @@ def with_side(beside: Beside, side: int, drawable: Drawable) -> Beside:
 def map_compound(draft: Draft, mapper: Mapper, arguments: str) -> None:
     """A text with a button at its left: a box or a circle."""
     box = boxes.put_box(draft)
+    draft.use("android:checked")
     key = "app:buttonCompat" if draft.attributes.given("app:buttonCompat") is not None else "android:button"
     button = draft.drawable(key)
     beside = beside_of(draft)
@@ -306,6 +307,7 @@ def with_button(beside: Beside, button: Drawable) -> Beside:
 def map_checked(draft: Draft, mapper: Mapper, arguments: str) -> None:
     """A text with a mark at its right."""
     box = boxes.put_box(draft)
+    draft.use("android:checked")
     mark = draft.drawable("checkMark")
     beside = beside_of(draft)
     if mark.height > 0:
@@ -329,6 +331,7 @@ def map_toggle(draft: Draft, mapper: Mapper, arguments: str) -> None:
 def map_switch(draft: Draft, mapper: Mapper, arguments: str) -> None:
     """A text with a switch at its right, whose room is made of its thumb and its track."""
     box = boxes.put_box(draft)
+    draft.use("android:checked")
     library = "app:" if draft.attributes.given("app:thumb") or draft.attributes.given("app:track") else "android:"
     thumb = draft.drawable("android:thumb")
     track = draft.drawable(library + "track")

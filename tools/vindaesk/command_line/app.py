@@ -45,6 +45,7 @@ def reader() -> argparse.ArgumentParser:
                        help="items of a list with --design, 0 to %d; 3" % MOST_ITEMS)
     found.add_argument("--inflate-stubs", action="store_true", help="puts the layouts of ViewStubs in place")
     found.add_argument("--no-window", action="store_true", help="leaves out the content of the window around the layout")
+    found.add_argument("--pixels", action="store_true", help="lays out in the pixels of the device; without it in dp")
     found.add_argument("--list", action="store_true", help="prints the names of the layouts alone")
     found.add_argument("--report", action="store_true", help="prints what is not exact, a line each")
     found.add_argument("--json", action="store_true", help="prints the report as JSON")
@@ -71,7 +72,8 @@ def request_of(given: argparse.Namespace) -> Request:
     except Failure as failure:
         raise Failure(str(failure), failures.NOT_RUN)
     return Request(
-        wanted, given.theme, frozenset(given.state), options, tuple(given.map), not given.no_window
+        wanted, given.theme, frozenset(given.state), options, tuple(given.map), not given.no_window,
+        given.pixels
     )
 
 

@@ -58,19 +58,22 @@ def qualifiers_of(locale: str, night: bool, land: bool, density: int, more: str)
 @contextlib.contextmanager
 def app(
     path: Union[str, Sequence[str]], layout: str, *, locale: str = "", night: bool = False, land: bool = False,
-    density: int = 0, config: str = "", theme: str = "", framework: Optional[str] = None,
+    density: int = 0, config: str = "", theme: str = "", framework: Optional[str] = None, pixels: bool = False,
     states: FrozenSet[str] = frozenset(), options: Options = Options(), maps: Tuple[str, ...] = ()
 ) -> Iterator[AppSession]:
     """A session over a layout of an app, for as long as it is used: an APK, several split ones, or a folder. `config` has
     further qualifiers of the device, as `v30`, which come after the others in the order of Android's folders. What is wrong
     with the app or the layout is a Failure."""
     wanted = device(qualifiers_of(locale, night, land, density, config))
-    request = Request(wanted, theme, states, options, maps)
+    request = Request(wanted, theme, states, options, maps, in_pixels=pixels)
     with apps.opened([path] if isinstance(path, str) else list(path), framework) as opened:
         screen = opened.screen(layout, request)
     if screen.why:
         raise Failure(screen.why, NOT_RUN)
     with tempfile.TemporaryDirectory() as folder:
         files.replace(os.path.join(folder, screen.name + ".xml"), screen.compiled)
-        with AppSession(folder, screen) as made:
+        made = AppSession(folder, screen)
+        try:
             yield made
+        finally:
+            made.close()
