@@ -1,12 +1,14 @@
 """The children of a ConstraintLayout on one axis: where each begins and ends, by its anchors, chains, guidelines and
 barriers. All are pixels from the side where the axis begins."""
 from fractions import Fraction
-from typing import Dict, List, NamedTuple, Optional, Tuple
+from typing import Dict, List, NamedTuple, Optional, Set, Tuple
 
 from .constraints import PACKED, PARENT, SPREAD_INSIDE, Anchor, Child, Constraints, Line, Tie
 from .draft import MATCH
 
 Place = Tuple[int, int]
+# how many children are followed from one to the other
+MAX_PATH = 256
 
 
 def rounded(number: Fraction) -> int:
@@ -233,21 +235,29 @@ def solved(group: Constraints, axis: Axis) -> Tuple[Dict[int, Place], List[int]]
 def needed(group: Constraints, axis: Axis) -> int:
     """How long an axis has to be for its children, where the group is as large as its content."""
     most = 0
+    children = {it.number: it for it in group.children}
     for child in group.children:
         if not child.is_gone:
-            most = max(most, path(group, axis, child, True, []) + axis.sizes.get(child.number, 0)
-                       + path(group, axis, child, False, []))
+            both = path(children, axis, child, True) + path(children, axis, child, False)
+            most = max(most, both + axis.sizes.get(child.number, 0))
     return most + sum(axis.padding)
 
 
-def path(group: Constraints, axis: Axis, child: Child, to_begin: bool, seen: List[int]) -> int:
+def path(children: Dict[int, Child], axis: Axis, child: Child, to_begin: bool) -> int:
     """How much room is taken between a child and the side of the group to which its anchors lead."""
-    tie = child.ties[axis.axis]
-    anchor = tie.begin if to_begin else tie.end
-    if anchor is None or child.number in seen:
-        return 0
-    other = next((it for it in group.children if it.number == anchor.target), None)
-    if other is None:
-        return anchor.margin
-    size = axis.sizes.get(other.number, 0) if anchor.is_end == to_begin and not other.is_gone else 0
-    return anchor.margin + size + path(group, axis, other, to_begin, [*seen, child.number])
+    room = 0
+    seen: Set[int] = set()
+    while child.number not in seen and len(seen) < MAX_PATH:
+        seen.add(child.number)
+        tie = child.ties[axis.axis]
+        anchor = tie.begin if to_begin else tie.end
+        if anchor is None:
+            return room
+        room += anchor.margin
+        other = children.get(anchor.target)
+        if other is None:
+            return room
+        if anchor.is_end == to_begin and not other.is_gone:
+            room += axis.sizes.get(other.number, 0)
+        child = other
+    return room

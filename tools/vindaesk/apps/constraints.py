@@ -25,6 +25,7 @@ SPREAD, SPREAD_INSIDE, PACKED = 0, 1, 2
 DEFAULTS = {"spread": 0, "wrap": 1, "percent": 2}
 DIRECTIONS = {"left": 0, "right": 1, "top": 2, "bottom": 3, "start": 5, "end": 6}
 GONE = VISIBILITIES["gone"]
+MAX_REFERENCES = 256
 HALF = Fraction(1, 2)
 CONSTRAINT = "app:layout_constraint"
 
@@ -207,7 +208,7 @@ def id_of(view: View) -> int:
 
 def references(draft: Draft) -> Tuple[int, ...]:
     """The ids that a helper names, by their names."""
-    names = (draft.text("app:constraint_referenced_ids") or "").split(",")
+    names = (draft.text("app:constraint_referenced_ids") or "").split(",")[:MAX_REFERENCES]
     found = [draft.app.resources.find(it.strip(), "id") for it in names if it.strip()]
     return tuple(it for it in found if it is not None)
 

@@ -14,6 +14,8 @@ from .bitmaps import Edges
 from .element import Element
 
 MAX_DEPTH = 16
+# a bitmap takes some hundredths of a second
+MAX_BITMAPS = 1000
 MASK = 0x0102002E
 BASE_DENSITY = 160
 SHIFTED = 0.5
@@ -40,6 +42,11 @@ class Drawable:
     padding: Optional[Edges] = None
     picture: Tuple[str, ...] = ()
     bounds: Tuple[str, ...] = ()
+
+
+def once(one: Tuple[str, ...], other: Tuple[str, ...]) -> Tuple[str, ...]:
+    """The sentences of two drawables, each once."""
+    return tuple(dict.fromkeys(one + other))
 
 
 NOTHING = Drawable()
@@ -110,6 +117,7 @@ class Drawables:
         self.states = states | PLAIN if "state_disabled" not in states else (states | PLAIN) - {"state_enabled"}
         self.found: Dict[Tuple[str, str, Tuple[int, ...]], Drawable] = {}
         self.of_checked: Optional[Drawables] = None
+        self.bitmaps = 0
 
     def checked(self) -> "Drawables":
         """The same, of views that are checked."""
@@ -151,6 +159,9 @@ class Drawables:
 
     def of_bitmap(self, path: str, source: str, passed: List[int]) -> Drawable:
         """The drawable of a bitmap, in the size that it has on this screen."""
+        self.bitmaps += 1
+        if self.bitmaps > MAX_BITMAPS:
+            return unknown("more than %d bitmaps are shown, and this is one more" % MAX_BITMAPS)
         found = bitmaps.read(self.files.read(path, source), path.endswith(".9.png") and self.files.is_source(source))
         if found is None:
             return unknown("%s is no bitmap that is known" % path)
@@ -302,7 +313,9 @@ class Drawables:
             number = item.attributes.get("android:id")
             if number is None or number.data != MASK:
                 colours.append(layer.colour)
-                made = replace(made, picture=made.picture + layer.picture, bounds=made.bounds + layer.bounds)
+                made = replace(
+                    made, picture=once(made.picture, layer.picture), bounds=once(made.bounds, layer.bounds)
+                )
         return replace(made, colour=joined(colours) if colours else 0, padding=before if any(before) else None)
 
     def of_layer(self, item: Element, shown: Shown, around: Edges) -> Drawable:

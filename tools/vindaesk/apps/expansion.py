@@ -4,6 +4,7 @@ from dataclasses import dataclass, field
 from typing import Dict, List, NamedTuple, Optional, Tuple
 
 from ..common.failures import WRONG, Failure
+from ..common.messages import printable
 from ..resources.resources import File, Resources
 from ..resources.themes import Theme
 from ..resources.values import Value
@@ -14,7 +15,10 @@ from .report import Effect, Record
 from .styles import Lookup
 
 MAX_INCLUDES = 32
-MAX_VIEWS = 16384
+# elements with those that are included, how deep they are in one another, and the views that the program takes
+MAX_ELEMENTS = 16384
+MAX_DEPTH = 64
+MAX_VIEWS = 4096
 WITHOUT_VIEW = {
     "requestFocus": "the view around it gets the focus",
     "tag": "a tag is for the code of the app",
@@ -44,12 +48,14 @@ class View:
 
 
 class Place(NamedTuple):
-    """Where elements are expanded: the file, the files around it that include it, the theme, and the view around."""
+    """Where elements are expanded: the file, the files around it that include it, the theme, the view around, and
+    how deep they are."""
 
     file: File
     chain: Tuple[str, ...]
     theme: Theme
     parent: Optional[View]
+    depth: int = 0
 
 
 class Options(NamedTuple):
@@ -67,10 +73,12 @@ class Expansion:
     def __init__(self, files: AppFiles, resources: Resources, lookup: Lookup, options: Options):
         self.files, self.resources, self.lookup, self.options = files, resources, lookup, options
         self.records: List[Record] = []
+        self.views = 0
+        self.first = ""
 
     def layout(self, file: File, theme: Theme) -> List[View]:
         """The views of a layout file, more than one where its root is a `merge`."""
-        self.records = []
+        self.records, self.views, self.first = [], 0, printable(file.path)
         return self.of_file(Place(file, (), theme, None), {})
 
     def of_file(self, place: Place, given: Dict[str, Value]) -> List[View]:
@@ -95,8 +103,10 @@ class Expansion:
 
     def record(self, element: Element, place: Place) -> Record:
         """A new row of the report."""
-        if len(self.records) >= MAX_VIEWS:
-            raise Failure("the layout has more than %d elements with those that it includes" % MAX_VIEWS, WRONG)
+        if len(self.records) >= MAX_ELEMENTS:
+            raise Failure("%s: it has more than %d elements, with those that it includes" % (self.first, MAX_ELEMENTS), WRONG)
+        if place.depth > MAX_DEPTH:
+            raise Failure("%s: its elements are more than %d deep, with those that it includes" % (self.first, MAX_DEPTH), WRONG)
         keys = (*element.attributes, *element.unbound)
         made = Record(element.name, place.file.path, element.line, element.column, keys)
         for key in element.repeated:
@@ -129,6 +139,7 @@ class Expansion:
 
     def element(self, element: Element, place: Place, given: Dict[str, Value]) -> List[View]:
         """The views of an element."""
+        place = place._replace(depth=place.depth + 1)
         if element.name in WITHOUT_VIEW:
             self.skip(element, place, WITHOUT_VIEW[element.name])
             return []
@@ -158,6 +169,9 @@ class Expansion:
     def view(self, element: Element, place: Place, given: Dict[str, Value]) -> View:
         """The view of an element, with those in it."""
         record = self.record(element, place)
+        self.views += 1
+        if self.views > MAX_VIEWS:
+            raise Failure("%s: it has more than %d views, with those that it includes" % (self.first, MAX_VIEWS), WRONG)
         attributes = self.merged(element.attributes, given, record)
         if self.options.design:
             self.put_design(attributes, record)

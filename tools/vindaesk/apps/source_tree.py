@@ -22,6 +22,7 @@ APP = 0x7F
 MISSING = 0xFF
 MAX_FILES = 20000
 MAX_BYTES = 1 << 24
+MAX_ALL = 1 << 28
 MAX_DEPTH = 8
 MAX_NAMES = 0xFFFF
 SKIPPED = {"build", "node_modules", "out"}
@@ -82,6 +83,8 @@ class SourceTree(Names):
         self.ids: Dict[Tuple[str, str], int] = {}
         self.counts: Dict[str, int] = {}
         self.missing: Dict[int, str] = {}
+        self.missing_ids: Dict[str, int] = {}
+        self.left = MAX_ALL
         self.elements: Dict[str, Element] = {}
         self.notes: List[str] = []
         self.files = list(self.all_files())
@@ -104,8 +107,10 @@ class SourceTree(Names):
                 found = file.read(limit + 1)
         except OSError as error:
             raise Failure("%s cannot be read: %s" % (printable(name), error.strerror or error), NOT_RUN)
-        if len(found) > limit:
-            raise Failure("%s has more than %d bytes" % (printable(name), limit), NOT_RUN)
+        self.left -= len(found)
+        if len(found) > limit or self.left < 0:
+            most = (limit, "") if len(found) > limit else (MAX_ALL, ", with the files before it")
+            raise Failure("%s has more than %d bytes%s" % (printable(name), *most), NOT_RUN)
         return found
 
     def manifest(self) -> Optional[str]:
@@ -161,11 +166,11 @@ class SourceTree(Names):
 
     def absent(self, name: str) -> int:
         """The id of a name that is not there."""
-        for number, it in self.missing.items():
-            if it == name:
-                return number
+        if name in self.missing_ids:
+            return self.missing_ids[name]
         number = APP << 24 | MISSING << 16 | min(len(self.missing), MAX_NAMES)
         self.missing[number] = name
+        self.missing_ids[name] = number
         return number
 
     def made(self, kind: str, name: str) -> int:
@@ -192,6 +197,7 @@ class SourceTree(Names):
                 if entry.kind in TYPES:
                     self.made(entry.kind, entry.name)
         self.missing.clear()
+        self.missing_ids.clear()
         writer = Writer(APP, "app", list(TYPES))
         for it in values:
             for entry in source_values.read(bodies[it.path], it.path, self):

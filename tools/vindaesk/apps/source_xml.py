@@ -21,6 +21,9 @@ PLAIN_TEXTS = {
     "android:stretchColumns", "android:shrinkColumns", "android:collapseColumns", "app:layout_behavior", "android:label",
 }
 MAX_TEXT = 1 << 16
+# how long a value by data binding is, and a colour, a number or a length
+MAX_BOUND = 1 << 12
+MAX_TYPED = 64
 
 
 class Names:
@@ -69,14 +72,14 @@ def escaped(text: str) -> str:
 def value_of(text: str, key: str, names: Names) -> Value:
     """The value of an attribute, or of an item of a style."""
     text = text[:MAX_TEXT]
-    if BOUND.fullmatch(text.strip()):
+    if len(text) <= MAX_BOUND and BOUND.fullmatch(text.strip()):
         default = DEFAULT.search(text.strip())
         if default is None:
             raise Unbound
         text = default[1].strip("\"'`")
     plain = text.strip()
     found = reference(plain, names) if plain[:1] in ("@", "?") else None
-    if found is None and key not in PLAIN_TEXTS:
+    if found is None and key not in PLAIN_TEXTS and len(plain) <= MAX_TYPED:
         found = typed(plain)
     return found or Value(Type.STRING, 0, escaped(text))
 
@@ -116,7 +119,7 @@ class Reader:
                 element.put(key, value_of(text, key, self.names))
             except Unbound:
                 element.unbound.append(key)
-            if BOUND.fullmatch(text.strip()):
+            if len(text) <= MAX_BOUND and BOUND.fullmatch(text.strip()):
                 element.bound.append(key)
         self.builder.start(element)
 

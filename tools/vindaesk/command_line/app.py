@@ -22,6 +22,7 @@ from ..resources.devices import device
 from . import app_views, arguments
 
 MOST_ITEMS = 100
+MOST_LAYOUTS = 4096
 
 
 def states(word: str) -> List[str]:
@@ -83,6 +84,8 @@ def made(opened: OpenApp, names: List[str], request: Request) -> List[Screen]:
     if not known:
         raise Failure("%s has no layout" % messages.printable(opened.paths[0]), failures.NOT_RUN)
     wanted = names or known
+    if len(wanted) > MOST_LAYOUTS:
+        raise Failure("the app has %d layouts; %d is the most: name some of them" % (len(wanted), MOST_LAYOUTS), failures.NOT_RUN)
     for name in wanted:
         if name not in known:
             raise Failure(results.unknown(name, known), failures.NOT_RUN)
