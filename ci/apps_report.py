@@ -5,9 +5,10 @@ import json
 import os
 import shutil
 from functools import partial
+from typing import Any, Iterator, List, Set, Tuple
 
-from running import TOP
-from tools import first, place, unfit, unlike
+from running import TOP, Checks
+from tools import Ended, Place, first, place, unfit, unlike
 from vindaesk.apps import archives, element
 from vindaesk.layouts import documents
 
@@ -15,23 +16,27 @@ TRIPS = os.path.join(TOP, "examples", "trips", "trips.apk")
 INBOX = os.path.join(TOP, "examples", "inbox", "inbox.apk")
 SOURCE = os.path.join(TOP, "examples", "trips")
 MAX_LAYOUT = 1 << 20
+# of an element its line, its name, and its attributes; of a row of a report all attributes, and those that are used or
+# without effect
+Element = Tuple[int, str, List[str]]
+Row = Tuple[int, str, Set[str], Set[str]]
 SCHEMA = os.path.join(TOP, "docs", "app.schema.json")
 
 
-def report(it, *words):
+def report(it: Place, *words: str) -> Tuple[Any, Ended]:
     """The report of a call, and the call."""
     found = it.call("app", *words, "--json")
     return json.loads(found[1]) if found[0] in (0, 1) and found[1] else None, found
 
 
-def elements_of(app, path):
+def elements_of(app: archives.Archive, path: str) -> Iterator[Element]:
     """Line, name and attributes of each element of a layout file, read by the program."""
     nodes = documents.of_file(app.read(path, MAX_LAYOUT), path)
     for node in documents.starts(nodes):
         yield node.line, node.name, sorted({element.key_of(it.namespace, it.name) for it in node.attributes})
 
 
-def rows_of(layout, path):
+def rows_of(layout: Any, path: str) -> Iterator[Row]:
     """The same of the rows of a report that are of a file, with all attributes of which something is said, and those that are
     said to be used or without effect."""
     for row in layout["elements"]:
@@ -41,7 +46,7 @@ def rows_of(layout, path):
             yield row["line"], row["element"], own | noted, own
 
 
-def has_each_attribute(path):
+def has_each_attribute(path: str) -> str:
     """Each element of each layout file, with each of its attributes, is in the report, as often as its file is included."""
     with place() as it, archives.opened(path) as app:
         whole, found = report(it, path)
@@ -60,7 +65,7 @@ def has_each_attribute(path):
     return ""
 
 
-def unlike_rows(wanted, had):
+def unlike_rows(wanted: List[Element], had: List[Row]) -> str:
     """The first element that is not in the report as it should be; each is there as often as the file is included."""
     if not wanted or len(had) % len(wanted):
         return "%d elements, and %d rows" % (len(wanted), len(had))
@@ -70,7 +75,7 @@ def unlike_rows(wanted, had):
     return ""
 
 
-def sums_differ(layout):
+def sums_differ(layout: Any) -> str:
     """Whether the sums of a layout are not those of its rows."""
     views = [it for it in layout["elements"] if it["no_view"] is None]
     exact = [it for it in views if not any(note["effect"] == "bounds" for note in it["notes"])]
@@ -78,7 +83,7 @@ def sums_differ(layout):
     return "" if (sums["views"], sums["exact"]) == (len(views), len(exact)) else "the sums are %s" % sums
 
 
-def inlined(schema, whole):
+def inlined(schema: Any, whole: Any) -> Any:
     """A schema with its own definitions in the place of references to them."""
     if isinstance(schema, dict):
         if "$ref" in schema:
@@ -87,7 +92,7 @@ def inlined(schema, whole):
     return [inlined(it, whole) for it in schema] if isinstance(schema, list) else schema
 
 
-def fits_schema():
+def fits_schema() -> str:
     with open(SCHEMA, encoding="utf-8") as file:
         whole = json.load(file)
     schema = inlined(whole, whole)
@@ -100,7 +105,7 @@ def fits_schema():
         return "" if unfit({**made, "sums": {}}, schema) else "the schema takes anything"
 
 
-def writes_a_folder():
+def writes_a_folder() -> str:
     """The script shows the layout, as --tree has it, and the ids have their names."""
     with place() as it:
         why = unlike(it.call("app", TRIPS, "home", "row", "--out", "made", "--config", "mdpi"), 0, None, "")
@@ -116,7 +121,7 @@ def writes_a_folder():
         return "" if any(line.startswith("vindaesk.trips:id/book = 0x7f") for line in ids) else "the ids are %s" % ids
 
 
-def marks_what_is_not_exact():
+def marks_what_is_not_exact() -> str:
     with place() as it:
         found = it.call("app", TRIPS, "nothing", "--tree", "--config", "mdpi")
         lines = found[1].decode().split("\n")
@@ -125,13 +130,13 @@ def marks_what_is_not_exact():
         return why or ("" if len(marked) == 1 and "vindaesk.trips.Wheel" in marked[0] else "marked: %s" % marked)
 
 
-def lint_names_the_source():
+def lint_names_the_source() -> str:
     with place() as it:
         found = it.call("app", TRIPS, "settings", "--lint", "--config", "mdpi")
         return unlike(found, 0, None, "") or ("" if b"res/layout/settings.xml:" in found[1] else "it writes %r" % found[1])
 
 
-def takes_configurations():
+def takes_configurations() -> str:
     with place() as it:
         calls = {"": "BOOK", "de": "BUCHEN", "de-night-land": "BUCHEN"}
         for config, text in calls.items():
@@ -142,13 +147,13 @@ def takes_configurations():
         return "" if b"bg #ff121212" in night[1] else "at night it is %r" % night[1][:200]
 
 
-def is_strict():
+def is_strict() -> str:
     with place() as it:
         why = unlike(it.call("app", TRIPS, "home", "--strict"), 0, None, "")
         return why or unlike(it.call("app", TRIPS, "cards", "--strict"), 1, None, "")
 
 
-def takes_rows():
+def takes_rows() -> str:
     with place() as it:
         it.put("map.txt", "vindaesk.trips.Wheel | FrameLayout | box 200 200 | - | exact\n")
         why = unlike(it.call("app", TRIPS, "nothing", "--strict", "--map", "map.txt"), 0, None, "")
@@ -164,7 +169,7 @@ def takes_rows():
         return why
 
 
-def refuses_wrong_calls():
+def refuses_wrong_calls() -> str:
     with place() as it:
         it.put("a.apk", b"PK")
         os.mkdir(os.path.join(it.folder, "empty"))
@@ -182,7 +187,7 @@ def refuses_wrong_calls():
         return why or ("" if it.names() == ["a.apk", "empty"] else "files: %s" % it.names())
 
 
-def takes_unpacked_and_split_apps():
+def takes_unpacked_and_split_apps() -> str:
     """A folder into which the app was unpacked, and one of split APKs, give the same."""
     with place() as it:
         plain = it.call("app", TRIPS)
@@ -193,7 +198,7 @@ def takes_unpacked_and_split_apps():
         return why or unlike(it.call("app", "split"), 0, plain[1], "")
 
 
-def can_be_interrupted():
+def can_be_interrupted() -> str:
     """Status and sentence, and nothing is written."""
     with place() as it:
         started = it.start("tools/app", SOURCE, "--out", "made")
@@ -203,7 +208,7 @@ def can_be_interrupted():
         return "" if is_ended and not os.path.exists(os.path.join(it.folder, "made")) else "%d: %r" % (started.returncode, said)
 
 
-def apps():
+def apps() -> Iterator[str]:
     """The apps whose report is looked at."""
     yield TRIPS
     yield INBOX
@@ -211,7 +216,7 @@ def apps():
         yield from sorted(glob.glob(os.path.join(folder, "**", "*.apk"), recursive=True))
 
 
-def checks():
+def checks() -> Checks:
     for path in apps():
         yield "app: each attribute of %s" % os.path.basename(path), partial(has_each_attribute, path)
     yield "app: the report fits its schema", fits_schema

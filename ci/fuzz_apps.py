@@ -6,20 +6,25 @@ Half of the N runs change bytes of the files of examples/trips/trips.apk; the ot
 random attributes and values. The layouts that come out are compiled, and one in 250 is carried out by the program, which has
 to take it. The measuring of ConstraintLayouts is replaced by random bounds, but in those runs.
 """
+import contextlib
 import os
 import random
 import sys
 import tempfile
 import time
+import unittest.mock
 import zipfile
+from typing import Dict, Iterator, List, Tuple
 
 sys.dont_write_bytecode = True
 
-from running import PROGRAM, TOP, run
+from running import PROGRAM, TOP, Checks, run
 from vindaesk.apps import app, constraint_solver, widget_table
-from vindaesk.apps.app import Request
+from vindaesk.apps.app import Request, Screen
 from vindaesk.apps.constraints import CHAINS
+from vindaesk.apps.draft import Node
 from vindaesk.apps.expansion import Options
+from vindaesk.apps.measurer import Bounds, Measurer
 from vindaesk.apps.platform_names import NUMBER_OF
 from vindaesk.apps.rules import RULES
 from vindaesk.common.failures import Failure
@@ -67,23 +72,23 @@ SPACES = ('xmlns:android="http://schemas.android.com/apk/res/android" xmlns:app=
 ESCAPES = {"&": "&amp;", "<": "&lt;", '"': "&quot;"}
 
 
-class AnyMeasurer:
+class AnyMeasurer(Measurer):
     """Bounds at random in the place of those of the program."""
 
-    def __init__(self, dice):
+    def __init__(self, dice: random.Random):
+        super().__init__((360, 640), 160)
         self.dice = dice
-        self.window = (360, 640)
 
-    def bounds(self, root):
+    def bounds(self, root: Node) -> List[Bounds]:
         count = len(constraint_solver.nodes_in(root))
         return [self.box() if self.dice.random() < 0.9 else None for _ in range(count)]
 
-    def box(self):
+    def box(self) -> Tuple[int, int, int, int]:
         left, top = self.dice.randrange(-5, 300), self.dice.randrange(-5, 300)
         return left, top, left + self.dice.randrange(0, 400), top + self.dice.randrange(0, 400)
 
 
-def changed(dice, folder):
+def changed(dice: random.Random, folder: str) -> str:
     """The app with some bytes of some files changed."""
     path = os.path.join(folder, "a.apk")
     with zipfile.ZipFile(TRIPS) as old, zipfile.ZipFile(path, "w") as new:
@@ -100,7 +105,7 @@ def changed(dice, folder):
     return path
 
 
-def attribute(dice):
+def attribute(dice: random.Random) -> Tuple[str, str]:
     """An attribute at random."""
     kind = dice.random()
     name = "android:" + dice.choice(COMMON if kind < 0.7 else NAMES) if kind < 0.8 else "app:" + dice.choice(LIBRARY)
@@ -110,7 +115,7 @@ def attribute(dice):
     return name, value
 
 
-def element(dice, depth):
+def element(dice: random.Random, depth: int) -> str:
     """An element at random, with what is in it."""
     name = dice.choice(CLASSES if dice.random() < 0.9 else OTHERS).replace("$", "_")
     pairs = dict(attribute(dice) for _ in range(dice.randrange(0, 9)))
@@ -123,7 +128,7 @@ def element(dice, depth):
     return "<%s %s %s>%s</%s>" % (name, spaces, " ".join('%s="%s"' % it for it in pairs.items()), inner, name)
 
 
-def made(dice, folder):
+def made(dice: random.Random, folder: str) -> str:
     """A source at random."""
     for path, text in {**FILES, "res/layout/main.xml": element(dice, 0)}.items():
         place = os.path.join(folder, path)
@@ -133,7 +138,7 @@ def made(dice, folder):
     return folder
 
 
-def tried(dice, folder, is_source):
+def tried(dice: random.Random, folder: str, is_source: bool) -> List[Screen]:
     """The screens of an app."""
     path = (made if is_source else changed)(dice, folder)
     options = Options(dice.random() < 0.5, dice.random() < 0.5, 2)
@@ -143,7 +148,7 @@ def tried(dice, folder, is_source):
         return [opened.screen(it, request) for it in (["main"] if is_source else dice.sample(names, min(3, len(names))))]
 
 
-def refused(screen, folder):
+def refused(screen: Screen, folder: str) -> str:
     """Whether the program refuses a layout, and how."""
     with open(os.path.join(folder, screen.name + ".xml"), "wb") as file:
         file.write(screen.compiled)
@@ -154,16 +159,26 @@ def refused(screen, folder):
     return "" if status == 0 and b"settled" in written else "status %d: %r" % (status, written[-300:])
 
 
-def fuzzed(count, seed, every=SHOWN):
+@contextlib.contextmanager
+def measured_by(dice: random.Random) -> Iterator[None]:
+    """Has bounds at random take the place of those of the program."""
+    before = constraint_solver.solve
+
+    def solve(root: Node, _: Measurer) -> bool:
+        return before(root, AnyMeasurer(dice))
+
+    with unittest.mock.patch.object(constraint_solver, "solve", solve):
+        yield
+
+
+def fuzzed(count: int, seed: int, every: int = SHOWN) -> Tuple[str, Dict[str, float]]:
     """Runs a number of cases; returns the sentence of the first that goes wrong, or nothing, and what there was."""
-    sums = {"screens": 0, "sentences": 0, "framed": 0, "slowest": 0.0}
+    sums: Dict[str, float] = {"screens": 0, "sentences": 0, "framed": 0, "slowest": 0.0}
     for number in range(count):
         dice = random.Random("%d %d" % (seed, number))
         started = time.process_time()
-        before = constraint_solver.solve
-        constraint_solver.solve = lambda root, _, it=dice, do=before: do(root, AnyMeasurer(it))
         try:
-            with tempfile.TemporaryDirectory() as folder:
+            with measured_by(dice), tempfile.TemporaryDirectory() as folder:
                 for screen in tried(dice, folder, number % 2 == 0):
                     sums["sentences" if screen.why else "screens"] += 1
                     if number % every == 0 and not screen.why:
@@ -175,15 +190,13 @@ def fuzzed(count, seed, every=SHOWN):
             sums["sentences"] += 1
         except Exception as error:
             return "run %d of seed %d: %s: %s" % (number, seed, type(error).__name__, error), sums
-        finally:
-            constraint_solver.solve = before
         sums["slowest"] = max(sums["slowest"], time.process_time() - started)
         if sums["slowest"] > SECONDS:
             return "run %d of seed %d took %.1f s" % (number, seed, sums["slowest"]), sums
     return "", sums
 
 
-def checks():
+def checks() -> Checks:
     yield "app: broken and random apps", lambda: fuzzed(120, 1, 40)[0]
 
 

@@ -89,7 +89,8 @@ def rows_of(parts: PngParts, most: int) -> Iterator[bytes]:
 def pixels_of(parts: PngParts, most: int = MAX_PIXELS) -> Optional[List[List[Tuple[int, int, int, int]]]]:
     """The pixels of a PNG file, row by row, up to about `most` of them, where it has 8 bits a channel."""
     width, height, bits, form, *others = struct.unpack(">IIBBBBB", parts.head)
-    if bits != 8 or form not in png.BYTES or others != [0, 0, 0] or not (0 < width <= MAX_SIDE and 0 < height <= MAX_SIDE):
+    is_fit = 0 < width <= MAX_SIDE and 0 < height <= MAX_SIDE
+    if bits != 8 or form not in png.BYTES or others != [0, 0, 0] or not is_fit:
         return None
     rows = rows_of(parts, max(most // width, 1))
     return [colour_parts(row, form, parts.palette, parts.alphas) for row in rows]

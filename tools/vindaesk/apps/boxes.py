@@ -13,8 +13,9 @@ from .drawables import NO_EDGES, Drawable
 from .report import Effect
 
 SIDES = ("Left", "Top", "Right", "Bottom")
-SIBLING_RULES = tuple(name for name, it in known.KNOWN.items() if name.startswith("layout_") and it.form is known.REFERENCE)
-PARENT_RULES = tuple(name for name, it in known.KNOWN.items() if name.startswith("layout_") and it.form is known.BOOLEAN)
+OF_PARENTS = {name: it.form for name, it in known.KNOWN.items() if name.startswith("layout_")}
+SIBLING_RULES = tuple(name for name, form in OF_PARENTS.items() if form is known.REFERENCE)
+PARENT_RULES = tuple(name for name, form in OF_PARENTS.items() if form is known.BOOLEAN)
 TABLE_PARENTS = ("TableLayout", "TableRow")
 LINES = ("LinearLayout", *TABLE_PARENTS)
 # the API level from which on an attribute is read
@@ -101,7 +102,8 @@ def put_rules(draft: Draft) -> None:
     baseline = draft.find("android:layout_alignBaseline")
     if baseline and baseline.given.is_reference and baseline.given.data:
         draft.put("layout_alignTop", documents.Value(documents.REFERENCE, baseline.given.data))
-        draft.record.approximate("android:layout_alignBaseline", "the tops are aligned, not the baselines", Effect.BOUNDS)
+        why = "the tops are aligned, not the baselines"
+        draft.record.approximate("android:layout_alignBaseline", why, Effect.BOUNDS)
     if draft.boolean("layout_alignWithParentIfMissing"):
         siblings = {it.attributes["android:id"].data for it in draft.view.parent.children
                     if "android:id" in it.attributes} if draft.view.parent else set()

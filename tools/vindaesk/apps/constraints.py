@@ -219,7 +219,8 @@ def barrier_of(view: View, draft: Draft) -> Line:
     side = side if side is not None else 0
     axis = 1 if side in (DIRECTIONS["top"], DIRECTIONS["bottom"]) else 0
     at_ends = side in (DIRECTIONS["right"], DIRECTIONS["bottom"], DIRECTIONS["end"])
-    return Line(id_of(view), axis, views=references(draft), is_at_ends=at_ends, margin=draft.length("app:barrierMargin") or 0)
+    margin = draft.length("app:barrierMargin") or 0
+    return Line(id_of(view), axis, views=references(draft), is_at_ends=at_ends, margin=margin)
 
 
 def helper(view: View, draft: Draft, found: Constraints) -> bool:

@@ -23,7 +23,8 @@ EDGES = ("Left", "Top", "Right", "Bottom")
 CONTAINERS = ("inset", "rotate", "scale", "clip", "animated-rotate", "item")
 LAYERS = ("layer-list", "ripple", "transition")
 STATES = {
-    "state_pressed", "state_focused", "state_selected", "state_checked", "state_activated", "state_hovered", "state_enabled",
+    "state_pressed", "state_focused", "state_selected", "state_checked", "state_activated", "state_hovered",
+    "state_enabled",
     "state_checkable", "state_window_focused", "state_accelerated", "state_first", "state_last", "state_single",
     "state_middle", "state_active", "state_multiline",
 }
@@ -100,6 +101,12 @@ def pixels(value: Value, density: int) -> Optional[int]:
     if value.is_int or value.is_boolean:
         return value.number()
     return None
+
+
+def length_of_path(path: Element) -> int:
+    """How long the text of a path is."""
+    found = path.attributes.get("android:pathData")
+    return len(found.text or "") if found is not None else 0
 
 
 class Shown(NamedTuple):
@@ -342,7 +349,8 @@ class Drawables:
         made, picture = Drawable(0), []
         for part in root.children:
             if part.name == "size":
-                made = replace(made, width=self.length(part, "width", theme, -1), height=self.length(part, "height", theme, -1))
+                width, height = self.length(part, "width", theme, -1), self.length(part, "height", theme, -1)
+                made = replace(made, width=width, height=height)
             elif part.name == "padding":
                 left, top, right, bottom = (self.length(part, it.lower(), theme) for it in EDGES)
                 made = replace(made, padding=(left, top, right, bottom))
@@ -388,7 +396,7 @@ class Drawables:
         theme = shown.theme
         paths = [it for it in root.walk() if it.name == "path"]
         filled = [it for it in paths if "android:fillColor" in it.attributes or "android:strokeColor" in it.attributes]
-        largest = max(filled, key=lambda it: len((it.attributes.get("android:pathData") or Value(3, 0, "")).text or ""), default=None)
+        largest = max(filled, key=length_of_path, default=None)
         colour: Optional[int] = None
         if largest is not None:
             key = "android:fillColor" if "android:fillColor" in largest.attributes else "android:strokeColor"

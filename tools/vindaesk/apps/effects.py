@@ -7,15 +7,15 @@ from .report import Effect, Record
 WORDS = {
     Effect.NONE: """
         accessibilityHeading accessibilityLiveRegion accessibilityPaneTitle accessibilityTraversalAfter
-        accessibilityTraversalBefore allowUndo alwaysDrawnWithCache animateFirstView animateLayoutChanges animationCache
-        autoLink autoText autofillHints bufferType capitalize completionThreshold contentDescription cursorVisible
-        defaultFocusHighlightEnabled descendantFocusability digits drawingCacheQuality dropDownHeight
+        accessibilityTraversalBefore allowUndo alwaysDrawnWithCache animateFirstView animateLayoutChanges
+        animationCache autoLink autoText autofillHints bufferType capitalize completionThreshold contentDescription
+        cursorVisible defaultFocusHighlightEnabled descendantFocusability digits drawingCacheQuality dropDownHeight
         dropDownHorizontalOffset dropDownSelector dropDownVerticalOffset dropDownWidth editable editorExtras
         filterTouchesWhenObscured fitsSystemWindows focusable focusableInTouchMode focusedByDefault
         forceHasOverlappingRendering freezesText hapticFeedbackEnabled imeActionId imeActionLabel imeOptions
         importantForAccessibility importantForAutofill inAnimation outAnimation inputMethod isScrollContainer
-        keepScreenOn keyboardNavigationCluster labelFor layoutAnimation layoutMode linksClickable marqueeRepeatLimit name
-        nestedScrollingEnabled nextFocusDown nextFocusForward nextFocusLeft nextFocusRight nextFocusUp numeric
+        keepScreenOn keyboardNavigationCluster labelFor layoutAnimation layoutMode linksClickable marqueeRepeatLimit
+        name nestedScrollingEnabled nextFocusDown nextFocusForward nextFocusLeft nextFocusRight nextFocusUp numeric
         nextClusterForward overScrollMode password persistentDrawingCache phoneNumber popupBackground popupTheme
         privateImeOptions prompt saveEnabled screenReaderFocusable scrollbarAlwaysDrawHorizontalTrack
         scrollbarAlwaysDrawVerticalTrack scrollbarDefaultDelayBeforeFade scrollbarFadeDuration scrollbars
@@ -30,45 +30,44 @@ WORDS = {
         tabStripRight autoSizePresetSizes autofillHighlight allowAutoRevokePermissionsExemption
     """,
     Effect.TEXT: """
-        textSize fontFamily typeface textStyle textScaleX letterSpacing lineSpacingExtra lineSpacingMultiplier lineHeight
-        includeFontPadding fontFeatureSettings fontVariationSettings elegantTextHeight breakStrategy
+        textSize fontFamily typeface textStyle textScaleX letterSpacing lineSpacingExtra lineSpacingMultiplier
+        lineHeight includeFontPadding fontFeatureSettings fontVariationSettings elegantTextHeight breakStrategy
         fallbackLineSpacing justificationMode autoSizeTextType autoSizeMaxTextSize autoSizeMinTextSize
         autoSizeStepGranularity textFontWeight textLocale
     """,
     Effect.PICTURE: """
-        alpha backgroundTint backgroundTintMode cacheColorHint childDivider childIndicator clipChildren
-        clipToOutline cropToPadding divider dividerHeight drawableTint drawableTintMode drawSelectorOnTop
-        duplicateParentState addStatesFromChildren elevation ellipsize fadeScrollbars fadingEdge fadingEdgeLength
-        footerDividersEnabled foreground foregroundGravity foregroundInsidePadding foregroundTint foregroundTintMode
-        forceDarkAllowed groupIndicator headerDividersEnabled indeterminate indeterminateBehavior
-        indeterminateDuration indeterminateOnly indeterminateTint indeterminateTintMode indicatorLeft
-        indicatorRight interpolator isIndicator layerType listSelector max min mirrorForRtl multiArrowColor
-        outlineAmbientShadowColor outlineProvider outlineSpotShadowColor overScrollHeader overScrollFooter progress
-        progressBackgroundTint progressBackgroundTintMode progressTint progressTintMode rating requiresFadingEdge
-        rotation rotationX rotationY scaleX scaleY scaleType scrollbarSize scrollbarThumbHorizontal
-        scrollbarThumbVertical scrollbarTrackHorizontal scrollbarTrackVertical secondaryProgress
-        secondaryProgressTint shadowColor shadowDx shadowDy shadowRadius splitTrack stateListAnimator stepSize
-        switchTextAppearance textAlignment textColorHighlight textColorLink textColorHint textDirection thumbOffset
-        thumbTint thumbTintMode tickMark tickMarkTint tint tintMode trackTint trackTintMode transformPivotX
-        transformPivotY translationX translationY translationZ verticalScrollbarPosition windowBackground
-        dial hand_hour hand_minute checkMarkTint buttonTint buttonTintMode checkMarkTintMode allowSingleTap
-        bottomOffset topOffset gestureColor uncertainGestureColor fadeOffset fadeDuration fadeEnabled
+        alpha backgroundTint backgroundTintMode cacheColorHint childDivider childIndicator clipChildren clipToOutline
+        cropToPadding divider dividerHeight drawableTint drawableTintMode drawSelectorOnTop duplicateParentState
+        addStatesFromChildren elevation ellipsize fadeScrollbars fadingEdge fadingEdgeLength footerDividersEnabled
+        foreground foregroundGravity foregroundInsidePadding foregroundTint foregroundTintMode forceDarkAllowed
+        groupIndicator headerDividersEnabled indeterminate indeterminateBehavior indeterminateDuration
+        indeterminateOnly indeterminateTint indeterminateTintMode indicatorLeft indicatorRight interpolator
+        isIndicator layerType listSelector max min mirrorForRtl multiArrowColor outlineAmbientShadowColor
+        outlineProvider outlineSpotShadowColor overScrollHeader overScrollFooter progress progressBackgroundTint
+        progressBackgroundTintMode progressTint progressTintMode rating requiresFadingEdge rotation rotationX
+        rotationY scaleX scaleY scaleType scrollbarSize scrollbarThumbHorizontal scrollbarThumbVertical
+        scrollbarTrackHorizontal scrollbarTrackVertical secondaryProgress secondaryProgressTint shadowColor shadowDx
+        shadowDy shadowRadius splitTrack stateListAnimator stepSize switchTextAppearance textAlignment
+        textColorHighlight textColorLink textColorHint textDirection thumbOffset thumbTint thumbTintMode tickMark
+        tickMarkTint tint tintMode trackTint trackTintMode transformPivotX transformPivotY translationX translationY
+        translationZ verticalScrollbarPosition windowBackground dial hand_hour hand_minute checkMarkTint buttonTint
+        buttonTintMode checkMarkTintMode allowSingleTap bottomOffset topOffset gestureColor uncertainGestureColor
+        fadeOffset fadeDuration fadeEnabled
     """,
     Effect.TOUCH: "enabled contextClickable textIsSelectable",
 }
 # those of libraries
 LIBRARY_WORDS = {
     Effect.NONE: """
-        layout_behavior layout_scrollFlags layout_scrollInterpolator layout_collapseMode layout_collapseParallaxMultiplier
-        layout_dodgeInsetEdges layout_insetEdge layout_keyline statusBarScrim hideOnScroll liftOnScroll
-        popupTheme navigationContentDescription collapseContentDescription hintAnimationEnabled
-        passwordToggleContentDescription layoutDescription motionDebug tabMode tabContentStart animate_relativeTo
-        defaultNavHost navGraph barrierAllowsGoneWidgets layout_constraintTag showIn
-        behavior_hideable behavior_skipCollapsed enableSwipe singleSelection
-        cardPreventCornerOverlap fontProviderAuthority fontProviderPackage fontProviderQuery
-        queryHint searchHintIcon voiceIcon closeIcon goIcon commitIcon submitBackground queryBackground
-        fastScrollEnabled spanCount stackFromEnd reverseLayout layoutManager
-        layout_editor_absoluteX layout_editor_absoluteY
+        layout_behavior layout_scrollFlags layout_scrollInterpolator layout_collapseMode
+        layout_collapseParallaxMultiplier layout_dodgeInsetEdges layout_insetEdge layout_keyline statusBarScrim
+        hideOnScroll liftOnScroll popupTheme navigationContentDescription collapseContentDescription
+        hintAnimationEnabled passwordToggleContentDescription layoutDescription motionDebug tabMode tabContentStart
+        animate_relativeTo defaultNavHost navGraph barrierAllowsGoneWidgets layout_constraintTag showIn
+        behavior_hideable behavior_skipCollapsed enableSwipe singleSelection cardPreventCornerOverlap
+        fontProviderAuthority fontProviderPackage fontProviderQuery queryHint searchHintIcon voiceIcon closeIcon
+        goIcon commitIcon submitBackground queryBackground fastScrollEnabled spanCount stackFromEnd reverseLayout
+        layoutManager layout_editor_absoluteX layout_editor_absoluteY
     """,
     Effect.TEXT: """
         fontFamily autoSizeTextType autoSizeMaxTextSize autoSizeMinTextSize autoSizeStepGranularity lineHeight
@@ -80,10 +79,10 @@ LIBRARY_WORDS = {
         collapsedTitleTextAppearance expandedTitleTextAppearance expandedTitleMarginStart expandedTitleMarginEnd
         expandedTitleMarginTop expandedTitleMarginBottom expandedTitleMargin expandedTitleGravity
         collapsedTitleGravity tabIndicatorColor tabIndicatorHeight tabSelectedTextColor tabTextColor titleTextColor
-        subtitleTextColor itemIconTint itemTextColor itemBackground strokeColor strokeWidth cornerRadius
-        thumbTint trackTint titleEnabled insetForeground foregroundInsidePadding hintTextAppearance
-        errorTextAppearance counterTextAppearance borderWidth hoveredFocusedTranslationZ
-        pressedTranslationZ labelVisibilityMode menu headerLayout boxBackgroundColor boxStrokeColor
+        subtitleTextColor itemIconTint itemTextColor itemBackground strokeColor strokeWidth cornerRadius thumbTint
+        trackTint titleEnabled insetForeground foregroundInsidePadding hintTextAppearance errorTextAppearance
+        counterTextAppearance borderWidth hoveredFocusedTranslationZ pressedTranslationZ labelVisibilityMode menu
+        headerLayout boxBackgroundColor boxStrokeColor
     """,
 }
 PLATFORM: Dict[str, Effect] = {name: effect for effect, names in WORDS.items() for name in names.split()}

@@ -139,7 +139,8 @@ def tops_of(draft: Draft) -> Dict[int, object]:
         high = child.attributes.get("layout_height")
         if is_text and down in (0, 0x30) and child.attributes.get("visibility") != whole(GONE) and high != whole(MATCH):
             names = ("padding", "paddingTop", "layout_margin", "layout_marginTop", "minHeight")
-            text = [it.attributes.get("layout_gravity") for it in child.children if it.is_added and it.kind == "TextView"]
+            inner = [it for it in child.children if it.is_added and it.kind == "TextView"]
+            text = [it.attributes.get("layout_gravity") for it in inner]
             found[number] = tuple(child.attributes.get(it) for it in names), tuple(text), high != whole(WRAP) and high
     return found
 
@@ -204,7 +205,7 @@ def map_table(draft: Draft, mapper: Mapper, arguments: str) -> None:
         child.attributes["layout_width"] = whole(MATCH)
     stretched = columns_of(draft, "stretchColumns")
     shrunk = columns_of(draft, "shrinkColumns")
-    rows = [it for it in draft.node.children if it.record is not None and it.record.row.rpartition(".")[2] == "TableRow"]
+    rows = [it for it in draft.node.children if it.record is not None and it.record.row == "TableRow"]
     for row in rows:
         for number, cell in enumerate(row.children):
             if number in stretched or -1 in stretched:
@@ -213,7 +214,8 @@ def map_table(draft: Draft, mapper: Mapper, arguments: str) -> None:
         draft.place_differently("", "columns have the width of each row's own cells")
         for row_view in draft.view.children:
             for cell_view in row_view.children:
-                cell_view.record.approximate("", "in a TableLayout: columns have the width of each row's cells", Effect.BOUNDS)
+                why = "in a TableLayout: columns have the width of each row's own cells"
+                cell_view.record.approximate("", why, Effect.BOUNDS)
 
 
 def columns_of(draft: Draft, name: str) -> Set[int]:
@@ -374,7 +376,8 @@ def map_drawer(draft: Draft, mapper: Mapper, arguments: str) -> None:
             node.attributes["visibility"] = whole(INVISIBLE)
             name = "layout_marginRight" if gravity.word & ACROSS == 3 else "layout_marginLeft"
             node.attributes.setdefault(name, length_of(dp(draft, DRAWER_ROOM)))
-            view.record.approximate("", "a drawer that is closed is at its edge, invisible; on a device beyond it", Effect.BOUNDS)
+            why = "a drawer that is closed is at its edge, invisible; on a device beyond it"
+            view.record.approximate("", why, Effect.BOUNDS)
         else:
             node.attributes.update(layout_width=whole(MATCH), layout_height=whole(MATCH))
 

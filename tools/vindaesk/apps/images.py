@@ -20,7 +20,8 @@ GONE = VISIBILITIES["gone"]
 def put_content(draft: Draft, box: Box, width: int, height: int) -> None:
     """Writes the size of a content with the padding around it as the least size, where that is larger."""
     draft.node.kind = "FrameLayout"
-    for name, size, least in (("minWidth", width + box.across, box.width), ("minHeight", height + box.down, box.height)):
+    sides = (("minWidth", width + box.across, box.width), ("minHeight", height + box.down, box.height))
+    for name, size, least in sides:
         if size > least:
             draft.put(name, length_of(min(size, MAX_SIZE)))
 
@@ -101,7 +102,7 @@ def between(draft: Draft, name: str, size: int, least: int, most: int) -> int:
 
 def bar_of(draft: Draft) -> Drawable:
     """The drawable of a bar: that of a progress, or the one that shows that something is done."""
-    is_indeterminate = draft.boolean("indeterminate", Effect.PICTURE) or draft.boolean("indeterminateOnly", Effect.PICTURE)
+    is_indeterminate = any(draft.boolean(it, Effect.PICTURE) for it in ("indeterminate", "indeterminateOnly"))
     name = "indeterminateDrawable" if is_indeterminate else "progressDrawable"
     for it in ("indeterminateDrawable", "progressDrawable"):
         draft.use("android:" + it)
@@ -191,7 +192,8 @@ def map_stub(draft: Draft, mapper: Mapper, arguments: str) -> None:
     boxes.put_box(draft)
     draft.node.kind = "View"
     draft.put("visibility", whole(GONE))
-    draft.record.no_effect("android:layout", "the layout is not there until code asks for it; --inflate-stubs puts it in place")
+    why = "the layout is not there until code asks for it; --inflate-stubs puts it in place"
+    draft.record.no_effect("android:layout", why)
     draft.record.no_effect("android:inflatedId", "it is the id of that layout")
 
 

@@ -13,7 +13,8 @@ ENDS = (
     ("LinearLayout", "LinearLayout"), ("RelativeLayout", "RelativeLayout"), ("FrameLayout", "FrameLayout"),
     ("ScrollView", "ScrollView"), ("Layout", "FrameLayout"), ("TextView", "TextView"), ("EditText", "EditText"),
     ("ImageButton", "ImageButton"), ("Button", "Button"), ("Text", "TextView"), ("ImageView", "ImageView"),
-    ("ListView", "ListView"), ("RecyclerView", "RecyclerView"), ("ViewPager", "ViewPager"), ("ProgressBar", "ProgressBar"),
+    ("ListView", "ListView"), ("RecyclerView", "RecyclerView"), ("ViewPager", "ViewPager"),
+    ("ProgressBar", "ProgressBar"),
 )
 # methods by which a class measures or places in a way of its own
 OWN_RULES = ("onMeasure", "onLayout", "measureChild", "measureChildWithMargins", "setMeasuredDimension")
@@ -57,7 +58,8 @@ class Mapper:
         fit = next((it for end, it in ENDS if plain.endswith(end)), "FrameLayout" if view.children else "View")
         row = self.table.row(fit)
         assert row is not None
-        return Match(row, "the class is not known: as a %s, by %s" % (fit, "its name" if plain.endswith(fit) else "its children"))
+        by = "its name" if plain.endswith(fit) else "its children"
+        return Match(row, "the class is not known: as a %s, by %s" % (fit, by))
 
     def map(self, view: View, parent: str) -> Node:
         """The element of a view, with what is in it."""

@@ -131,7 +131,8 @@ def lines_of(records: List[Record]) -> List[str]:
     for record in records:
         for note in record.notes:
             what = "%s %s" % (record.element, note.attribute) if note.attribute else record.element
-            found.append("%s: %s: %s (%s): %s" % (place_of(record), what, note.fate.value, note.effect.value, note.reason))
+            how = "%s (%s)" % (note.fate.value, note.effect.value)
+            found.append("%s: %s: %s: %s" % (place_of(record), what, how, note.reason))
     return found
 
 

@@ -135,7 +135,8 @@ class SourceTree(Names):
                 for file in sorted(os.listdir(place)) if configuration is not None else ():
                     count += 1
                     if count > MAX_FILES:
-                        raise Failure("%s has more than %d files of resources" % (printable(self.path), MAX_FILES), NOT_RUN)
+                        why = "%s has more than %d files of resources" % (printable(self.path), MAX_FILES)
+                        raise Failure(why, NOT_RUN)
                     stem = file.split(".")[0]
                     path = os.path.relpath(os.path.join(place, file), self.top)
                     if PLAIN_NAME.fullmatch(stem) and os.path.isfile(os.path.join(place, file)) and configuration:
@@ -178,7 +179,8 @@ class SourceTree(Names):
         if (kind, name) not in self.ids:
             count = self.counts.get(kind, 0)
             if count >= MAX_NAMES:
-                raise Failure("%s has more than %d resources of the type %s" % (printable(self.path), count, kind), NOT_RUN)
+                why = "%s has more than %d resources of the type %s" % (printable(self.path), count, kind)
+                raise Failure(why, NOT_RUN)
             self.counts[kind] = count + 1
             self.ids[kind, name] = APP << 24 | (TYPES.index(kind) + 1) << 16 | count
         return self.ids[kind, name]

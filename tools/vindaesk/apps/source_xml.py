@@ -17,8 +17,9 @@ DEFAULT = re.compile(r",\s*default\s*=\s*(.*?)\s*\}$", re.DOTALL)
 PLAIN_TEXTS = {
     "android:text", "android:hint", "android:contentDescription", "android:tag", "android:title", "android:textOn",
     "android:textOff", "android:name", "android:fontFamily", "android:digits", "android:pathData", "android:onClick",
-    "app:title", "app:subtitle", "app:layout_constraintDimensionRatio", "app:constraint_referenced_ids", "class", "package",
-    "android:stretchColumns", "android:shrinkColumns", "android:collapseColumns", "app:layout_behavior", "android:label",
+    "app:title", "app:subtitle", "app:layout_constraintDimensionRatio", "app:constraint_referenced_ids", "class",
+    "package", "android:stretchColumns", "android:shrinkColumns", "android:collapseColumns", "app:layout_behavior",
+    "android:label",
 }
 MAX_TEXT = 1 << 16
 # how long a value by data binding is, and a colour, a number or a length

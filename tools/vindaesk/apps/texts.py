@@ -278,7 +278,8 @@ def with_side(beside: Beside, side: int, drawable: Drawable) -> Beside:
         return beside
     found = list(beside.drawables)
     if found[side] is not GONE:
-        drawable = Drawable(drawable.colour, drawable.width + beside.taken(side), max(drawable.height, found[side].height))
+        height = max(drawable.height, found[side].height)
+        drawable = Drawable(drawable.colour, drawable.width + beside.taken(side), height)
     found[side] = drawable
     return Beside((found[0], found[1], found[2], found[3]), beside.room)
 
@@ -300,7 +301,8 @@ def with_button(beside: Beside, button: Drawable) -> Beside:
     """A button at the left of a text has no room between."""
     if button.width < 0:
         return beside
-    without_room = Drawable(button.colour, button.width - (beside.room if beside.drawables[0] is GONE else 0), button.height)
+    room = beside.room if beside.drawables[0] is GONE else 0
+    without_room = Drawable(button.colour, button.width - room, button.height)
     return with_side(beside, 0, without_room if without_room.width >= 0 else button)
 
 

@@ -35,18 +35,24 @@ def reader() -> argparse.ArgumentParser:
     found = arguments.parser(__doc__)
     found.add_argument("app", metavar="APP", help="an APK, or a folder")
     found.add_argument("names", metavar="LAYOUT", nargs="*", help="names of layouts; or further APKs of a split app")
-    found.add_argument("--config", metavar="QUALIFIERS", default="", help="the device, as de-rDE-land-night-xhdpi-v30 over a "
-                       "phone of 360 by 640 dp, 480 dpi, en-US, API level 23")
-    found.add_argument("--framework", metavar="APK", help="Android's own resources, as framework-res.apk or android.jar")
+    found.add_argument("--config", metavar="QUALIFIERS", default="",
+                       help="the device, as de-rDE-land-night-xhdpi-v30 over a phone of 360 by 640 dp, 480 dpi, en-US, "
+                       "API level 23")
+    found.add_argument("--framework", metavar="APK",
+                       help="Android's own resources, as framework-res.apk or android.jar")
     found.add_argument("--theme", metavar="NAME", default="", help="the theme; without it that of the manifest")
-    found.add_argument("--state", metavar="STATE,..", type=states, default=[], help="drawables and colours are in these states")
-    found.add_argument("--map", metavar="FILE", action="append", default=[], help="further rows of the table of classes")
+    found.add_argument("--state", metavar="STATE,..", type=states, default=[],
+                       help="drawables and colours are in these states, as pressed,checked")
+    found.add_argument("--map", metavar="FILE", action="append", default=[],
+                       help="further rows of the table of classes")
     found.add_argument("--design", action="store_true", help="takes attributes of the namespace tools too")
     found.add_argument("--items", metavar="N", type=arguments.count(0, MOST_ITEMS), default=3,
                        help="items of a list with --design, 0 to %d; 3" % MOST_ITEMS)
     found.add_argument("--inflate-stubs", action="store_true", help="puts the layouts of ViewStubs in place")
-    found.add_argument("--no-window", action="store_true", help="leaves out the content of the window around the layout")
-    found.add_argument("--pixels", action="store_true", help="lays out in the pixels of the device; without it in dp")
+    found.add_argument("--no-window", action="store_true",
+                       help="leaves out the content of the window around the layout")
+    found.add_argument("--pixels", action="store_true",
+                       help="lays out in the pixels of the device; without it in dp")
     found.add_argument("--list", action="store_true", help="prints the names of the layouts alone")
     found.add_argument("--report", action="store_true", help="prints what is not exact, a line each")
     found.add_argument("--json", action="store_true", help="prints the report as JSON")
@@ -54,7 +60,8 @@ def reader() -> argparse.ArgumentParser:
     found.add_argument("--out", metavar="DIR", help="writes scripts, compiled layouts, ids and the report there")
     found.add_argument("--picture", metavar="OUT.png", help="writes the picture of one layout")
     found.add_argument("--page", metavar="OUT.html", help="writes a page of one layout")
-    found.add_argument("--tree", action="store_true", help="prints the views of layouts; ~ is before one that is not exact")
+    found.add_argument("--tree", action="store_true",
+                       help="prints the views of layouts; ~ is before one that is not exact")
     found.add_argument("--lint", action="store_true", help="prints what is wrong with layouts")
     return found
 
@@ -85,7 +92,8 @@ def made(opened: OpenApp, names: List[str], request: Request) -> List[Screen]:
         raise Failure("%s has no layout" % messages.printable(opened.paths[0]), failures.NOT_RUN)
     wanted = names or known
     if len(wanted) > MOST_LAYOUTS:
-        raise Failure("the app has %d layouts; %d is the most: name some of them" % (len(wanted), MOST_LAYOUTS), failures.NOT_RUN)
+        why = "the app has %d layouts; %d is the most: name some of them" % (len(wanted), MOST_LAYOUTS)
+        raise Failure(why, failures.NOT_RUN)
     for name in wanted:
         if name not in known:
             raise Failure(results.unknown(name, known), failures.NOT_RUN)
