@@ -1,5 +1,6 @@
-"""Tries `tools/app`: that each attribute of each element of the source is in the report, over the apps of examples/ and over
-those in the folders that the variable VINDAESK_APPS names, joined by `:`; and what it writes, and says of wrong input."""
+"""Tries `tools/app`: that each attribute of each element of the source is in the report, over the apps of examples/
+and over those in the folders that the variable VINDAESK_APPS names, joined by `:`; and what it writes, and says of
+wrong input."""
 import glob
 import json
 import os
@@ -37,8 +38,8 @@ def elements_of(app: archives.Archive, path: str) -> Iterator[Element]:
 
 
 def rows_of(layout: Any, path: str) -> Iterator[Row]:
-    """The same of the rows of a report that are of a file, with all attributes of which something is said, and those that are
-    said to be used or without effect."""
+    """The same of the rows of a report that are of a file, with all attributes of which something is said, and those
+    that are said to be used or without effect."""
     for row in layout["elements"]:
         if row["file"] == path:
             noted = {it["attribute"] for it in row["notes"]}
@@ -47,7 +48,8 @@ def rows_of(layout: Any, path: str) -> Iterator[Row]:
 
 
 def has_each_attribute(path: str) -> str:
-    """Each element of each layout file, with each of its attributes, is in the report, as often as its file is included."""
+    """Each element of each layout file, with each of its attributes, is in the report, as often as its file is
+    included."""
     with place() as it, archives.opened(path) as app:
         whole, found = report(it, path)
         if whole is None:
@@ -123,11 +125,11 @@ def writes_a_folder() -> str:
 
 def marks_what_is_not_exact() -> str:
     with place() as it:
-        found = it.call("app", TRIPS, "nothing", "--tree", "--config", "mdpi")
+        found = it.call("app", TRIPS, "cards", "--tree", "--config", "mdpi")
         lines = found[1].decode().split("\n")
         marked = [line for line in lines if line.startswith("~ ")]
         why = unlike(found, 0, None, "")
-        return why or ("" if len(marked) == 1 and "vindaesk.trips.Wheel" in marked[0] else "marked: %s" % marked)
+        return why or ("" if len(marked) == 2 and "HorizontalScrollView" in marked[0] else "marked: %s" % marked)
 
 
 def lint_names_the_source() -> str:
@@ -155,8 +157,9 @@ def is_strict() -> str:
 
 def takes_rows() -> str:
     with place() as it:
-        it.put("map.txt", "vindaesk.trips.Wheel | FrameLayout | box 200 200 | - | exact\n")
-        why = unlike(it.call("app", TRIPS, "nothing", "--strict", "--map", "map.txt"), 0, None, "")
+        it.put("map.txt", "HorizontalScrollView | FrameLayout | direct | - | exact\n")
+        why = unlike(it.call("app", TRIPS, "cards", "--strict"), 1, None, "")
+        why = why or unlike(it.call("app", TRIPS, "cards", "--strict", "--map", "map.txt"), 0, None, "")
         rows = {
             "a | b": "map.txt:1: a row has 5 cells",
             "A | Button | direct | - | exact": "map.txt:1: 'Button' is none of View, TextView",

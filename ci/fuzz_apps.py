@@ -2,10 +2,10 @@
 
     python3 ci/fuzz_apps.py N [SEED]
 
-Half of the N runs change bytes of the files of examples/trips/trips.apk; the other half make sources of random elements with
-random attributes and values. The layouts that come out are compiled, and one in 250 is carried out by the program, which has
-to take it. The measuring of ConstraintLayouts is replaced by random bounds, but in those runs.
-"""
+Half of the N runs change bytes of the files of examples/trips/trips.apk; the other half make sources of random
+elements with random attributes and values. The layouts that come out are compiled, and one in 250 is carried out by
+the program, which has to take it. The measuring of ConstraintLayouts is replaced by random bounds, but in those
+runs."""
 import contextlib
 import os
 import random

@@ -122,5 +122,5 @@ def opened(paths: Sequence[str]) -> Iterator[AppFiles]:
             if os.path.isdir(path):
                 sources[path] = Folder(path)
             else:
-                sources[path] = stack.enter_context(archives.opened(path))
+                sources[path] = stack.enter_context(archives.opened(path, is_written=False))
         yield AppFiles(sources)

@@ -20,7 +20,10 @@ from ..common import failures, files, messages, progress
 from ..common.failures import Failure
 from ..resources.devices import device
 from . import app_views, arguments
+from .uses import Purpose, Use
 
+USE = Use(Purpose.READ, "vindaesk app trips/trips.apk home --tree",
+          "the layouts of an app as the program takes them, with a report of what is exact")
 MOST_ITEMS = 100
 MOST_LAYOUTS = 4096
 

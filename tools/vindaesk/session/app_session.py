@@ -61,9 +61,9 @@ def app(
     density: int = 0, config: str = "", theme: str = "", framework: Optional[str] = None, pixels: bool = False,
     states: FrozenSet[str] = frozenset(), options: Options = Options(), maps: Tuple[str, ...] = ()
 ) -> Iterator[AppSession]:
-    """A session over a layout of an app, for as long as it is used: an APK, several split ones, or a folder. `config` has
-    further qualifiers of the device, as `v30`, which come after the others in the order of Android's folders. What is wrong
-    with the app or the layout is a Failure."""
+    """A session over a layout of an app, for as long as it is used: an APK, several split ones, or a folder.
+    `config` has further qualifiers of the device, as `v30`, which come after the others in the order of Android's
+    folders. What is wrong with the app or the layout is a Failure."""
     wanted = device(qualifiers_of(locale, night, land, density, config))
     request = Request(wanted, theme, states, options, maps, in_pixels=pixels)
     with apps.opened([path] if isinstance(path, str) else list(path), framework) as opened:
