@@ -2,6 +2,7 @@
 margins and sizes in pixels say where they are. A group that is in another one is placed after it."""
 from typing import Dict, List, Optional, Tuple
 
+from ..common.failures import NOT_BUILT, Failure
 from . import constraint_axis
 from .constraint_axis import Axis, Place, rounded
 from .constraints import SIZES, Child, Constraints, natural
@@ -77,7 +78,13 @@ def solve(root: Node, measurer: Measurer) -> bool:
     nodes = nodes_in(root)
     is_changed = bool(tasks)
     while is_changed:
-        bounds = dict(zip(map(id, nodes), measurer.bounds(root)))
+        try:
+            bounds = dict(zip(map(id, nodes), measurer.bounds(root)))
+        except Failure as failure:
+            if failure.status != NOT_BUILT:
+                raise
+            leave(tasks, "constraints are not solved: there is no program")
+            return True
         is_changed = False
         for task in tasks:
             if task.is_ready():
@@ -85,6 +92,14 @@ def solve(root: Node, measurer: Measurer) -> bool:
     for task in tasks:
         say_window(task, measurer)
     return bool(tasks)
+
+
+def leave(tasks: List[Task], why: str) -> None:
+    """Says of groups, and of what is in them, that nothing is placed."""
+    for task in tasks:
+        for node in (task.group.node, *task.group.node.children):
+            if node.record is not None:
+                node.record.leave_out("", why, Effect.BOUNDS)
 
 
 def say_window(task: Task, measurer: Measurer) -> None:
