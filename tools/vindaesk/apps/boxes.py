@@ -53,8 +53,8 @@ def put_sizes(draft: Draft) -> None:
             draft.record.approximate("", "it has no %s: wrap_content here; Android refuses it" % name, Effect.BOUNDS)
 
 
-def is_new(draft: Draft, name: str) -> bool:
-    """Whether the device is too old for an attribute."""
+def is_too_new(draft: Draft, name: str) -> bool:
+    """Whether an attribute is newer than the device."""
     level = NEW[name]
     if draft.app.resources.device.sdk >= level:
         return False
@@ -69,7 +69,7 @@ def put_margins(draft: Draft) -> None:
                  "layout_marginStart", "layout_marginEnd"):
         draft.put_direct(name)
     for name, sides in (("layout_marginHorizontal", ("Left", "Right")), ("layout_marginVertical", ("Top", "Bottom"))):
-        if not is_new(draft, name) and "layout_margin" not in draft.node.attributes:
+        if not is_too_new(draft, name) and "layout_margin" not in draft.node.attributes:
             found = draft.length(name)
             if found is not None and abs(found) <= MAX_MARGIN:
                 for side in sides:
@@ -137,7 +137,7 @@ def padding_of(draft: Draft, background: Drawable) -> Edges:
     for number, side in enumerate(SIDES):
         found = draft.length("padding" + side)
         group = "paddingHorizontal" if side in ("Left", "Right") else "paddingVertical"
-        if not is_new(draft, group):
+        if not is_too_new(draft, group):
             grouped = draft.length(group)
             found = grouped if grouped is not None else found
         if found is not None and found >= 0:

@@ -106,7 +106,7 @@ def say_window(task: Task, measurer: Measurer) -> None:
     """Notes that the places are those of one window."""
     record = task.group.node.record
     if record is not None:
-        record.reasons[""] = "solved for a window of %d by %d pixels" % measurer.window
+        record.solved_for = measurer.window
 
 
 def size_of(bounds: Bounds) -> Size:

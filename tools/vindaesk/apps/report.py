@@ -2,7 +2,7 @@
 became of each of its attributes."""
 from dataclasses import dataclass, field
 from enum import Enum
-from typing import Dict, List, NamedTuple, Tuple
+from typing import Dict, List, NamedTuple, Optional, Tuple
 
 
 class Effect(Enum):
@@ -39,7 +39,8 @@ class Note(NamedTuple):
 class Record:
     """The row of an element: its name, its file, and its line and column there, 0 where the file has none; the keys
     of its attributes; the class that it became, its view's number and those of views that were added for it; the row
-    of the table by which it was mapped."""
+    of the table by which it was mapped; of a ConstraintLayout the window for which it is
+    solved, in pixels."""
 
     element: str
     file: str
@@ -51,6 +52,7 @@ class Record:
     number: int = 0
     added: List[int] = field(default_factory=list)
     why_no_view: str = ""
+    solved_for: Optional[Tuple[int, int]] = None
     fates: Dict[str, Fate] = field(default_factory=dict)
     reasons: Dict[str, str] = field(default_factory=dict)
     notes: List[Note] = field(default_factory=list)
@@ -141,7 +143,7 @@ def json_of(record: Record) -> Dict[str, object]:
     made: Dict[str, object] = {
         "element": record.element, "file": record.file, "line": record.line, "column": record.column or None,
         "class": record.kind or None, "row": record.row or None, "view": record.number or None, "added": record.added,
-        "exact": record.is_exact, "no_view": record.why_no_view or None,
+        "exact": record.is_exact, "solved_for": record.solved_for, "no_view": record.why_no_view or None,
     }
     for name, fate in (("used", Fate.USED), ("no_effect", Fate.NO_EFFECT)):
         made[name] = [key for key in record.keys if record.fates.get(key) is fate]
