@@ -8,8 +8,9 @@ from typing import List
 
 from running import TOP
 from vindaesk.common.failures import Failure
-from vindaesk.layouts import compiler, documents, resource_names, source_reader
+from vindaesk.layouts import compiler, documents, source_reader
 from vindaesk.layouts.documents import End, Namespace, Start, Text
+from vindaesk.scripts import resource_names
 
 INBOX = os.path.join(TOP, "examples", "inbox")
 NONE = 0xFFFFFFFF

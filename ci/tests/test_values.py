@@ -2,7 +2,8 @@
 `aapt dump --values resources` printed. What aapt2 refuses is refused."""
 from typing import Dict, List, Tuple
 
-from vindaesk.layouts import attributes, dimensions, resource_names, values
+from vindaesk.layouts import attributes, dimensions, values
+from vindaesk.scripts import resource_names
 
 NAMES = resource_names.Names()
 DIMENSIONS = {
