@@ -31,7 +31,7 @@ def add_script(found: argparse.ArgumentParser) -> None:
     """The arguments of a tool that takes a script."""
     found.add_argument("script", metavar="SCRIPT", help="the script, or - for standard input")
     found.add_argument("--ids", metavar="FILE", help="the list of ids by names; ids.txt beside the script without it")
-    found.add_argument("--config", metavar="NAME,..", type=names, default=[],
+    found.add_argument("--config", metavar="CONFIGURATION,..", type=names, default=[],
                        help="in this configuration of NAME.toml or vindaesk.toml beside the script")
     found.add_argument("--expanded", action="store_true",
                        help="prints the script that the program is given, with ids and included lines, and ends")

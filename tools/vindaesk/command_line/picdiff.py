@@ -34,7 +34,7 @@ def reader() -> argparse.ArgumentParser:
         "--tolerance", metavar="N", type=arguments.count(0, 255), default=0, help="channels may differ by N, 0 to 255"
     )
     found.add_argument("--script", metavar="SCRIPT", help="the script of B.png: names the view of each region")
-    found.add_argument("--config", metavar="NAME", type=arguments.names, default=[], help="the configuration of B.png")
+    found.add_argument("--config", metavar="CONFIGURATION,..", type=arguments.names, default=[], help="the configuration of B.png")
     found.add_argument("--ids", metavar="FILE", help="the list of ids of the script")
     return found
 

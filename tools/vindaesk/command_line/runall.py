@@ -48,7 +48,7 @@ def reader() -> argparse.ArgumentParser:
                        help="only cases whose name has this word; several -k: one of the words")
     found.add_argument("--failed", action="store_true", help="only cases that failed when they were run last")
     found.add_argument("--list", action="store_true", help="prints the names of the cases, and runs none")
-    found.add_argument("--accept", metavar="NAME", nargs="*",
+    found.add_argument("--accept", metavar="CASE", nargs="*",
                        help="writes today's answers, statuses and pictures; of all cases that fail, or of these")
     found.add_argument("--accept-new", action="store_true", help="writes them for cases that have none yet")
     found.add_argument("--report", metavar="DIR", help="writes a page of what failed, with pictures")
