@@ -21,7 +21,7 @@ class Kind(enum.Enum):
 KINDS = {
     **dict.fromkeys(("SCRIPT", "FILE", "NAME", "APP", "APK", "FILE,.."), Kind.FILE),
     **dict.fromkeys(("DIR", "PREFIX"), Kind.FOLDER),
-    **dict.fromkeys(("N", "N,..", "S", "I/N", "WxH", "TEXT", "RULE,..", "ID", "SIDE", "V", "WORD", "LAYOUT"), Kind.TEXT),
+    **dict.fromkeys(("N", "N,..", "S", "I/N", "WxH", "TEXT", "RULE,..", "ID", "SIDE", "V", "WORD", "LAYOUT", "NAME,.."), Kind.TEXT),
     **dict.fromkeys(("QUALIFIERS", "STATE,..", "CASE", "CONFIGURATION,..", "WxH,..", "D,..", "L,.."), Kind.TEXT),
 }
 FILE_NAME = re.compile(r"[A-Za-z]+\.[a-z]+")
