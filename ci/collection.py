@@ -9,7 +9,8 @@ from running import TOP, Check, Checks
 # each has a function `checks`
 MODULES = (
     "examples", "pictures", "pages", "names", "broken", "limits", "tables", "launcher", "commands", "gate", "itself",
-    "tools", "golden", "hostile", "plugin", "grammar", "apps", "resources", "fuzz_resources", "driving", "lints", "browser",
+    "tools", "golden", "hostile", "plugin", "grammar", "apps", "apps_report", "fuzz_apps", "resources", "fuzz_resources",
+    "driving", "lints", "browser",
     "installed", "packages", "shells", "release_checks", "package", "house", "words", "spelling", "stored",
 )
 # those that are run only where they are asked for

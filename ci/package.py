@@ -21,7 +21,7 @@ UNTYPED = {"android_assets", "android_choices", "framework", "fuzz_resources", "
 # from the lowest; those of one row do not use each other
 LAYERS = (
     ("common",), ("provenance",), ("program",), ("scripts",), ("layouts", "resources"), ("pictures",), ("views",),
-    ("apps", "building", "installing", "lint", "pages", "session", "testing"), ("command_line",),
+    ("apps",), ("building", "installing", "lint", "pages", "session", "testing"), ("command_line",),
 )
 
 

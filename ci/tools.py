@@ -24,7 +24,7 @@ from vindaesk.pictures import png
 Ended = Tuple[int, bytes, str]
 
 EXAMPLES = os.path.join(TOP, "examples")
-TOOLS = ("screenshot", "picdiff", "tree", "runall", "check", "axml", "unpack", "lint", "page", "install")
+TOOLS = ("screenshot", "picdiff", "tree", "runall", "check", "axml", "unpack", "lint", "page", "install", "app")
 RED = "window 2 2\nadd root View match match\nbg v1 #ffff0000\nframe\n"
 UNSETTLED = """window 100 20
 add root LinearLayout match match
@@ -361,7 +361,7 @@ def follows_views() -> str:
 
 
 # how a schema names the types
-TYPES = {"object": dict, "array": list, "string": str, "integer": int, "null": type(None)}
+TYPES = {"object": dict, "array": list, "string": str, "integer": int, "boolean": bool, "null": type(None)}
 
 
 def unfit(value: Any, schema: Any) -> str:

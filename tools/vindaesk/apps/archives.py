@@ -40,12 +40,18 @@ def check_size(path: str) -> None:
         raise failure(path, "it has more files than an app has")
 
 
-def check_names(path: str, infos: List[zipfile.ZipInfo]) -> None:
-    """An archive with a name that leads out of it, or that two files have, is a failure."""
+def leads_out(name: str) -> bool:
+    """Whether a name leads out of the folder in which it would be written."""
+    return name.startswith("/") or "\\" in name or "\0" in name or ".." in name.split("/")
+
+
+def check_names(path: str, infos: List[zipfile.ZipInfo], is_written: bool) -> None:
+    """An archive with a name that two files have is a failure, and, where its files are to be written, one with a
+    name that leads out of it."""
     seen = set()
     for info in infos:
         name = info.orig_filename
-        if name.startswith("/") or "\\" in name or "\0" in name or ".." in name.split("/"):
+        if is_written and leads_out(name):
             raise failure(path, "'%s' is a name that leads out of it" % name[:160])
         if name in seen:
             raise failure(path, "two of its files are named '%s'" % name[:160])
@@ -58,11 +64,15 @@ class Archive:
     def __init__(self, path: str, file: zipfile.ZipFile):
         self.path = path
         self.file = file
-        self.infos = {info.filename: info for info in file.infolist()}
+        self.infos = {it.filename: it for it in file.infolist() if not leads_out(it.orig_filename)}
 
     def names(self) -> List[str]:
         """The names of its files, in order."""
         return sorted(self.infos)
+
+    def has(self, name: str) -> bool:
+        """Whether there is a file of this name."""
+        return name in self.infos
 
     def read(self, name: str, limit: int) -> bytes:
         """The bytes of a file, which has at most this many."""
@@ -80,8 +90,9 @@ class Archive:
 
 
 @contextlib.contextmanager
-def opened(path: str) -> Iterator[Archive]:
-    """An archive, for as long as it is read."""
+def opened(path: str, is_written: bool = True) -> Iterator[Archive]:
+    """An archive, for as long as it is read. Where no file of it is to be written, those with names that lead out of
+    it are passed over."""
     try:
         check_size(path)
         file = zipfile.ZipFile(path)
@@ -90,5 +101,5 @@ def opened(path: str) -> Iterator[Archive]:
     except OSError as error:
         raise Failure("%s cannot be read: %s" % (path, error.strerror or error), NOT_RUN)
     with file:
-        check_names(path, file.infolist())
+        check_names(path, file.infolist(), is_written)
         yield Archive(path, file)

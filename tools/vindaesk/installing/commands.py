@@ -19,10 +19,10 @@ class Kind(enum.Enum):
 
 # the kinds of the values that help texts name; NAME.ending is a file too
 KINDS = {
-    **dict.fromkeys(("SCRIPT", "FILE", "NAME", "FILE,.."), Kind.FILE),
+    **dict.fromkeys(("SCRIPT", "FILE", "NAME", "APP", "APK", "FILE,.."), Kind.FILE),
     **dict.fromkeys(("DIR", "PREFIX"), Kind.FOLDER),
-    **dict.fromkeys(("N", "N,..", "S", "I/N", "WxH", "TEXT", "RULE,..", "ID", "SIDE", "V", "WORD"), Kind.TEXT),
-    **dict.fromkeys(("CASE", "CONFIGURATION,..", "WxH,..", "D,..", "L,.."), Kind.TEXT),
+    **dict.fromkeys(("N", "N,..", "S", "I/N", "WxH", "TEXT", "RULE,..", "ID", "SIDE", "V", "WORD", "LAYOUT"), Kind.TEXT),
+    **dict.fromkeys(("QUALIFIERS", "STATE,..", "CASE", "CONFIGURATION,..", "WxH,..", "D,..", "L,.."), Kind.TEXT),
 }
 FILE_NAME = re.compile(r"[A-Za-z]+\.[a-z]+")
 

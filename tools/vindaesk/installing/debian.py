@@ -53,6 +53,10 @@ CHANGELOG = """vindaesk (%(version)s) unstable; urgency=medium
 
  -- %(maintainer)s  %(date)s
 """
+# a program that was stripped would be another one than that of dist/, which the proof built
+OVERRIDES = """# byte for byte the program that its proof built, as PROVENANCE beside it says
+vindaesk: unstripped-binary-or-object *
+"""
 # what dh_python3 would write for private modules: they are compiled when the package is set up, or when Python is newer
 AFTER_UNPACKING = """#!/bin/sh
 set -e
@@ -103,6 +107,7 @@ def all_files(package: Contents, commands: List[Command], date: int) -> Contents
             path, it = path + ".gz", File(packed(it.body))
         found["usr/" + path.replace("zsh/site-functions", "zsh/vendor-completions")] = it
     found.update(documents(date))
+    found["usr/share/lintian/overrides/vindaesk"] = File(OVERRIDES.encode())
     found["usr/share/python3/runtime.d/vindaesk.rtupdate"] = File(NEWER_PYTHON.encode(), is_command=True)
     return found
 

@@ -1,0 +1,48 @@
+"""The rules of the table of classes by their names."""
+from typing import Dict
+
+from . import constraints, groups, images, texts
+from .mapper import Rule
+
+RULES: Dict[str, Rule] = {
+    "direct": groups.map_direct,
+    "linear": groups.map_linear,
+    "relative": groups.map_relative,
+    "scroll": groups.map_scroll,
+    "across": groups.map_across,
+    "first": groups.map_first,
+    "table": groups.map_table,
+    "table-row": groups.map_row,
+    "grid": groups.map_grid,
+    "absolute": groups.map_absolute,
+    "fragment": groups.map_fragment,
+    "toolbar": groups.map_toolbar,
+    "coordinator": groups.map_coordinator,
+    "drawer": groups.map_drawer,
+    "swipe": groups.map_swipe,
+    "card": groups.map_card,
+    "tabs": groups.map_tabs,
+    "navigation": groups.map_navigation,
+    "list": groups.map_list,
+    "recycler": groups.map_recycler,
+    "pager": groups.map_pager,
+    "constraint": constraints.map_constraint,
+    "text": texts.map_text,
+    "compound": texts.map_compound,
+    "checked": texts.map_checked,
+    "toggle": texts.map_toggle,
+    "switch": texts.map_switch,
+    "image": images.map_image,
+    "floating": images.map_floating,
+    "progress": images.map_progress,
+    "seek": images.map_seek,
+    "rating": images.map_rating,
+    "space": images.map_space,
+    "box": images.map_box,
+    "clock": images.map_clock,
+    "spinner": images.map_spinner,
+    "fill": images.map_fill,
+    "stub": images.map_stub,
+    "gone": images.map_gone,
+    "helper": constraints.map_helper,
+}

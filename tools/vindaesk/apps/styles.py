@@ -1,0 +1,142 @@
+"""Which value an attribute of a view has: its own, else that of its style, else that of the style which its class
+has by the theme, else that of the theme itself, as Android's `obtainStyledAttributes` takes them."""
+from enum import Enum
+from typing import Dict, List, Mapping, NamedTuple, Optional, Tuple
+
+from ..common.failures import Failure
+from ..resources.resources import Resources
+from ..resources.themes import Item, Theme
+from .platform_names import NAME_OF, NUMBER_OF
+from ..resources.values import Value
+
+NULL = Value(0, 0)
+
+
+class Origin(Enum):
+    """Where a value is from."""
+
+    OWN = "its own"
+    STYLE = "its style"
+    CLASS = "the style of its class"
+    THEME = "the theme"
+
+
+class Found(NamedTuple):
+    """A value of an attribute: through all references, and as it is given; and where it is from. One that cannot be
+    resolved is a reference still."""
+
+    value: Value
+    given: Value
+    origin: Origin
+
+    @property
+    def is_resolved(self) -> bool:
+        """Whether there is a value, which may be null."""
+        return self.value.is_null or not (self.value.is_reference or self.value.is_attribute)
+
+
+class Lookup:
+    """Finds the numbers of attributes, and styles, in the resources of an app; each is looked for once."""
+
+    def __init__(self, resources: Resources):
+        self.resources = resources
+        self.numbers: Dict[str, Optional[int]] = dict(NUMBER_OF)
+        self.known: Dict[str, Optional[int]] = {}
+        self.names: Dict[int, str] = {}
+        self.themes: Dict[Tuple[int, ...], Theme] = {}
+
+    def number(self, key: str) -> Optional[int]:
+        """The number of an attribute by its key, where it has one."""
+        if key.startswith("android:"):
+            return self.numbers.get(key[8:])
+        if key not in self.known:
+            plain = key[4:] if key.startswith("app:") else ""
+            self.known[key] = self.resources.find("attr/" + plain) if plain else None
+        return self.known[key]
+
+    def key(self, number: int) -> str:
+        """The key of an attribute by its number."""
+        if number in NAME_OF:
+            return "android:" + NAME_OF[number]
+        if number not in self.names:
+            name = self.resources.name(number)
+            self.names[number] = "app:" + name.entry if name and name.type == "attr" else ""
+        return self.names[number]
+
+    def style(self, value: Value, theme: Theme) -> Optional[Mapping[int, Item]]:
+        """The items of the style that a value names, with those of its parents; nothing where there is none."""
+        number = self.style_number(value, theme)
+        if number is None or self.resources.bag(number) is None:
+            return None
+        return self.resources.style(number).items
+
+    def style_number(self, value: Value, theme: Theme) -> Optional[int]:
+        """The number of the style that a value names."""
+        _, passed = self.resources.follow(value, theme)
+        return passed[-1] if passed and not value.is_null else None
+
+    def overlaid(self, theme: Theme, style: int) -> Theme:
+        """A theme with a style over it."""
+        key = (*theme.styles, style)
+        if key not in self.themes:
+            self.themes[key] = theme.applied(style)
+        return self.themes[key]
+
+
+class Attributes:
+    """The attributes of one element in a theme."""
+
+    def __init__(self, own: Dict[str, Value], theme: Theme, lookup: Lookup, class_styles: List[str]):
+        self.own, self.theme, self.lookup = own, theme, lookup
+        self.broken: List[str] = []
+        self.style = self.items_of(own.get("style"))
+        self.class_style = self.first_of(class_styles)
+
+    def items_of(self, value: Optional[Value]) -> Mapping[int, Item]:
+        """The items of a style that a value names."""
+        try:
+            found = self.lookup.style(value, self.theme) if value else {}
+        except Failure as failure:
+            self.broken.append(str(failure))
+            return {}
+        if found is None and value and not value.is_null:
+            self.broken.append("the style is not in the resources")
+        return found or {}
+
+    def first_of(self, names: List[str]) -> Mapping[int, Item]:
+        """The items of the style that the first of some attributes of the theme names: those of an app's library come
+        before those of Android."""
+        for name in names:
+            number = self.lookup.number(name)
+            item = self.theme.item(number) if number else None
+            if item is not None:
+                return self.items_of(item.value)
+        return {}
+
+    def given(self, key: str) -> Optional[Tuple[Value, Origin]]:
+        """The value of an attribute as it is given, and where it is from."""
+        value = self.own.get(key)
+        if value is not None:
+            return value, Origin.OWN
+        number = self.lookup.number(key)
+        if number is None:
+            return None
+        for items, origin in ((self.style, Origin.STYLE), (self.class_style, Origin.CLASS)):
+            item = items.get(number)
+            if item is not None and not (item.value.type == 0 and item.value.data == 0):
+                return item.value, origin
+        item = self.theme.item(number)
+        return (item.value, Origin.THEME) if item is not None else None
+
+    def find(self, key: str) -> Optional[Found]:
+        """The value of an attribute through all references; nothing where it has none."""
+        given = self.given(key)
+        if given is None:
+            return None
+        value, origin = given
+        try:
+            resolved = self.lookup.resources.resolve(value, self.theme)
+        except Failure as failure:
+            self.broken.append(str(failure))
+            return Found(value, value, origin)
+        return Found(NULL if resolved.is_null else resolved, value, origin)
