@@ -314,7 +314,6 @@ def broken_apps() -> Iterator[Tuple[bytes, str]]:
         yield app({layout: b"", name: b""}), "is a name that leads out of it"
     yield app({"a.xml": b""}), "it has no layout, as res/layout/NAME.xml"
     yield app({layout: bytes((1 << 20) + 1)}), "'%s' has more than 1048576 bytes" % layout
-    yield app({layout: b"", "resources.arsc": bytes((1 << 24) + 1)}), "'resources.arsc' has more than 16777216 bytes"
     yield app({layout: b"ab"}, zipfile.ZIP_BZIP2), "'%s' is encrypted, or packed as no app is" % layout
     bomb = app({layout: bytes(1 << 21)})
     size = struct.pack("<I", 1 << 21)

@@ -4,6 +4,7 @@ import os
 import tempfile
 from typing import Dict, Iterator, List
 
+from ..apps import writer
 from ..apps.app import Screen
 from ..apps.report import Record
 from ..common import files
@@ -11,8 +12,10 @@ from ..common.failures import WRONG, Failure
 from ..lint import linter, rules
 from ..pages import page
 from ..pictures import frames, png
-from ..scripts import script
+from ..scripts import names, script
+from ..scripts.names import Ids
 from ..scripts.replies import Refused
+from ..scripts.resource_names import Names
 from ..scripts.script import Script
 from ..views import placement
 from ..views.screens import Screen as Device
@@ -22,10 +25,11 @@ MARK, NO_MARK = "~ ", "  "
 
 @contextlib.contextmanager
 def script_of(screen: Screen) -> Iterator[Script]:
-    """The script of a layout, in a folder that has its file for as long as it is carried out."""
+    """The script of a layout with the names of its ids, in a folder that has its file for as long as it is carried out."""
     with tempfile.TemporaryDirectory() as folder:
         files.replace(os.path.join(folder, screen.name + ".xml"), screen.compiled)
-        yield Script(script.lines_in(screen.script), folder)
+        ids = Ids(Names(writer.list_of(screen.ids), names.LIST), names.LIST)
+        yield Script(script.lines_in(screen.script), folder, ids=ids)
 
 
 def check(screen: Screen, refused: Refused) -> None:
