@@ -49,6 +49,24 @@ def escapes_texts() -> str:
         return "" if all(it.startswith(shown) for it in found) else "%r" % (found,)
 
 
+def counts_what_follows() -> str:
+    """Of a script whose root is refused the first line is reported, and how many follow; `check` is named as it is
+    called."""
+    text = "window 9 9\nadd root Viev 1 1\n" + "frame\n" * 3 + "id v7 @1\n"
+    first_line = "%s: standard input:2:10: 31 Syntax: 'Viev' does not fit; did you mean 'View'?\n"
+    more = "%s: 4 more lines are refused, by NoRoot, as may follow from that; %s lists all\n"
+    none = "%s: there are no bounds: the tree has no root\n"
+    with place() as it:
+        tools_folder = os.path.join(TOP, "tools")
+        wanted = first_line % "tree" + more % ("tree", os.path.join(tools_folder, "check")) + none % "tree"
+        why = unlike(it.call("tree", "-", given=text), 1, b"", wanted)
+        started = it.start("vindaesk", "tree", "-")
+        _, said = started.communicate(text.encode())
+        name = "vindaesk tree"
+        wanted = first_line % name + more % (name, "vindaesk check") + none % name
+        return why or ("" if said.decode() == wanted else "it says '%s'" % said.decode())
+
+
 def unknown_names() -> str:
     with place() as it:
         it.put("a.script", "window 9 9\nadd root View 1 1\nid v1 @id/repli\nbounds @id/x @id/y\n")
@@ -384,7 +402,7 @@ def finds_regions() -> str:
 
 def checks() -> Checks:
     yield from named("golden tests", (
-        names_everywhere, escapes_texts, unknown_names, keeps_names, includes_files, refuses_includes, tries_configurations,
+        names_everywhere, counts_what_follows, escapes_texts, unknown_names, keeps_names, includes_files, refuses_includes, tries_configurations,
         draws_configurations, wrong_configurations, leaves_a_report, accepts_some, takes_configurations_of_the_call,
         keeps_the_sum, finds_regions
     ))

@@ -22,7 +22,7 @@ from vindaesk.scripts import names, resource_names, script
 from vindaesk.testing import configurations
 
 EXAMPLES = os.path.join(TOP, "examples")
-# how long each reader is given texts made at random, and how long anything small may take
+# how many seconds each reader is given texts made at random, and how many of a processor anything small may take
 FUZZED = 8
 QUICK = 10
 HEAD = '<View xmlns:android="%s" android:layout_width="1px" android:layout_height="1px" ' % ANDROID
@@ -30,9 +30,9 @@ HEAD = '<View xmlns:android="%s" android:layout_width="1px" android:layout_heigh
 
 def quickly(act: Callable[[], str]) -> str:
     """How a call takes too long, or what it returns."""
-    begun = time.monotonic()
+    begun = time.process_time()
     why = act()
-    seconds = time.monotonic() - begun
+    seconds = time.process_time() - begun
     return why or ("it takes %.1f s" % seconds if seconds > QUICK else "")
 
 
@@ -266,15 +266,15 @@ def fuzzed(name: str) -> str:
     while time.monotonic() < until:
         text = changed(draw, draw.choice(texts))
         count += 1
-        begun = time.monotonic()
+        begun = time.process_time()
         try:
             act(text)
         except ends:
             pass
         except Exception as error:
             return "%s: %s over %r" % (type(error).__name__, error, text[:2000])
-        if time.monotonic() - begun > QUICK:
-            return "%r takes %.1f s" % (text[:2000], time.monotonic() - begun)
+        if time.process_time() - begun > QUICK:
+            return "%r takes %.1f s" % (text[:2000], time.process_time() - begun)
     return "" if count > 100 else "only %d texts were tried" % count
 
 

@@ -559,7 +559,8 @@ def closed_streams() -> str:
         it.copy(os.path.join(EXAMPLES, "page.xml"))
         calls = {"screenshot": "a.script b.png", "picdiff": "a.png a.png", "tree": "a.script", "runall": "a.script",
                  "check": "a.script", "axml": "--text page.xml -", "lint": "a.script", "page": "a.script -",
-                 "unpack": os.path.join(EXAMPLES, "inbox/inbox.apk") + " made", "install": "prefix"}
+                 "unpack": os.path.join(EXAMPLES, "inbox/inbox.apk") + " made", "install": "prefix",
+                 "app": os.path.join(EXAMPLES, "inbox/inbox.apk") + " inbox"}
         for tool in TOOLS:
             for closed in ("<&-", ">&-", "2>&-", "<&- >&- 2>&-"):
                 line = "exec '%s' %s %s" % (os.path.join(TOP, "tools", tool), calls[tool], closed)

@@ -226,13 +226,11 @@ def assert_bounds(vindaesk_session: Session) -> Callable[..., None]:
     """Compares the bounds of a view in its parent, or with `in_window=True` in the window:
     `assert_bounds("@id/reply", 148, 0, 288, 48)`."""
 
-    def check(
-        view: str, left: int, top: int, right: int, bottom: int, in_window: bool = False,
-        session: Session = vindaesk_session
-    ) -> None:
+    def check(view: str, *wanted: int, in_window: bool = False, session: Session = vindaesk_session) -> None:
         __tracebackhide__ = True
+        if len(wanted) != 4:
+            raise TypeError("assert_bounds takes a view and its left, top, right and bottom")
         box = session.in_window(view) if in_window else bounds_of(session.bounds(view))
-        wanted = (left, top, right, bottom)
         where = "in the window" if in_window else "in its parent"
         assert box == wanted, "%s is at %s %s, and should be at %s" % (view, box, where, wanted)
 

@@ -17,11 +17,11 @@ def shown(text: bytes, limit: int = 160) -> str:
 
 
 def tool(name: str) -> str:
-    """How a tool beside this one is called: as `tools/check`, or `vindaesk-check` where tools are installed so."""
+    """How a tool beside this one is called, as this one was: `vindaesk check`, `vindaesk-check` or `tools/check`."""
     folder, own = os.path.split(sys.argv[0])
-    if own == "vindaesk":
-        return "vindaesk " + name
-    return "vindaesk-" + name if own.startswith("vindaesk-") else os.path.join(folder, name)
+    if own.startswith(("vindaesk ", "vindaesk-")):
+        return own[: len("vindaesk ")] + name
+    return os.path.join(folder, name)
 
 
 def say(sentence: str) -> None:
