@@ -18,6 +18,7 @@ from running import PROGRAM, TOP, Checks, Skipped, difference, named, need
 from vindaesk.command_line import catalogue
 from vindaesk.common.failures import Failure
 from vindaesk.installing import contents, manual, needs, wheel
+from vindaesk.installing.commands import is_known
 from vindaesk.provenance.sources import Listing
 
 SECONDS = 600
@@ -367,6 +368,15 @@ def names_each_tool() -> str:
     return "tools/ has %s" % sorted(others) if others else ""
 
 
+def knows_each_value() -> str:
+    """Whether a value that a help text names is none of which it is known what a shell offers for it."""
+    for it in (part for command in catalogue.every() for part in (command, *command.parts)):
+        for argument in it.arguments:
+            if argument.value and not is_known(argument.value):
+                return "vindaesk %s: %s is not in KINDS of installing/commands.py" % (it.name, argument.value)
+    return ""
+
+
 def has_no_import_of_what_is_left_out() -> str:
     """Whether a module of the packages imports one that is for a checkout alone."""
     out = {os.path.splitext(it)[0] for it in contents.SKIPPED}
@@ -452,7 +462,7 @@ def finds_what_a_program_needs() -> str:
 
 def checks() -> Checks:
     yield from named("packages", (
-        names_each_tool, has_no_import_of_what_is_left_out, shows_each_argument, has_clean_manual_pages,
-        finds_what_a_program_needs, runs_from_a_tarball, installs_a_wheel, unpacks_for_debian, installs_for_debian,
+        names_each_tool, knows_each_value, has_no_import_of_what_is_left_out, shows_each_argument,
+        has_clean_manual_pages, finds_what_a_program_needs, runs_from_a_tarball, installs_a_wheel, unpacks_for_debian, installs_for_debian,
         passes_lintian, refuses_other_sources, has_their_sums, has_the_same_bytes_elsewhere
     ))

@@ -17,13 +17,14 @@ class Kind(enum.Enum):
     TEXT = "text"
 
 
-# the kinds of the values that help texts name; NAME.ending is a file too
+# the kinds of the values that help texts name; NAME.ending is a file too, and what ends with `,..` a list of texts
 KINDS = {
-    **dict.fromkeys(("SCRIPT", "FILE", "NAME", "APP", "APK", "FILE,.."), Kind.FILE),
+    **dict.fromkeys(("SCRIPT", "FILE", "FILE,..", "NAME", "APP", "APK"), Kind.FILE),
     **dict.fromkeys(("DIR", "PREFIX"), Kind.FOLDER),
-    **dict.fromkeys(("N", "N,..", "S", "I/N", "WxH", "TEXT", "RULE,..", "ID", "SIDE", "V", "WORD", "LAYOUT", "NAME,.."), Kind.TEXT),
-    **dict.fromkeys(("QUALIFIERS", "STATE,..", "CASE", "CONFIGURATION,..", "WxH,..", "D,..", "L,.."), Kind.TEXT),
+    **dict.fromkeys(("N", "S", "I/N", "WxH", "TEXT", "ID", "SIDE", "V", "WORD", "CASE"), Kind.TEXT),
+    **dict.fromkeys(("LAYOUT", "QUALIFIERS"), Kind.TEXT),
 }
+LIST = ",.."
 FILE_NAME = re.compile(r"[A-Za-z]+\.[a-z]+")
 
 
@@ -63,13 +64,16 @@ class Command:
         return [it for it in self.arguments if not it.names]
 
 
-def kind_of(value: str, name: str) -> Kind:
-    """The kind of a value of a command by its name in the help text."""
+def is_known(value: str) -> bool:
+    """Whether a value has a kind by its name."""
+    return value in KINDS or value.endswith(LIST) or FILE_NAME.fullmatch(value) is not None
+
+
+def kind_of(value: str) -> Kind:
+    """The kind of a value by its name in the help text; one that is not known is a text."""
     if not value:
         return Kind.NOTHING
-    if value in KINDS or FILE_NAME.fullmatch(value):
-        return KINDS.get(value, Kind.FILE)
-    raise Failure("vindaesk %s: the value %s has no kind in installing/commands.py" % (name, value), NOT_RUN)
+    return KINDS.get(value, Kind.FILE if FILE_NAME.fullmatch(value) else Kind.TEXT)
 
 
 def argument_of(action: argparse.Action, text: str, name: str) -> Argument:
@@ -78,7 +82,7 @@ def argument_of(action: argparse.Action, text: str, name: str) -> Argument:
         raise Failure("vindaesk %s: the argument %s has more than one value" % (name, action.dest), NOT_RUN)
     choices = tuple(str(it) for it in action.choices or ())
     value = "" if action.nargs == 0 else action.metavar or ("" if choices else action.dest.upper())
-    kind = Kind.TEXT if choices else kind_of(value, name)
+    kind = Kind.TEXT if choices else kind_of(value)
     is_word = not action.option_strings
     return Argument(
         tuple(action.option_strings), value, text, kind, choices,
