@@ -12,7 +12,7 @@ RIGHT = os.path.join(TOP, "ci", "spelling.txt")
 # names in the sources of crates
 NAMES = "afterall,bu,fo,isnt,nam,upto"
 TEXTS = ("README.md", "CHANGELOG.md", "docs", "vindaesk", ".ci/run", "ci", "tools", "bench", "examples")
-SKIPPED = "*/locale_data.py,*/out/*,*/spelling.py,*/__pycache__/*,spelling.txt,*.png,*.apk,*.arsc,*.xml,*.dump"
+SKIPPED = "*/locale_data.py,*/platform_names.txt,*/out/*,*/spelling.py,*/__pycache__/*,spelling.txt,*.png,*.apk,*.arsc,*.xml,*.dump"
 
 
 def misspelled(paths: Sequence[str], names: str) -> str:
