@@ -1,0 +1,3 @@
+mod LookupLaws
+mod PackedLaws
+mod PageLaws

@@ -1,0 +1,5 @@
+pub mod Answer
+pub mod FilesNow
+pub mod Lookups
+pub mod Packed
+pub mod Page
