@@ -7,6 +7,7 @@ the first one matches, 2 where it is better than the second, 1 where it is more 
 text and the bytes of its configuration."""
 import hashlib
 import os
+from typing import Iterable, List, Tuple
 
 from running import TOP  # before what finds the package of tools/ by it
 
@@ -18,7 +19,7 @@ from vindaesk.resources.packed import packed
 SEED, COUNT, WIDTH = 11, 500, 100
 
 
-def questions():
+def questions() -> Tuple[List[str], str]:
     """The questions to the library, and their digest."""
     found = []
     for device, pairs in devices(SEED, COUNT):
@@ -27,13 +28,13 @@ def questions():
     return found, hashlib.sha256("\n".join(found).encode()).hexdigest()
 
 
-def put(name, lines):
+def put(name: str, lines: Iterable[str]) -> None:
     """Writes a file of the tests."""
     with open(os.path.join(TOP, "ci", "tests", name), "w", encoding="ascii") as file:
         file.write("\n".join(lines) + "\n")
 
 
-def main():
+def main() -> None:
     app = [os.path.join(TOP, "examples", "inbox", "inbox.apk")]
     asked, digest = questions()
     digits = "".join(str(int(it.replace(" ", ""), 2)) for it in android_assets.ask(app, asked) if it != ".")

@@ -14,13 +14,16 @@ import re
 import struct
 import sys
 import zipfile
+from typing import Dict, Iterable, Iterator, List, Sequence, Set, Tuple
 
 import table_writer
-from running import TOP
+from running import TOP, not_none
+from vindaesk.resources.configuration import Configuration
 from vindaesk.resources.devices import PHONE
 from vindaesk.resources.files import open_table
 from vindaesk.resources.packed import packed
-from vindaesk.resources.resources import Resources
+from vindaesk.resources.resources import Entry, Name, Resources
+from vindaesk.resources.values import Value
 
 # whole types, and the types of which only what is reached is taken
 WHOLE = ("attr", "^attr-private", "style")
@@ -36,14 +39,14 @@ DATE = (2019, 9, 3, 0, 0, 0)
 REFERENCE = struct.Struct("<HBBI")
 
 
-def is_general(it):
+def is_general(it: Configuration) -> bool:
     """Whether a configuration is of no language, network or kind of device."""
     return not (it.language or it.mcc or it.mnc or it.ui_type or it.round or it.sdk > 29)
 
 
-def references(data):
+def references(data: bytes) -> Set[int]:
     """The words of references and attributes in a compiled XML file."""
-    found = set()
+    found: Set[int] = set()
     at = struct.unpack_from("<H", data, 2)[0]
     while at + 8 <= len(data):
         kind, head, size = struct.unpack_from("<HHI", data, at)
@@ -59,27 +62,31 @@ def references(data):
 class Part:
     """What is taken of a framework."""
 
-    def __init__(self, path):
+    def __init__(self, path: str):
         self.archive = zipfile.ZipFile(path)
         self.names = set(self.archive.namelist())
         self.resources = Resources([open_table(path)], PHONE)
-        self.rows = {}
-        self.files = {}
+        self.rows: Dict[int, List[Entry]] = {}
+        self.files: Dict[str, bytes] = {}
         self.has_files = True
 
-    def digest(self):
+    def name(self, number: int) -> Name:
+        """The name of an id of the framework."""
+        return not_none(self.resources.name(number))
+
+    def digest(self) -> str:
         return hashlib.sha256(self.archive.read("resources.arsc")).hexdigest()
 
-    def of_material(self):
+    def of_material(self) -> Iterator[int]:
         """What the Material styles say with their parents, except styles."""
         for number in self.resources.ids("style"):
-            if re.search("Material|DeviceDefault", self.resources.name(number).entry):
+            if re.search("Material|DeviceDefault", self.name(number).entry):
                 for item in self.resources.style(number).items.values():
                     name = self.resources.name(item.value.data) if item.value.is_reference else None
                     if name is not None and name.type != "style":
                         yield item.value.data
 
-    def entries(self, number):
+    def entries(self, number: int) -> List[Entry]:
         """The configurations of a resource that are taken: of bitmaps only one."""
         entries = [it for it in self.resources.entries(number) if is_general(it.configuration)]
         texts = {it.configuration: it.value.text for it in entries if it.value is not None and it.value.text}
@@ -88,7 +95,7 @@ class Part:
                                                 it.configuration.density != 160, it.configuration.density))
         return [it for it in entries if it not in bitmaps] + least[:1]
 
-    def take(self, numbers):
+    def take(self, numbers: Iterable[int]) -> None:
         """Takes resources and what they reach."""
         waiting = list(numbers)
         while waiting:
@@ -100,55 +107,65 @@ class Part:
             for entry in self.rows[number]:
                 waiting += self.reached(entry)
 
-    def reached(self, entry):
+    def reached(self, entry: Entry) -> List[int]:
         """The ids that an entry has."""
-        rows = [(0, entry.value)] if entry.value is not None else entry.bag.rows
+        rows = rows_of(entry)
         found = [it.data for _, it in rows if it.type in (1, 2)] + [key for key, _ in rows if key & 0xFF0000]
         text = entry.value.text if entry.value is not None else None
-        if text in self.names and not FRAMES.match(text) and (self.has_files or text.startswith("res/color")):
+        if text is not None and self.is_taken(text):
             self.files[text] = self.archive.read(text)
             found += references(self.files[text]) if text.endswith(".xml") else ()
         return found + ([entry.bag.parent] if entry.bag is not None else [])
 
-    def table(self):
+    def is_taken(self, text: str) -> bool:
+        """Whether a text is the path of a file that is taken."""
+        return text in self.names and not FRAMES.match(text) and (self.has_files or text.startswith("res/color"))
+
+    def table(self) -> bytes:
         """The table of what is taken."""
         package = table_writer.Package(1, "android", "sparse")
         group = self.resources.groups.by_id[1]
         for kind in group.type_ids():
-            package.type(kind, group.type_name(kind))
+            package.type(kind, not_none(group.type_name(kind)))
         for number in sorted(self.rows):
-            name = self.resources.name(number)
+            name = self.name(number).entry
             for entry in self.rows[number]:
-                package.put(number & 0xFFFFFF, packed(entry.configuration), name.entry, written(entry))
+                package.put(number & 0xFFFFFF, packed(entry.configuration), name, written(entry))
         return table_writer.table([package])
 
 
-def written(entry):
+def rows_of(entry: Entry) -> Sequence[Tuple[int, Value]]:
+    """The keys and values of an entry; the key of a value that is no bag is 0."""
+    return [(0, entry.value)] if entry.value is not None else not_none(entry.bag).rows
+
+
+def written(entry: Entry) -> table_writer.Content:
     """An entry for the writer."""
 
-    def value(it):
-        return table_writer.Value(it.type, it.text if it.type == 3 else it.data)
+    def value(it: Value) -> table_writer.Value:
+        return table_writer.Value(it.type, it.data if it.text is None else it.text)
 
     if entry.value is not None:
         return value(entry.value)
-    return table_writer.Bag(entry.bag.parent, [(key, value(it)) for key, it in entry.bag.rows])
+    bag = not_none(entry.bag)
+    return table_writer.Bag(bag.parent, [(key, value(it)) for key, it in bag.rows])
 
 
-def framework(path):
+def framework(path: str) -> bytes:
     """The bytes of the reduced framework of a whole one."""
     part = Part(path)
     part.take(part.of_material())
     part.has_files = False
-    part.take(it for it in part.resources.ids() if part.resources.name(it).type in WHOLE)
+    part.take(it for it in part.resources.ids() if part.name(it).type in WHOLE)
     out = io.BytesIO()
     with zipfile.ZipFile(out, "w", zipfile.ZIP_DEFLATED, compresslevel=9) as archive:
-        first = [("resources.arsc", part.table()), ("NOTICE", NOTE % part.digest())]
+        first = [("resources.arsc", part.table()), ("NOTICE", (NOTE % part.digest()).encode())]
         for name, data in first + sorted(part.files.items()):
             archive.writestr(zipfile.ZipInfo(name, DATE), data, zipfile.ZIP_DEFLATED, 9)
     return out.getvalue()
 
 
-def main():
+def main() -> None:
     if len(sys.argv) != 3:
         sys.exit(re.sub(r"\n\n.*", "", __doc__.split("\n\n", 1)[1], flags=re.S))
     data = framework(sys.argv[1])

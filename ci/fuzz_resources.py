@@ -12,8 +12,9 @@ import random
 import struct
 import sys
 import time
+from typing import Callable, List, Optional, Sequence, Tuple, TypeVar
 
-from running import TOP  # before what finds the package of tools/ by it
+from running import TOP, Checks  # before what finds the package of tools/ by it
 
 import made_apps
 import made_tables
@@ -30,9 +31,11 @@ SLOW, LARGEST = 5, 200000
 NUMBERS = (0, 1, 3, 4, 7, 8, 0x7F, 0x80, 0xFF, 0x100, 0x7FFF, 0x8000, 0xFFFF, 0x10000, 0x7FFFFFFF, 0x80000000,
            0xFFFFFFFC, 0xFFFFFFFF)
 DEVICES = [device(it) for it in ("", "de-rAT-sw600dp-night-hdpi", "ar-television-v29")]
+Asked = TypeVar("Asked")
+Said = TypeVar("Said")
 
 
-def seeds(paths):
+def seeds(paths: Sequence[str]) -> List[bytes]:
     """The tables that are changed."""
     own = made_apps.paths() + sorted(glob.glob(os.path.join(TOP, "examples", "*", "*.arsc")))
     found = [table_bytes(it) for it in paths or own]
@@ -40,7 +43,7 @@ def seeds(paths):
     return [it for it in found if len(it) <= LARGEST]
 
 
-def flip(source, data):
+def flip(source: random.Random, data: bytearray) -> bytearray:
     """Other bits."""
     for _ in range(source.randint(1, 8)):
         at = source.randrange(len(data))
@@ -48,7 +51,7 @@ def flip(source, data):
     return data
 
 
-def put(source, data):
+def put(source: random.Random, data: bytearray) -> bytearray:
     """Other numbers."""
     for _ in range(source.randint(1, 4)):
         at = source.randrange(len(data) // 4) * 4
@@ -59,13 +62,13 @@ def put(source, data):
     return data
 
 
-def cut(source, data):
+def cut(source: random.Random, data: bytearray) -> bytearray:
     """Fewer bytes at the end, or in the middle."""
     start = source.randrange(len(data))
     return data[:start] if source.random() < 0.5 else data[:start] + data[start + source.randrange(1, 64) :]
 
 
-def copy(source, data):
+def copy(source: random.Random, data: bytearray) -> bytearray:
     """A part over another one."""
     size = source.randrange(4, 400) & ~3
     start, end = (source.randrange(max(1, len(data) - size)) & ~3 for _ in range(2))
@@ -73,7 +76,7 @@ def copy(source, data):
     return data
 
 
-def read_all(data):
+def read_all(data: bytes) -> None:
     """Reads all that a table says, as the tools would."""
     table = Table(data, "changed.arsc")
     for it in DEVICES:
@@ -91,12 +94,13 @@ def read_all(data):
                 attempt(Bag.format, entry.bag)
         for number in styles[:40]:
             theme = attempt(resources.theme, number)
-            for attribute in list(theme.items)[:100] if theme else ():
-                attempt(theme.value, attribute)
+            if theme is not None:
+                for attribute in list(theme.items)[:100]:
+                    attempt(theme.value, attribute)
         attempt(resources.find, "string/said")
 
 
-def attempt(function, word):
+def attempt(function: Callable[[Asked], Said], word: Asked) -> Optional[Said]:
     """What a function says, or nothing where it refuses: one resource that is wrong does not keep the others from
     being read."""
     try:
@@ -105,7 +109,7 @@ def attempt(function, word):
         return None
 
 
-def is_failure(data):
+def is_failure(data: bytes) -> bool:
     """Whether a table is refused as a whole."""
     try:
         read_all(data)
@@ -116,7 +120,9 @@ def is_failure(data):
         return True
 
 
-def fuzz(runs, seed, paths=(), say=None):
+def fuzz(
+    runs: int, seed: int, paths: Sequence[str] = (), say: Optional[Callable[[str], None]] = None
+) -> Tuple[str, int, float]:
     """Why a run is wrong, or ""; how many tables were refused as a whole, and the longest time."""
     source, tables = random.Random(seed), seeds(paths)
     refused, longest = 0, 0.0
@@ -137,11 +143,11 @@ def fuzz(runs, seed, paths=(), say=None):
     return "", refused, longest
 
 
-def checks():
+def checks() -> Checks:
     yield "resources: %d changed tables" % SHORT, lambda: fuzz(SHORT, SEED)[0]
 
 
-def main():
+def main() -> int:
     words = sys.argv[1:]
     runs, seed = (int(words[at]) if len(words) > at else it for at, it in enumerate((RUNS, SEED)))
     why, refused, longest = fuzz(runs, seed, words[2:], print)

@@ -7,6 +7,9 @@ import re
 import shutil
 import subprocess
 import tempfile
+from typing import Dict, List, Optional, Sequence
+
+from running import Skipped
 
 SECONDS = 60
 MANIFEST = '<manifest package="%s"/>'
@@ -63,7 +66,7 @@ CLIENT = '<resources><string name="own">@org.example.library:string/shared</stri
     '<item name="org.example.library:tint">#ff00ff00</item></style></resources>'
 
 
-def varied(it):
+def varied(it: str) -> str:
     """Values of a configuration, each of which says it; some are in few configurations only."""
     number = QUALIFIERS.index(it) + 1 if it else 0
     rows = '<string name="said">%s</string><integer name="number">%d</integer>' % (it or "default", number)
@@ -72,7 +75,7 @@ def varied(it):
     return "<resources>%s</resources>" % rows
 
 
-def sources(folder, files):
+def sources(folder: str, files: Dict[str, str]) -> None:
     """Writes files of resources by their paths."""
     for name, text in files.items():
         path = os.path.join(folder, name)
@@ -81,7 +84,7 @@ def sources(folder, files):
             file.write(text)
 
 
-def run(*command):
+def run(*command: str) -> None:
     """Runs a command that has to succeed."""
     ended = subprocess.run(command, stdout=subprocess.PIPE, stderr=subprocess.STDOUT, timeout=SECONDS)
     if ended.returncode:
@@ -91,20 +94,20 @@ def run(*command):
 class Maker:
     """Makes apps in a folder."""
 
-    def __init__(self, folder):
+    def __init__(self, folder: str):
         self.folder = folder
 
-    def path(self, *parts):
+    def path(self, *parts: str) -> str:
         return os.path.join(self.folder, *parts)
 
-    def link(self, name, package, files, *options):
+    def link(self, name: str, package: str, files: Dict[str, str], *options: str) -> None:
         """Makes NAME.apk of files of resources."""
         sources(self.path(name), dict(files, **{"AndroidManifest.xml": MANIFEST % package}))
         run("aapt2", "compile", "--dir", self.path(name, "res"), "-o", self.path(name + ".zip"))
         run("aapt2", "link", "--manifest", self.path(name, "AndroidManifest.xml"), "-o", self.path(name + ".apk"),
             *options, self.path(name + ".zip"))
 
-    def split(self, files, options):
+    def split(self, files: Dict[str, str], options: Sequence[str]) -> None:
         """An app in three: the ids of the parts are those of the whole."""
         ids = self.path("ids.txt")
         self.link("whole", "org.example.many", files, "--emit-ids", ids, *options)
@@ -117,7 +120,7 @@ class Maker:
             self.link("split." + name, "org.example.many", those, "--stable-ids", ids, "--no-resource-removal",
                       *options)
 
-    def all(self):
+    def all(self) -> None:
         kinds = {"res/values/kinds.xml": KINDS}
         many = {"res/values/all.xml": varied(""), "res/values/kinds.xml": KINDS}
         many.update(("res/values-%s/all.xml" % it, varied(it)) for it in QUALIFIERS)
@@ -135,17 +138,24 @@ class Maker:
 
 
 @functools.lru_cache(maxsize=None)
-def folder():
-    """The folder of the apps, or None. It ends with the process that asked for it."""
+def folder() -> "Optional[tempfile.TemporaryDirectory[str]]":
+    """The folder of the apps, or None where aapt2 is missing. It ends with the process that asked for it."""
     if not shutil.which("aapt2"):
         return None
     made = tempfile.TemporaryDirectory()
     Maker(made.name).all()
-    folder.made = made
-    return made.name
+    return made
 
 
-def paths():
+def paths() -> List[str]:
     """The apps."""
     made = folder()
-    return sorted(os.path.join(made, it) for it in os.listdir(made) if it.endswith(".apk")) if made else []
+    return [] if made is None else sorted(it.path for it in os.scandir(made.name) if it.name.endswith(".apk"))
+
+
+def path(name: str) -> str:
+    """The app of a name; Skipped where aapt2 is missing."""
+    made = folder()
+    if made is None:
+        raise Skipped("aapt2")
+    return os.path.join(made.name, name + ".apk")

@@ -1,5 +1,7 @@
 """Tables that table_writer.py makes of forms that Debian's aapt2 does not write: compact entries, offsets of 16 bits,
 staged ids, shared libraries by name, and texts of both forms of UTF-8."""
+from typing import Dict
+
 import table_writer
 from table_writer import Bag, Package, Pool, Value
 from vindaesk.resources.packed import packed
@@ -9,11 +11,11 @@ REFERENCE, ATTRIBUTE, STRING, DIMENSION, DYNAMIC, DYNAMIC_ATTRIBUTE, DECIMAL = 1
 EMOJI = "Hi 😀 \0 é"
 
 
-def configuration(qualifiers):
+def configuration(qualifiers: str) -> bytes:
     return packed(parse_qualifiers(qualifiers))
 
 
-def filled(package):
+def filled(package: Package) -> Package:
     """A package with strings in three configurations, of which some are only in one, sizes, and styles."""
     package.type(1, "attr")
     package.type(2, "string")
@@ -34,7 +36,7 @@ def filled(package):
     return package
 
 
-def library(name="org.example.library"):
+def library(name: str = "org.example.library") -> bytes:
     """A shared library with a text, an attribute, and a style that has it."""
     package = Package(0, name)
     package.type(1, "attr")
@@ -47,7 +49,7 @@ def library(name="org.example.library"):
     return table_writer.table([package])
 
 
-def client(number=5):
+def client(number: int = 5) -> bytes:
     """An app that calls the library by an id of its own."""
     package = Package(0x7F, "org.example.client")
     package.type(1, "string")
@@ -59,7 +61,7 @@ def client(number=5):
     return table_writer.table([package])
 
 
-def staged():
+def staged() -> bytes:
     """An app whose staged ids have others in the end."""
     package = Package(0x7F, "org.example.staged")
     package.type(1, "string")
@@ -69,7 +71,7 @@ def staged():
     return table_writer.table([package])
 
 
-def tables():
+def tables() -> Dict[str, bytes]:
     """The tables by their names."""
     forms = {it: table_writer.table([filled(Package(0x7F, "org.example", it))]) for it in ("dense", "sparse", "short")}
     forms["compact"] = table_writer.table([filled(Package(0x7F, "org.example", is_compact=True))])

@@ -1,5 +1,6 @@
 """Random devices, and pairs of configurations near to them, for comparisons of the choice of resources."""
 import random
+from typing import Any, Dict, Iterator, List, Sequence, Tuple, TypeVar
 
 from vindaesk.resources.configuration import DEFAULT, Configuration
 from vindaesk.resources.locale_data import REPRESENTATIVES
@@ -18,19 +19,23 @@ VALUES = {
     "screen_height": (240, 480), "sdk": (4, 21, 23), "minor": (1,),
 }
 PAIRS = 20
+Pair = Tuple[Configuration, Configuration]
+# fields of a configuration: numbers, and the texts of its locale
+Fields = Dict[str, Any]
+Word = TypeVar("Word", int, str)
 
 
 class Source:
     """Random configurations of a seed."""
 
-    def __init__(self, seed):
+    def __init__(self, seed: int):
         self.random = random.Random(seed)
 
-    def some(self, words):
+    def some(self, words: Sequence[Word]) -> Word:
         """One of some words, or as often nothing."""
         return self.random.choice(tuple(words) + (type(words[0])(),) * len(words))
 
-    def locale(self):
+    def locale(self) -> Fields:
         if self.random.random() < 0.7:
             language, region = self.random.choice(LOCALES)
         else:
@@ -41,13 +46,14 @@ class Source:
             ("Latn", "Cyrl", "Hant", "Hans"), ("posix", "1996"), ("latn", "arab")))
         return {"language": language, "region": region, "script": script, "variant": variant, "numbering": numbering}
 
-    def device(self):
-        fields = {name: self.some(them) for name, them in VALUES.items()}
+    def device(self) -> Configuration:
+        fields: Fields = {name: self.some(them) for name, them in VALUES.items()}
         return Configuration(**fields, **self.locale())
 
-    def near(self, device):
+    def near(self, device: Configuration) -> Configuration:
         """A configuration of few fields, most of them those of a device."""
-        whole, fields = {**vars(self.device()), **self.locale()}, {}
+        whole: Fields = {**vars(self.device()), **self.locale()}
+        fields: Fields = {}
         for name in whole:
             chance = self.random.random()
             fields[name] = getattr(DEFAULT if chance < 0.72 else device, name) if chance < 0.9 else whole[name]
@@ -56,7 +62,7 @@ class Source:
         return Configuration(**fields)
 
 
-def devices(seed, count):
+def devices(seed: int, count: int) -> Iterator[Tuple[Configuration, List[Pair]]]:
     """Devices, and of each the pairs that are compared for it."""
     source = Source(seed)
     for _ in range(count):

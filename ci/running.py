@@ -6,7 +6,7 @@ import signal
 import subprocess
 import sys
 import unittest
-from typing import Callable, Iterable, Iterator, Sequence, Tuple, Union
+from typing import Callable, Iterable, Iterator, Optional, Sequence, Tuple, TypeVar, Union
 
 TOP = os.path.dirname(os.path.dirname(os.path.realpath(__file__)))
 # how long one call may take, in seconds
@@ -22,6 +22,7 @@ Check = Callable[[], str]
 # what a module of checks yields: names, which stay the same from run to run, with their functions
 Checks = Iterator[Tuple[str, Check]]
 Word = Union[str, bytes]
+T = TypeVar("T")
 
 
 def program() -> str:
@@ -55,6 +56,13 @@ def need(command: str) -> str:
     if path is None:
         raise Skipped(command)
     return path
+
+
+def not_none(it: Optional[T]) -> T:
+    """What has to be there; a check or a unit test that gets None in its place fails."""
+    if it is None:
+        raise AssertionError("there is None where a value has to be")
+    return it
 
 
 def named(subject: str, checks: Iterable[Callable[..., str]]) -> Checks:

@@ -1,6 +1,7 @@
 """Configurations: qualifiers, devices, and the choice by Android's rule."""
 import os
 from dataclasses import replace
+from typing import Optional, Sequence
 
 import android_choices
 import pytest
@@ -23,18 +24,18 @@ WRITTEN = """
 """.split()
 
 
-def chosen(folders, of):
+def chosen(folders: Sequence[str], of: Configuration) -> Optional[str]:
     """The qualifiers that a device takes of some."""
     index = best([parse_qualifiers(it) for it in folders], of)
     return None if index is None else folders[index]
 
 
 @pytest.mark.parametrize("text", WRITTEN)
-def test_qualifiers_are_written_as_they_are_read(text):
+def test_qualifiers_are_written_as_they_are_read(text: str) -> None:
     assert write_qualifiers(parse_qualifiers(text)) == text
 
 
-def test_numbers_are_androids():
+def test_numbers_are_androids() -> None:
     """The bytes of each qualifier, by Android's own library, which adds the API level that knows it."""
     with open(QUALIFIERS, encoding="ascii") as file:
         rows = [it.split() for it in file.read().splitlines()]
@@ -43,13 +44,13 @@ def test_numbers_are_androids():
         assert replace(parse_qualifiers(text), sdk=0) == replace(unpacked(bytes.fromhex(wanted)), sdk=0), text
 
 
-def test_a_long_name():
+def test_a_long_name() -> None:
     found = parse_qualifiers("de-rDE-sw600dp-land-night-xxhdpi-v23")
     assert found == Configuration(language="de", region="DE", smallest_width=600, orientation=Orientation.LAND,
                                   night=Night.YES, density=480, sdk=23)
 
 
-def test_capital_letters_and_zero():
+def test_capital_letters_and_zero() -> None:
     assert parse_qualifiers("mcc310-mnc00-EN-rus") == Configuration(mcc=310, mnc=MNC_ZERO, language="en", region="US")
     assert parse_qualifiers("anydpi").density == ANYDPI
 
@@ -62,33 +63,33 @@ def test_capital_letters_and_zero():
     ("rUS-land-x\n", "is no qualifier"),
     ("480x640", "is no qualifier"),
 ])
-def test_wrong_qualifiers(text, why):
+def test_wrong_qualifiers(text: str, why: str) -> None:
     with pytest.raises(Failure) as caught:
         parse_qualifiers(text)
     assert why in str(caught.value) and "\n" not in str(caught.value)
 
 
-def test_packed_and_unpacked():
+def test_packed_and_unpacked() -> None:
     for it, pairs in random_configurations.devices(3, 50):
         for one in (it, *pairs[0]):
             assert unpacked(packed(one)) == one
     assert unpacked(packed(DEFAULT)[:28]) == DEFAULT
 
 
-def test_the_phone():
+def test_the_phone() -> None:
     assert (PHONE.smallest_width, PHONE.size, PHONE.long) == (360, Size.NORMAL, Long.YES)
     assert (PHONE.orientation, PHONE.direction, PHONE.ui_type) == (Orientation.PORT, Direction.LTR, UiType.NORMAL)
     assert (PHONE.screen_width, PHONE.screen_height, PHONE.keys_hidden) == (1920, 1080, KeysHidden.SOFT)
 
 
-def test_long_screens():
+def test_long_screens() -> None:
     """Longer than 5 to 3, but for one dp, and at least 470 dp."""
     assert is_long(480, 800) and is_long(800, 481) and not is_long(482, 800) and not is_long(200, 469)
     assert [screen_size(*it) for it in ((320, 426), (320, 470), (480, 640), (720, 960), (960, 719))] == [
         Size.SMALL, Size.NORMAL, Size.LARGE, Size.XLARGE, Size.LARGE]
 
 
-def test_devices():
+def test_devices() -> None:
     land = device("land")
     assert (land.width, land.height, land.smallest_width, land.orientation) == (640, 360, 360, Orientation.LAND)
     tablet = device("sw800dp")
@@ -99,7 +100,7 @@ def test_devices():
         device("nodpi")
 
 
-def test_the_example_of_androids_documentation():
+def test_the_example_of_androids_documentation() -> None:
     """App resources overview, "How Android finds the best-matching resource"."""
     of = device("en-rGB-port-hdpi-notouch-12key")
     folders = ["", "en", "fr-rCA", "en-port", "en-notouch-12key", "port-ldpi", "port-notouch-12key"]
@@ -134,18 +135,18 @@ def test_the_example_of_androids_documentation():
     (["tl", "fil"], "fil", "fil"),
     (["tl"], "fil", "tl"),
 ])
-def test_choice(folders, of, wanted):
+def test_choice(folders: Sequence[str], of: str, wanted: Optional[str]) -> None:
     assert chosen(folders, device(of)) == wanted
 
 
-def test_densities_between():
+def test_densities_between() -> None:
     # ((2 * 240) - 300) * 480 = 86400 is less than 300 * 300 = 90000, so the higher one is scaled down
     assert better_density(480, 240, 300) is True
     assert better_density(640, 240, 260) is False and better_density(480, 240, 280) is False
     assert better_density(0, 120, 160) is True
 
 
-def test_as_androids_library_says():
+def test_as_androids_library_says() -> None:
     """Answers of Android's own library to random pairs, by ci/android_choices.py."""
     with open(ANSWERS, encoding="ascii") as file:
         digest, *lines = file.read().split("\n")

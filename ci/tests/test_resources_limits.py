@@ -1,13 +1,16 @@
 """Hostile tables and archives: each is one sentence that names the file, in little time and memory."""
 import os
+import pathlib
 import struct
 import time
 import tracemalloc
 import zipfile
+from typing import Callable
 
 import made_tables
 import pytest
 import table_writer
+from running import not_none
 from table_writer import Bag, Package, Pool, Value, table
 from vindaesk.common.failures import Failure
 from vindaesk.resources import files, resources, tables
@@ -20,21 +23,21 @@ WHOLE = made_tables.tables()["dense"]
 SECONDS, BYTES = 20, 400000000
 
 
-def refused(data, why):
+def refused(data: bytes, why: str) -> None:
     """A table is refused as a whole, with a sentence."""
     with pytest.raises(Failure) as caught:
         Table(data, "a.apk")
     assert str(caught.value).startswith("a.apk: ") and why in str(caught.value)
 
 
-def test_no_table():
+def test_no_table() -> None:
     refused(b"", "a chunk is cut short (at byte 0)")
     refused(b"\3\0\10\0\10\0\0\0", "this is no table of resources")
     refused(b"\2\0\14\0\15\0\0\0" + bytes(8), "a chunk of kind 0002 has a head of 12 and a size of 13 bytes")
     refused(b"\0" * 64, "a chunk of kind 0000 has a head of 0 and a size of 0 bytes")
 
 
-def test_each_cut_is_refused_or_read():
+def test_each_cut_is_refused_or_read() -> None:
     for size in range(0, len(WHOLE), 12):
         refused(WHOLE[:size], "")
 
@@ -45,13 +48,13 @@ def test_each_cut_is_refused_or_read():
     (20, 0x40000000, "a pool of 1073741824 strings does not fit"),
     (32, 0x7FFFFFFC, "the strings of a pool are outside of its chunk"),
 ])
-def test_wrong_numbers(at, number, why):
+def test_wrong_numbers(at: int, number: int, why: str) -> None:
     data = bytearray(WHOLE)
     struct.pack_into("<I", data, at, number)
     refused(bytes(data), why)
 
 
-def test_two_libraries_of_one_id():
+def test_two_libraries_of_one_id() -> None:
     package = Package(2, "other")
     package.type(1, "string")
     package.put(0x10000, PLAIN, "a", Value(3, "a"))
@@ -59,7 +62,7 @@ def test_two_libraries_of_one_id():
         Resources([Table(made_tables.library(), "a"), Table(table([package]), "b")], device())
 
 
-def measured(work):
+def measured(work: Callable[[], object]) -> str:
     """What some work says, and that it takes no more than the limits."""
     tracemalloc.start()
     began = time.process_time()
@@ -73,28 +76,28 @@ def measured(work):
     return str(caught.value)
 
 
-def test_strings_over_each_other():
+def test_strings_over_each_other() -> None:
     """A pool whose strings all are one long text."""
     pool = Pool(is_utf8=False)
     pool.add("x" * 1000000)
-    data = pool.bytes()
+    data = pool.written()
     count = 4000
     head = struct.pack("<5I", count, 0, 0, 28 + 4 * count, 0)
     strings = table_writer.chunk(1, head, bytes(4 * count) + data[32:])
     package = Package(0x7F, "a")
     package.type(1, "string")
     package.put(0x10000, PLAIN, "a", Value(1, 0))
-    whole = table_writer.chunk(2, struct.pack("<I", 1), strings + package.bytes(Pool()))
-    found = Table(whole, "a.apk")
+    whole = table_writer.chunk(2, struct.pack("<I", 1), strings + package.written(Pool()))
+    texts = not_none(Table(whole, "a.apk").pool)
 
-    def read():
+    def read() -> None:
         for index in range(count):
-            found.pool.text(index)
+            texts.text(index)
 
     assert measured(read).startswith("a.apk: the strings of a pool lie over each other")
 
 
-def test_a_large_bag_many_times(monkeypatch):
+def test_a_large_bag_many_times(monkeypatch: pytest.MonkeyPatch) -> None:
     """All styles are one bag of many items."""
     monkeypatch.setattr(resources, "MAX_READ", 1 << 16)
     package = Package(0x7F, "a", "dense")
@@ -109,14 +112,14 @@ def test_a_large_bag_many_times(monkeypatch):
         struct.pack_into("<I", data, place + 84 + 4 * index, 0)
     found = Resources([Table(bytes(data), "a.apk")], device())
 
-    def read():
+    def read() -> None:
         for number in found.ids():
             found.style(number)
 
     assert measured(read) == "a.apk: more than %d values are read" % resources.MAX_READ
 
 
-def test_many_configurations():
+def test_many_configurations() -> None:
     """More types and configurations than a table may have."""
     package = Package(0x7F, "a")
     package.type(1, "string")
@@ -126,13 +129,13 @@ def test_many_configurations():
     assert "more than %d types and configurations" % tables.MAX_CHUNKS in measured(lambda: Table(data, "a.apk"))
 
 
-def archive(path, name, data):
+def archive(path: pathlib.Path, name: str, data: bytes) -> str:
     with zipfile.ZipFile(path, "w", zipfile.ZIP_DEFLATED) as file:
         file.writestr(name, data)
     return str(path)
 
 
-def test_archives(tmp_path):
+def test_archives(tmp_path: pathlib.Path) -> None:
     with pytest.raises(Failure, match="it has no resources.arsc$"):
         files.open_table(archive(tmp_path / "a.apk", "other", b""))
     broken = archive(tmp_path / "b.apk", "resources.arsc", WHOLE)
@@ -145,14 +148,14 @@ def test_archives(tmp_path):
         files.open_table(str(tmp_path / "none.apk"))
 
 
-def test_a_bomb(tmp_path):
+def test_a_bomb(tmp_path: pathlib.Path) -> None:
     bomb = archive(tmp_path / "c.apk", "resources.arsc", bytes(files.MAX_TABLE + 1))
     assert os.path.getsize(bomb) < 200000
     why = "its resources.arsc has more than %d bytes" % files.MAX_TABLE
     assert measured(lambda: files.open_table(bomb)).endswith(why)
 
 
-def test_a_long_list_of_files(tmp_path):
+def test_a_long_list_of_files(tmp_path: pathlib.Path) -> None:
     path = archive(tmp_path / "d.apk", "resources.arsc", WHOLE)
     with open(path, "r+b") as file:
         data = file.read()
