@@ -14,10 +14,6 @@ MYPY = ("--strict", "--no-error-summary")
 PYTHON_OF_MYPY = "/usr/bin/python3"
 PYTEST = "/usr/lib/python3/dist-packages/pytest/__init__.py"
 PACKAGE = os.path.join(TOP, "tools", "vindaesk")
-# modules of ci/ whose functions have no types yet
-UNTYPED = {"android_assets", "android_choices", "framework", "fuzz_resources", "made_apps", "made_tables",
-           "random_configurations", "resources", "table_writer", "test_resources_configuration", "test_resources_limits",
-           "test_resources_tables", "test_resources_themes"}
 # from the lowest; those of one row do not use each other
 LAYERS = (
     ("common",), ("provenance",), ("program",), ("scripts",), ("layouts", "resources"), ("pictures",), ("views",),
@@ -62,8 +58,7 @@ def types_of_checks() -> str:
     need("mypy")
     if subprocess.run([PYTHON_OF_MYPY, "-c", "import pytest"], stderr=subprocess.DEVNULL).returncode:
         raise Skipped(PYTEST)
-    found = [os.path.relpath(it, TOP) for it in glob.glob(os.path.join(TOP, "ci", "**", "*.py"), recursive=True)]
-    paths = [it for it in found if os.path.basename(it)[: -len(".py")] not in UNTYPED]
+    paths = [os.path.relpath(it, TOP) for it in glob.glob(os.path.join(TOP, "ci", "**", "*.py"), recursive=True)]
     return says_nothing("mypy", [*MYPY, "--cache-dir", "out/mypy-ci", *paths], MYPYPATH="tools:ci")
 
 
