@@ -53,7 +53,9 @@ def has_each_attribute(path: str) -> str:
     with place() as it, archives.opened(path) as app:
         whole, found = report(it, path)
         if whole is None:
-            return "status %d: %s" % found[::2]
+            # another one's app may have no layout, or be broken on purpose: that is a sentence
+            is_right = path not in (TRIPS, INBOX) and found[0] == 2 and found[2].count("\n") == 1
+            return "" if is_right else "status %d: %s" % found[::2]
         for layout in whole["layouts"]:
             for file in sorted({row["file"] for row in layout["elements"]}):
                 if file not in app.infos:
