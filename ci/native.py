@@ -5,7 +5,7 @@ of a process does not grow with its calls (native_calls.c).
 
     python3 ci/native.py fuzz COUNT      COUNT calls under the address sanitizer, which take some minutes a million
 
-The library is the one below out/native, where `tools/library` puts it, or below the folder that the variable
+The library is the one below out/native, where `vindaesk.building.library` puts it, or below the folder that the variable
 VINDAESK_NATIVE names. The checks are run where they are asked for by their name: `ci/checks native`.
 """
 import ctypes
@@ -52,7 +52,7 @@ def made() -> Tuple[str, str]:
     folder = os.environ.get("VINDAESK_NATIVE") or os.path.join(TOP, "out", "native")
     path = os.path.join(folder, "lib", "libvindaesk.so")
     if not os.path.exists(path):
-        raise Skipped(path, "there is no %s; tools/library makes it" % path)
+        raise Skipped(path, "there is no %s; vindaesk.building.library makes it" % path)
     return folder, path
 
 

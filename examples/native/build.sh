@@ -1,5 +1,5 @@
 #!/bin/sh
-# Builds the examples in C and in Java in the current folder, over the library that tools/library has made.
+# Builds the examples in C and in Java in the current folder, over the library of C, once that is made (docs/NATIVE.md).
 set -e
 top=$(cd "$(dirname "$0")/../.." && pwd)
 made=${VINDAESK_NATIVE:-$top/out/native}

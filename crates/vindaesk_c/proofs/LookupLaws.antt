@@ -1,18 +1,18 @@
 -- The words of a look-up.
-use Rattle.std.proofs.Common.{◌≡◌, ◌∙◌, ℕ, ◌<◌, true, false, List, [], ◌∷◌, ◌++◌, length, refl, subst, sym, ap}
+use Rattle.std.proofs.Common.{◌≡◌, ◌∙◌, ℕ, ◌<◌, true, false, List, [], ◌∷◌, length, refl, subst, sym, ap}
 use Rattle.std.specs.Prelude.{◌&&◌, IfOk, Option, Some, Result, Ok, Err, codes, is_some, nat_le, nat_lt, string_bytes, unwrap_or}
 use Rattle.std.specs.Char.{is_ascii_hexdigit}
 use Rattle.std.specs.Str.{IsUtf8}
 use Rattle.std.specs.declared.alloc.Global.{Global}
 use Rattle.std.specs.declared.string.String.{String}
-use Rattle.std.proofs.lemmas.List.{length-map, map-append}
+use Rattle.std.proofs.lemmas.List.{length-map}
 use Rattle.std.proofs.lemmas.Str.{IsUtf8-from_ascii}
 use Rattle.std.proofs.lemmas.Str.Ascii.{IsAscii-cons, IsAscii-nil}
 use Rattle.script_lines.specs.words.FileNames.{is_file_name}
 use Rattle.script_lines.specs.words.Names.{hex_of, hex_value}
 use Rattle.script_lines.proofs.readings.CommandLaws.{and-left, and-right}
 use Rattle.vindaesk_c.specs.Lookups.{IsWordOf, can_look_up}
-use Rattle.whole_tool.specs.Usage.{Lookup, are_ids, is_resource_id, resource_id, resource_ids, usage}
+use Rattle.whole_tool.specs.Usage.{Lookup, are_ids, resource_id, resource_ids, usage}
 
 -- eight digits
 
@@ -41,19 +41,6 @@ eight_ascii a b c d e f g h ha hb hc hd he hf hg hh =
 pub word_from : {E : Type 0} (r : Result (String Global) E) (id : ℕ) (text : List ℕ) → IfOk r (λ word. string_bytes word ≡ text) → IsWordOf id text → IfOk r (λ word. IsWordOf id (string_bytes word))
 word_from (Ok word) id text same is = subst (λ (bytes : List ℕ). IsWordOf id bytes) (sym same) is
 word_from (Err e) id text same is = same
-
--- one word more
-
-pub are_ids-push : (words : List (String Global)) (word : String Global) (id : ℕ) → are_ids words ≡ true → IsWordOf id (string_bytes word) → are_ids (words ++ word ∷ []) ≡ true
-are_ids-push [] word id all is = rw is.is_id refl
-are_ids-push (first ∷ words) word id all is =
-    let one : is_resource_id (string_bytes first) ≡ true = and-left (is_resource_id (string_bytes first)) (are_ids words) all in
-    let more : are_ids (words ++ word ∷ []) ≡ true = are_ids-push words word id (and-right (is_resource_id (string_bytes first)) (are_ids words) all) is in
-    rw one more
-
-pub resource_ids-push : (words : List (String Global)) (word : String Global) (id : ℕ) → IsWordOf id (string_bytes word) → resource_ids (words ++ word ∷ []) ≡ resource_ids words ++ id ∷ []
-resource_ids-push words word id is =
-    map-append (λ (w : String Global). resource_id (string_bytes w)) words (word ∷ []) ∙ ap (λ (v : ℕ). resource_ids words ++ v ∷ []) is.value
 
 -- the form of the words
 

@@ -20,9 +20,6 @@ append_rests a b s t same e = sym (drop_at a s (length b) same) ∙ ap (drop (le
 
 -- a length takes eight bytes, and can be read from them
 
-length-to_le_bytes : (n : ℕ) → length (to_le_bytes w64 n) ≡ 8
-length-to_le_bytes n = refl
-
 to_le_bytes_numbers : (n m : ℕ) (s t : List ℕ) → n < 2 ^ 64 → m < 2 ^ 64 → to_le_bytes w64 n ++ s ≡ to_le_bytes w64 m ++ t → n ≡ m
 to_le_bytes_numbers n m s t low high e =
     sym (from_le_bytes-to_le_bytes_8 n low)

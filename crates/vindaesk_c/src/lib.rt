@@ -5,7 +5,7 @@
 //! that into the caller's buffer.
 #![tactic(auto)]
 
-ghost use Rattle.std.specs.Prelude.{◌≡◌, ◌≢◌, ◌<◌, ◌≤◌, ◌↔◌, ◌⊎◌, [], ◌∷◌, length, IsFalse, if◌then◌else◌};
+ghost use Rattle.std.specs.Prelude.{◌≡◌, ◌≢◌, ◌<◌, ◌↔◌, ◌⊎◌, [], ◌∷◌, length, IsFalse, if◌then◌else◌};
 ghost use Rattle.script_lines.specs.words.FileNames.{is_file_name};
 ghost use Rattle.tool_io.specs.Fetched.{Files};
 ghost use Rattle.vindaesk_c.specs.Answer.{IsAnswer, LacksRoom};

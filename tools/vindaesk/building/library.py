@@ -1,24 +1,29 @@
-"""Makes the library of C from the proved crate `vindaesk_c`.
+"""Makes the library of C from the crate `vindaesk_c`, below out/native or below the folder that it is given:
+
+    PYTHONPATH=tools python3 -m vindaesk.building.library [FOLDER]
 
     FOLDER/include/vindaesk.h
     FOLDER/lib/libvindaesk.a, libvindaesk.so, libvindaesk.so.0
     FOLDER/lib/pkgconfig/vindaesk.pc
 
 Both libraries have the one object of the crate and the one of the kit that asks the C library for memory, and show no
-symbol but those of the header. The same sources and tools make the same bytes.
+symbol but those of the header. It needs the kit, `cc` and binutils; `rt lib` proves the crate, and each below it that
+`rt` itself has not built before.
 """
 import os
 import re
 import shutil
 import subprocess
+import sys
 import tempfile
-from typing import List
+from typing import List, Optional, Sequence
 
-from ..common import files, places
+from ..common import ending, files, places
 from ..common.failures import Failure, NOT_BUILT
 from ..common.places import TOP
 
 CRATE = os.path.join(TOP, "crates", "vindaesk_c")
+FOLDER = os.path.join(TOP, "out", "native")
 HEADER = os.path.join(TOP, "include", "vindaesk.h")
 # the version of the interface: another one can't take its place
 SONAME = "libvindaesk.so.0"
@@ -62,7 +67,7 @@ def requests() -> str:
 
 
 def joined(folder: str) -> str:
-    """One object of the crate and of the kit's requests for memory, in which other symbols than the header's are local."""
+    """One object of the crate and of the kit's requests for memory; other symbols than the header's are local."""
     archive = os.path.join(CRATE, "out", "libvindaesk_c.a")
     called(["ar", "x", archive, "vindaesk_c.o"], folder)
     called(["ar", "x", requests(), "heap.pic.o"], folder)
@@ -81,8 +86,8 @@ def make(folder: str) -> None:
     with tempfile.TemporaryDirectory(prefix="vindaesk-library-") as work:
         joined(work)
         called(["ar", "rcsD", "libvindaesk.a", "vindaesk.o"], work)
-        linked = ["cc", "-shared", "-nostartfiles", "-Wl,-soname," + SONAME, "-Wl,-z,relro,-z,now,-z,noexecstack", "-Wl,--build-id=sha1"]
-        called([*linked, "-o", SONAME, "vindaesk.o"], work)
+        flags = ["-nostartfiles", "-Wl,-soname," + SONAME, "-Wl,-z,relro,-z,now,-z,noexecstack", "-Wl,--build-id=sha1"]
+        called(["cc", "-shared", *flags, "-o", SONAME, "vindaesk.o"], work)
         for name in ("libvindaesk.a", SONAME):
             files.replace(os.path.join(library, name), files.read(os.path.join(work, name)))
     link = os.path.join(library, "libvindaesk.so")
@@ -92,3 +97,15 @@ def make(folder: str) -> None:
     files.replace(os.path.join(folder, "include", "vindaesk.h"), files.read(HEADER))
     version = places.version().split(" ")[1]
     files.replace(os.path.join(package, "vindaesk.pc"), (DESCRIPTION % version).encode())
+
+
+def main(words: Optional[Sequence[str]] = None) -> int:
+    given = sys.argv[1:] if words is None else words
+    folder = os.path.abspath(given[0]) if given else FOLDER
+    make(folder)
+    print("%s: include/vindaesk.h, lib/libvindaesk.a, lib/libvindaesk.so and lib/pkgconfig/vindaesk.pc" % folder)
+    return 0
+
+
+if __name__ == "__main__":
+    ending.call(main)
