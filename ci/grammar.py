@@ -217,9 +217,11 @@ ELEMENTS = (
     ("View", 'android:layout_height="1px" android:background="?01010036" />', '13 ThemeRef: %s: View in line 4: '
      'android:background="?01010036": this is a value of a theme, and there are no themes'),
     ("View", 'android:layout_height="1px" android:background="@7f010002" />', '14 BadValue: %s: View in line 4: '
-     'android:background="@7f010002": the attribute cannot have this value'),
+     'android:background="@7f010002": this resource is a dimension; here has to be a colour as #ff0080ff or a resource as '
+     '@7f050001'),
     ("View", 'android:layout_height="-1px" android:background="@7f010002" />', '14 BadValue: %s: View in line 4: '
-     'android:background="@7f010002": the attribute cannot have this value'),
+     'android:background="@7f010002": this resource is a dimension; here has to be a colour as #ff0080ff or a resource as '
+     '@7f050001'),
     ("View", 'android:layout_height="1px"><View android:layout_width="1px" android:layout_height="1px" /></View>',
      "21 NotGroup: %s: View in line 4: the view around it has no children"),
 )

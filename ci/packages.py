@@ -227,7 +227,7 @@ mount -t proc proc "$1/root/proc"
 mkdir "$1/root/given"
 cp "$2"/* "$1/root/given"
 """
-INSTALL = COPY + r"""chroot "$1/root" /bin/sh -e -c "$3"
+INSTALL = COPY + r"""PATH="$PATH:/usr/sbin:/sbin" chroot "$1/root" /bin/sh -e -c "$3"
 echo left:
 cd "$1/upper"
 find . -name given -prune -o -path '*vindaesk*' ! -type c -print
