@@ -22,8 +22,9 @@ from vindaesk.scripts import names, resource_names, script
 from vindaesk.testing import configurations
 
 EXAMPLES = os.path.join(TOP, "examples")
-# how many seconds each reader is given texts made at random, and how many of a processor anything small may take
-FUZZED = 8
+# how many texts made at random each reader is given, and how many apps `unpack`; the same ones each time
+TEXTS, ARCHIVES = 10000, 40
+# how many seconds of a processor anything small may take
 QUICK = 10
 HEAD = '<View xmlns:android="%s" android:layout_width="1px" android:layout_height="1px" ' % ANDROID
 
@@ -262,10 +263,8 @@ def fuzzed(name: str) -> str:
     """The first text made at random over which a reader ends otherwise than with a sentence."""
     act, texts, ends = seeds()[name]
     draw = random.Random(name)
-    until, count = time.monotonic() + FUZZED, 0
-    while time.monotonic() < until:
+    for _ in range(TEXTS):
         text = changed(draw, draw.choice(texts))
-        count += 1
         begun = time.process_time()
         try:
             act(text)
@@ -275,16 +274,16 @@ def fuzzed(name: str) -> str:
             return "%s: %s over %r" % (type(error).__name__, error, text[:2000])
         if time.process_time() - begun > QUICK:
             return "%r takes %.1f s" % (text[:2000], time.process_time() - begun)
-    return "" if count > 100 else "only %d texts were tried" % count
+    return ""
 
 
 def archives_at_random() -> str:
     """The same of apps, by the tool, which unpacks nothing outside of its folder."""
     with open(os.path.join(EXAMPLES, "inbox", "inbox.apk"), "rb") as file:
         app = file.read()
-    draw, until = random.Random(7), time.monotonic() + FUZZED
+    draw = random.Random(7)
     with place() as it:
-        while time.monotonic() < until:
+        for _ in range(ARCHIVES):
             it.put("a.apk", changed(draw, app))
             found = it.call("unpack", "a.apk", "made")
             if found[0] not in (0, 1, 2) or "Traceback" in found[2]:

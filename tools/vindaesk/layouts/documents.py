@@ -74,9 +74,17 @@ def unescaped(text: str) -> str:
     return ESCAPE.sub(lambda it: PLAIN.get(it[1]) or chr(int(it[1][1:], 16)), text)
 
 
+def number_in(digits: str, base: int = 10) -> int:
+    """A number of 32 bits. No dump has a greater one."""
+    found = int(digits, base)
+    if not 0 <= found < 1 << 32:
+        raise ValueError("'%s' has more than 32 bits" % digits)
+    return found
+
+
 def attribute_of(words: List[str], strings: Dict[str, str]) -> Attribute:
     """The attribute of a line `attr`."""
-    kind, word = int(words[4], 16), int(words[5], 16)
+    kind, word = number_in(words[4], 16), number_in(words[5], 16)
     value = Value(STRING, 0, strings["s%d" % word]) if kind == STRING else Value(kind, word)
     return Attribute(strings.get(words[1], ""), strings[words[2]], value, strings.get(words[3]))
 
@@ -91,11 +99,11 @@ def nodes_in(lines: List[str]) -> Iterator[Node]:
         elif first == "start":
             rows = lines[number + 1 : number + 1 + int(words[3])]
             attributes = [attribute_of(["attr", *row.split(" ")[1:]], strings) for row in rows]
-            yield Start(int(words[0]), strings.get(words[1], ""), strings[words[2]], attributes)
+            yield Start(number_in(words[0]), strings.get(words[1], ""), strings[words[2]], attributes)
         elif first == "end":
-            yield End(int(words[0]), strings.get(words[1], ""), strings[words[2]])
+            yield End(number_in(words[0]), strings.get(words[1], ""), strings[words[2]])
         elif first == "text":
-            yield Text(int(words[0]), strings.get(words[1], ""))
+            yield Text(number_in(words[0]), strings.get(words[1], ""))
         elif first[:1] == "s":
             strings[first] = unescaped(line[len(first) + 2 : -1])
 
