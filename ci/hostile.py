@@ -23,7 +23,7 @@ from vindaesk.testing import configurations
 
 EXAMPLES = os.path.join(TOP, "examples")
 # how many texts made at random each reader is given, and how many apps `unpack`; the same ones each time
-TEXTS, ARCHIVES = 10000, 40
+TEXTS, ARCHIVES = 40000, 40
 # how many seconds of a processor anything small may take
 QUICK = 10
 HEAD = '<View xmlns:android="%s" android:layout_width="1px" android:layout_height="1px" ' % ANDROID
