@@ -62,6 +62,8 @@ def reader() -> argparse.ArgumentParser:
     found.add_argument("--strict", action="store_true", help="status 1 where a view is not exact")
     found.add_argument("--out", metavar="DIR", help="writes scripts, compiled layouts, ids and the report there")
     found.add_argument("--picture", metavar="OUT.png", help="writes the picture of one layout")
+    found.add_argument("--scale", metavar="N", type=arguments.count(1, 8), default=1,
+                       help="a pixel of the picture is N by N, 1 to 8")
     found.add_argument("--page", metavar="OUT.html", help="writes a page of one layout")
     found.add_argument("--tree", action="store_true",
                        help="prints the views of layouts; ~ is before one that is not exact")
@@ -133,7 +135,7 @@ def written(screens: List[Screen], given: argparse.Namespace) -> None:
         results.write(given.out, screens)
     good = [it for it in screens if not it.why]
     if given.picture and good:
-        files.write(given.picture, app_views.picture(good[0]))
+        files.write(given.picture, app_views.picture(good[0], given.scale))
     if given.page and good:
         files.write(given.page, app_views.whole_page(good[0]))
 
