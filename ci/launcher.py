@@ -37,7 +37,7 @@ WRONG: List[List[str]] = [[], ["gen"], ["gen", "0"], ["gen", "101"], ["gen", "01
          ["lookup", "a", "7f0500000"], ["lookup", ".a", "7f050000"], ["lookup", "a", *["7f050000"] * 65],
          ["lookup", "a", "7f050000", ""], ["focus"], ["focus", "left"], ["focus", "left", "v1", "x"], ["focus", "Left", "v1"],
          ["focus", "left", "v01"], ["focus", "left", "v12345678901"], ["focus", "up", "@"], ["focus", "up", "@123456789"],
-         ["focus", "up", "root"], ["stack", "x"], ["stacks"], ["--help", "x"], ["explain", "x"], ["explain", "31", "x"], ["explain", ""],
+         ["focus", "up", "root"], ["stack", "x"], ["stacks"], ["--help", "x"], ["explain", "nothing"], ["explain", "31", "x"], ["explain", ""],
          ["--prove"], ["--prove", "gen", "0"], ["-x"], ["tre"], ["main"], ["arguments"], ["x\ny"]]
 # words that are explained, and what is said of them
 EXPLAINED = {
@@ -46,6 +46,12 @@ EXPLAINED = {
     "gravity": "The line gravity V self G sets where V is placed in its parent: none, or words joined by |, at most",
     "layout_alignTop": "The attribute layout_alignTop of a layout file takes: reference (id).\nIt sets: the rule",
     "layout_marginEnd": "The attribute layout_marginEnd of a layout file takes: length -1048575..1048575.\n",
+    "Button": "The class Button is none of the program's six, View, TextView, FrameLayout, LinearLayout, RelativeLayout, ScrollView. tools/app "
+              "makes a TextView of it; its bounds are exact.\n",
+    "androidx.viewpager2.widget.ViewPager2": "The class androidx.viewpager2.widget.ViewPager2 is none of the program's six",
+    "style": "style: the program alone: passed over. With tools/app: put in place by the theme.\n",
+    "android:textSize": "textSize: the program alone: passed over: a character is 6 by 8 pixels. With tools/app: reported as text.\n",
+    "cursorVisible": "The attribute cursorVisible of Android has no effect on the program, which counts it as ignored.",
 }
 
 

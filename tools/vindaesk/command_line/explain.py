@@ -1,5 +1,6 @@
 """What a refusal or a fault means, by its number or its name; or a line, by its first word; or an attribute of a layout
-file. Without a word, all that can be explained is listed.
+file; or what becomes of a class or an attribute of Android that the program does not take. Without a word, all that can be
+explained is listed, except names of Android.
 
 The status is 0, or 2 where a word means nothing.
 """
@@ -19,8 +20,18 @@ USE = Use(Purpose.CHECK, "vindaesk explain NoView", "what a refusal, a line or a
 def reader() -> argparse.ArgumentParser:
     """The arguments."""
     found = arguments.parser(__doc__)
-    found.add_argument("word", metavar="WORD", nargs="?", help="a number, as 31, or a name, as NoView or gravity")
+    found.add_argument("word", metavar="WORD", nargs="?", help="a number, as 31, or a name, as NoView, gravity or Button")
     return found
+
+
+def explained(tables: explanations.Tables, word: str) -> str:
+    """What there is to say of a word; nothing where it means nothing. What names of Android need is loaded for these alone."""
+    found = explanations.explained(tables, word)
+    if found:
+        return found
+    from ..apps import android_names
+
+    return android_names.explained(word)
 
 
 def main(words: Optional[Sequence[str]] = None) -> int:
@@ -28,7 +39,7 @@ def main(words: Optional[Sequence[str]] = None) -> int:
     if given[:1] in (["-h"], ["--help"], ["--version"]):
         reader().parse_args(given)
     tables = explanations.read()
-    text = explanations.explained(tables, given[0]) if len(given) == 1 else ""
+    text = explained(tables, given[0]) if len(given) == 1 else ""
     if not given:
         text = explanations.every(tables)
     if not text:

@@ -22,7 +22,7 @@ from .commands import Command
 LIBRARY = "lib/vindaesk"
 PROGRAM = "view_tool"
 # what the tools read beside their modules
-READ = ("VERSION", "docs/SCRIPT.md", "docs/FORMATS.md")
+READ = ("VERSION", "docs/SCRIPT.md", "docs/FORMATS.md", "docs/COMING-FROM-ANDROID.md")
 PROVENANCE = "dist/PROVENANCE"
 # what users read
 PAGES = ("README.md", "LICENSE", "CHANGELOG.md", "docs", "examples")
