@@ -81,20 +81,20 @@ def matching(form: str, *folder: str) -> List[str]:
 
 def worked() -> Iterator[Call]:
     """Each worked call: its words, its script, and the folder where its files are."""
-    for path in matching("*.script", "examples"):
-        yield ["run"], files.read(path), EXAMPLES
-    for path in matching("*.stack", "examples"):
-        yield ["stack"], files.read(path), EXAMPLES
+    for path in [*matching("*.script", "examples"), *matching("*.script", "ci", "worked")]:
+        yield ["run"], files.read(path), os.path.dirname(path)
+    for path in [*matching("*.stack", "examples"), *matching("*.stack", "ci", "worked")]:
+        yield ["stack"], files.read(path), os.path.dirname(path)
     for path in [*matching("*.xml", "examples"), *matching("*.xml", "ci", "worked")]:
         yield ["dump", os.path.basename(path)], b"", os.path.dirname(path)
     for name in ("resources.arsc", "utf16.arsc"):
         folder = os.path.join(EXAMPLES, "app")
         yield ["lookup", name, "7f010000", "7f020000", "7f030001", "00000000"], b"", folder
-    for path in [*matching("*.md", "docs"), *matching("*.md", "ci", "worked")]:
+    for path in matching("*.md", "docs"):
         with open(path, encoding="utf-8") as page:
             for _, form, lines in pages.blocks(page.read().splitlines()):
-                if form[:1] in (["script"], ["stack"]):
-                    yield ["run" if form[0] == "script" else "stack"], pages.text(lines), TOP
+                if form[:1] == ["script"]:
+                    yield ["run"], pages.text(lines), TOP
 
 
 def by_library(words: List[str], script: bytes, folder: str) -> native.Answer:

@@ -3,9 +3,6 @@
 A block is between two lines of three backticks, the first of which names its form:
 
     script, then answer      a script, and what `./vindaesk run` writes over it
-    stack, then answer       a script for a stack of windows, and what `./vindaesk stack` writes over it
-    questions                after the answer of a script: lines `SIDE V`, each with what `./vindaesk focus SIDE V` writes
-                             after that answer; the status is 1 where that is refused, and else the script's
     command, then answer     shell commands at the top of the repository, and what they write
     hex, then answer         the bytes of a layout file, and what `dump` writes of it; what follows a # is a remark
     table ID .., then answer the same of a resource table, and what `lookup` writes of these ids
@@ -24,7 +21,7 @@ import glob
 import os
 import tempfile
 from functools import partial
-from typing import Callable, Dict, Iterable, Iterator, List, Optional, Tuple
+from typing import Callable, Dict, Iterable, Iterator, List, Tuple
 
 from running import PROGRAM, TOP, Check, Checks, difference, run
 from vindaesk.common import files
@@ -60,18 +57,8 @@ def text(lines: Iterable[str]) -> bytes:
     return "".join(line + "\n" for line in lines).encode()
 
 
-def script(words: List[str], lines: List[str], answer: bytes, status: int) -> str:
-    return difference(answer, status, *run([PROGRAM, *words], text(lines), TOP))
-
-
-def questions(lines: List[str], answer: bytes, status: int, asked: List[str]) -> str:
-    for question in asked:
-        words, _, reply = (part.strip() for part in question.partition(ARROW))
-        ended = 1 if ": refused " in reply else status
-        why = script(["focus", *words.split(" ")], lines, answer + text([reply]), ended)
-        if why:
-            return "'%s': %s" % (words, why)
-    return ""
+def script(lines: List[str], answer: bytes, status: int) -> str:
+    return difference(answer, status, *run([PROGRAM, "run"], text(lines), TOP))
 
 
 def command(lines: List[str], answer: bytes, status: int) -> str:
@@ -143,7 +130,7 @@ def dialogue(lines: List[str], status: int) -> str:
 
 
 FORMS: Dict[str, Callable[[List[str], bytes, int], str]] = {
-    "script": partial(script, ["run"]), "stack": partial(script, ["stack"]), "command": command, "hex": layout_file,
+    "script": script, "command": command, "hex": layout_file,
 }
 
 
@@ -157,13 +144,10 @@ def checks_of(page: str) -> Iterator[Tuple[str, int, Check]]:
     with open(os.path.join(TOP, page), encoding="utf-8") as file:
         found: List[Block] = [*blocks(file.read().splitlines()), (0, ["end"], [])]
     is_answered = False
-    asked: Optional[Tuple[List[str], bytes, int]] = None
     for (number, words, lines), (_, next_words, next_lines) in zip(found, found[1:]):
         form = words[0] if words else "without a name"
         if is_answered:
             is_answered = False
-        elif form == "questions" and asked:
-            yield page, number, partial(questions, *asked, lines)
         elif form == "dialogue":
             yield page, number, partial(dialogue, lines, status_of(words))
         elif form == "source" and len(words) == 2:
@@ -175,9 +159,7 @@ def checks_of(page: str) -> Iterator[Tuple[str, int, Check]]:
             yield page, number, partial(same_file, lines, words[1])
         elif form in FORMS and next_words[:1] == ["answer"]:
             is_answered = True
-            given = (lines, text(next_lines), status_of(next_words))
-            asked = given if form == "script" else None
-            yield page, number, partial(FORMS[form], *given)
+            yield page, number, partial(FORMS[form], lines, text(next_lines), status_of(next_words))
         elif form != "drawing" and (form, lines) != ("gate", [".ci/run"]):
             yield page, number, partial("a block '{}', as it is here, has no form that can be run".format, form)
 

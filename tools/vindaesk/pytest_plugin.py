@@ -25,13 +25,13 @@ from .common.failures import Failure
 from .pictures import png
 from .session import Session
 from .session.session import Bounds
-from .testing import cases, configurations, evidence, report, trials
-from .testing.cases import Case, Pictures
+from .testing import comparing, configurations, evidence, kinds, report, trials
+from .testing.case import Case, Pictures
 from .testing.evidence import Evidence, Region
+from .testing.kind_scripts import SCRIPT
 from .testing.report import Failed, Sum
 from .testing.trials import Task
 
-ENDINGS = (cases.SCRIPT, cases.LAYOUT)
 # the attribute of a report of pytest that has what a failure left; it goes from process to process as JSON
 LEFT = "vindaesk"
 
@@ -82,11 +82,12 @@ class Unlike(Exception):
 def is_collected(path: pathlib.Path, parent: pytest.Collector) -> bool:
     """Whether a file is looked at: a script that has an answer or configurations, or that was named, since others that
     end alike may be of something else."""
-    if path.suffix not in ENDINGS:
+    ending = kinds.ending_of(str(path))
+    if ending is None:
         return False
     is_named = any(os.path.realpath(it.split("::")[0]) == os.path.realpath(path) for it in parent.config.args)
-    has_answer = os.path.exists(str(path)[: -len(path.suffix)] + ".answer")
-    has_configurations = path.suffix == cases.SCRIPT and bool(configurations.of_script(str(path)))
+    has_answer = os.path.exists(str(path)[: -len(ending)] + ".answer")
+    has_configurations = path.suffix == SCRIPT and bool(configurations.of_script(str(path)))
     return is_named or has_answer or has_configurations
 
 
@@ -101,7 +102,7 @@ class CaseFile(pytest.File):
     """A script, or a layout that is printed."""
 
     def collect(self) -> Iterator["CaseItem"]:
-        for case in cases.cases_of(str(self.path)):
+        for case in kinds.cases_of(str(self.path)):
             name = case.configuration.name if case.configuration else self.path.suffix[1:]
             yield CaseItem.from_parent(self, name=name, case=case)
 
@@ -210,7 +211,7 @@ def assert_picture(request: pytest.FixtureRequest, vindaesk_session: Session) ->
         found = session.picture()
         wanted = png.read(files.read(path), path) if os.path.exists(path) else None
         missing = "there is no %s; --vindaesk-accept writes it" % name
-        why = cases.compared(name, wanted, found, tolerance) if wanted else missing
+        why = comparing.compared(name, wanted, found, tolerance) if wanted else missing
         if why and request.config.getoption("vindaesk_accept"):
             files.replace(path, png.written(found))
         elif why:

@@ -1,43 +1,54 @@
-"""Runs each NAME.script of folders, and of the folders in them, and compares what it writes with NAME.answer.
+"""Runs the stored cases of folders, and of the folders in them, and compares what they write with their answers.
 
-The status has to be that of NAME.status, or 0 without that file, and the picture of the last frame that of NAME.png
-where there is one. With NAME.toml beside it, or vindaesk.toml in its folder, a script is tried in each configuration of
-that file, with NAME@CONFIGURATION.answer and so on. A layout file NAME.xml that has an answer, and no script of its
-name, is printed by `dump`. A script without an answer fails.
+A case is a script NAME.script, or NAME.stack for a stack of windows; NAME.args has the words of another call over it, as
+`focus left v2`, or of one without a script, as `lookup resources.arsc 7f010000`; and a layout file NAME.xml that has an
+answer, and nothing else of its name, is printed by `dump`. The answer has to be that of NAME.answer, the status that of
+NAME.status, or 0 without that file, and the picture of the last frame that of NAME.png where there is one. With NAME.toml
+beside it, or vindaesk.toml in its folder, a script is tried in each configuration of that file, with
+NAME@CONFIGURATION.answer and so on. A case without an answer fails.
 
-Of each that fails a unified diff, or a sentence, is written, and with --report a page with its pictures. The last line
-is `N passed, M failed`. A terminal shows on standard error how many are done. The status is 0 where all passed, 1 where
-one failed, and 2 where there was nothing to run.
+Of each that fails a unified diff, or a sentence, is written as soon as it is known, and with --report a page with its
+pictures. A case that passed is not run again as long as nothing has changed on which that depends: the program, the
+tools, and the files. The last line is `N passed, M failed`. A terminal shows on standard error how many are done. The
+status is 0 where all passed, 1 where one failed, and 2 where there was nothing to run. docs/FARMS.md says how several
+machines share the cases.
 """
 import argparse
 import contextlib
 import os
-from concurrent.futures import ThreadPoolExecutor
-from typing import Dict, Generator, List, Optional, Sequence, Set, Tuple
+import tempfile
+import time
+from typing import Dict, List, Optional, Sequence
 
-from ..common import failures, files, messages, progress
+from ..common import failures, files, messages, places, progress
 from ..common.failures import Failure
 from ..program import process
-from ..testing import cases, junit, last_failures, report, selection, trials
-from ..testing.cases import Case
+from ..testing import finding, kept, kinds, last_failures, parts, report, selection, suite
+from ..testing.case import Case
 from ..testing.configurations import Configuration
+from ..testing.kept import Kept
+from ..testing.parts import Part
 from ..testing.report import Failed, Sum
+from ..testing.suite import Suite
 from ..testing.trials import Result, Task
 from . import arguments, matrix
 from .uses import Purpose, Use
 
 USE = Use(Purpose.CHECK, "vindaesk runall .", "runs stored scripts, and compares what they write with their answers")
+FAMILIES = ("xunit1", "xunit2")
+# how many cases that no report has are listed one by one
+MOST_LISTED = 20
 
 
-def shard(word: str) -> Tuple[int, int]:
-    """The two numbers of I/N."""
-    parts = word.split("/")
-    if len(parts) != 2 or not all(it.isascii() and it.isdigit() and len(it) < 7 for it in parts):
+def shard(word: str) -> Part:
+    """The part of I/N."""
+    numbers = word.split("/")
+    if len(numbers) != 2 or not all(it.isascii() and it.isdigit() and len(it) < 7 for it in numbers):
         raise argparse.ArgumentTypeError("'%s' is not of the form I/N" % word)
-    place, of = map(int, parts)
+    place, of = map(int, numbers)
     if not 1 <= place <= of:
         raise argparse.ArgumentTypeError("'%s': I is 1 to N" % word)
-    return place, of
+    return Part(place - 1, of)
 
 
 def reader() -> argparse.ArgumentParser:
@@ -52,14 +63,28 @@ def reader() -> argparse.ArgumentParser:
                        help="writes today's answers, statuses and pictures; of all cases that fail, or of these")
     found.add_argument("--accept-new", action="store_true", help="writes them for cases that have none yet")
     found.add_argument("--report", metavar="DIR", help="writes a page of what failed, with pictures")
-    found.add_argument("--jobs", metavar="N", type=arguments.count(1, 512), default=os.cpu_count() or 1,
+    found.add_argument("--jobs", metavar="N", type=arguments.count(1, 512), default=suite.jobs_here(),
                        help="how many run at once; as many as there are processors")
-    found.add_argument("--shard", metavar="I/N", type=shard, default=(1, 1), help="only the I-th of N parts, I from 1")
-    found.add_argument("--junit", metavar="OUT.xml", help="writes a report in the form of JUnit")
     found.add_argument("--timeout", metavar="S", type=arguments.count(1, 86400), default=60,
                        help="seconds that one script may take; 60")
+    add_farms(found)
     matrix.add(found)
     return found
+
+
+def add_farms(to: argparse.ArgumentParser) -> None:
+    """The arguments for several machines, and for many runs."""
+    group = to.add_argument_group("farms", "what is kept, and what several machines share; docs/FARMS.md")
+    group.add_argument("--cache", metavar="DIR", help="where it is kept what passed; a folder of the user's cache")
+    group.add_argument("--no-cache", action="store_true", help="runs each case, and keeps nothing")
+    group.add_argument("--shard", metavar="I/N", type=shard, help="only the I-th of N parts, I from 1")
+    group.add_argument("--junit", metavar="OUT.xml", help="writes a report in the form of JUnit")
+    group.add_argument("--junit-family", choices=FAMILIES, default=FAMILIES[0],
+                       help="the names of pytest: xunit2 is strict, without the attribute file")
+    group.add_argument("--merge", metavar="PART.xml", nargs="+", default=[],
+                       help="runs nothing: makes one report of those of parts, and says what is in none")
+    group.add_argument("--of", metavar="DIR", dest="whole", nargs="+", default=[],
+                       help="with --merge: the folders whose cases the reports should have")
 
 
 def given_by(words: Optional[Sequence[str]]) -> argparse.Namespace:
@@ -70,23 +95,25 @@ def given_by(words: Optional[Sequence[str]]) -> argparse.Namespace:
         given.folders, given.accept = given.accept, []
     if given.junit == "-":
         parser.error("--junit takes a file: standard output has the list of cases")
-    if not given.folders:
+    if bool(given.merge) != bool(given.whole) or (given.merge and given.folders):
+        parser.error("--merge PART.xml .. needs --of DIR .., and no other folders")
+    if not given.folders and not given.merge:
         parser.error("the following arguments are required: DIR")
     return given
 
 
 def found_in(folders: Sequence[str], of: Optional[List[Configuration]]) -> List[Case]:
     """The cases of folders."""
-    found = [case for folder in folders for case in cases.cases_in(folder, of)]
+    found = finding.cases_of_all(folders, of)
     if not found:
         raise Failure("there is no script in %s" % " ".join(folders), failures.NOT_RUN)
-    for path in cases.orphans(found) if of is None else ():
+    for path in finding.orphans(found) if of is None else ():
         messages.say("%s is of no configuration of its script" % path)
     return found
 
 
-def chosen(given: argparse.Namespace, found: List[Case]) -> List[Case]:
-    """The cases that are to be run."""
+def chosen(given: argparse.Namespace, found: List[Case], only: str) -> List[Case]:
+    """The cases that are to be run. A part may be empty."""
     wanted = [case for case in found if selection.has_word(case, given.words)]
     if not wanted:
         raise Failure("no name of %d cases has %s" % (len(found), " or ".join(given.words)), failures.NOT_RUN)
@@ -94,90 +121,179 @@ def chosen(given: argparse.Namespace, found: List[Case]) -> List[Case]:
         wanted = selection.meant(wanted, given.accept)
     if given.failed:
         wanted = last_failures.among(wanted)
-    place, of = given.shard
-    mine = wanted[place - 1 :: of]
-    if wanted and not mine:
-        why = "nothing falls to shard %d of %d: there are %d scripts" % (place, of, len(wanted))
-        raise Failure(why, failures.NOT_RUN)
-    return mine
+        if not wanted:
+            messages.say("none of these cases failed when it was run last")
+    if only:
+        wanted = [case for case in wanted if selection.is_meant(case, only) or only in case.name()]
+    return parts.of_part(wanted, given.shard)
 
 
-def show(result: Result, line: progress.Line) -> None:
-    """Writes how a case went, where there is something to say, in the place of the line of progress."""
-    if result.why or result.is_accepted:
-        line.clear()
-        how = "failed: %s\n%s" % (result.case.name(), result.why) if result.why else "accepted: " + result.case.name()
-        print(how, flush=True)
+def with_variables(given: argparse.Namespace) -> parts.Asked:
+    """Adds to the arguments what the variables of Bazel's test protocol say; a call that says otherwise is right."""
+    asked = parts.by_variables()
+    given.shard = given.shard or asked.part or parts.WHOLE
+    given.junit = given.junit or asked.report or None
+    if asked.folder:
+        tempfile.tempdir = asked.folder
+        given.no_cache = given.no_cache or not given.cache
+    return asked
+
+
+def kept_for(given: argparse.Namespace) -> Optional[Kept]:
+    """Where it is kept what passed; without an option, where that can be."""
+    if given.no_cache:
+        return None
+    found = Kept(given.cache or kept.default_folder())
+    try:
+        found.prepare()
+    except Failure as failure:
+        if given.cache:
+            raise
+        messages.say("nothing is kept: %s" % failure)
+        return None
+    return found
+
+
+def text_of(result: Result) -> str:
+    """How a case went, where there is something to say."""
+    name = messages.printable(result.case.name())
+    if result.why:
+        rows = [messages.printable(row) for row in result.why.split("\n")]
+        return "failed: %s\n%s\n" % (name, "\n".join(rows))
+    return "accepted: %s\n" % name if result.is_accepted else ""
 
 
 def tasks_of(given: argparse.Namespace, mine: List[Case]) -> List[Task]:
     """What is to be done."""
-    places: Dict[Case, str] = report.places(mine, given.report) if given.report else {}
+    where: Dict[Case, str] = report.places(mine, given.report) if given.report else {}
     accepts_all = given.accept is not None
     return [
-        Task(case, given.timeout, accepts_all or (given.accept_new and case.is_new()), places.get(case, ""))
+        Task(case, given.timeout, accepts_all or (given.accept_new and kinds.is_new(case)), where.get(case, ""))
         for case in mine
     ]
 
 
-def results_of(given: argparse.Namespace, tasks: List[Task]) -> Generator[Result, None, None]:
-    """How each case goes, in their order, as soon as that is known."""
-    with ThreadPoolExecutor(given.jobs) as pool, process.stopping():
-        yield from pool.map(trials.tried, tasks)
-
-
-def run(given: argparse.Namespace, mine: List[Case]) -> List[Result]:
+def run(given: argparse.Namespace, whole: Suite) -> None:
     """Runs the cases, and writes how they go."""
-    results: List[Result] = []
-    failed, line = 0, progress.Line()
-    line.show(progress.bar(0, len(mine)))
-    with contextlib.closing(results_of(given, tasks_of(given, mine))) as found:
-        for result in found:
-            results.append(result)
-            failed += bool(result.why)
-            show(result, line)
-            line.show(progress.bar(len(results), len(mine)) + (", %d failed" % failed if failed else ""))
+    failed, line, count = 0, progress.Line(), len(whole.tasks)
+    line.show(progress.bar(0, count))
+    with contextlib.closing(whole.run(given.jobs)) as results:
+        for done, result in enumerate(results, 1):
+            failed += bool(result.problem)
+            text = text_of(result)
+            if text:
+                line.clear()
+                print(text, end="", flush=True)
+            line.show(progress.bar(done, count) + (", %d failed" % failed if failed else ""))
     line.clear()
-    return results
 
 
-def write_report(given: argparse.Namespace, results: List[Result]) -> None:
-    """Writes the page of what failed."""
-    command = [messages.tool("runall"), *given.folders, *matrix.words(given), "--accept"]
-    failed = [
-        Failed(it.case.name(), it.why, it.seconds, it.evidence, report.command_to_accept(command, [it.case.name()]))
-        for it in results if it.evidence
-    ]
-    passed, seconds = sum(not it.why for it in results), sum(it.seconds for it in results)
-    path = report.write(given.report, failed, Sum(passed, seconds, report.command_to_accept(command, [])))
-    if failed:
-        messages.say("%s shows what failed" % path)
+class Ending:
+    """What is written after a run, also after one that was ended before its last case."""
+
+    def __init__(self, given: argparse.Namespace, whole: Suite):
+        self.given = given
+        self.whole = whole
+        self.begun, self.first = time.time(), time.monotonic()
+
+    def keep(self) -> None:
+        """Notes what failed, and bounds what is kept."""
+        found = self.whole.found.values()
+        last_failures.keep([it.case for it in found if not it.problem], [it.case for it in found if it.problem])
+        if self.whole.kept:
+            self.whole.kept.tidy(it.key for it in found if it.key)
+        lost = [it.lost for it in found if it.lost]
+        if lost:
+            messages.say("%d results could not be kept: %s" % (len(lost), lost[0]))
+
+    def write_page(self) -> None:
+        """Writes the page of what failed."""
+        given, results = self.given, self.whole.results()
+        command = [messages.tool("runall"), *given.folders, *matrix.words(given), "--accept"]
+        failed = [
+            Failed(it.case.name(), it.why, it.seconds, it.evidence, report.command_to_accept(command, [it.case.name()]))
+            for it in results if it.evidence
+        ]
+        passed, seconds = sum(not it.why for it in results), sum(it.seconds for it in results)
+        path = report.write(given.report, failed, Sum(passed, seconds, report.command_to_accept(command, [])))
+        if failed:
+            messages.say("%s shows what failed" % path)
+
+    def write_junit(self) -> None:
+        """Writes the report for servers."""
+        from ..testing import junit
+
+        place, of = self.given.shard
+        known = sum(it.is_known for it in self.whole.found.values())
+        about = junit.About(self.begun, time.monotonic() - self.first, {
+            "vindaesk.version": places.version(), junit.PART: "%d/%d" % (place + 1, of), "vindaesk.known": "%d" % known})
+        files.replace(self.given.junit, junit.written(self.whole.results(), about, self.given.junit_family))
+
+    def write_sum(self) -> None:
+        """Prints the last line."""
+        results = self.whole.results()
+        not_run = len(results) - len(self.whole.found)
+        if not_run:
+            messages.say("%d cases were not run, and count as failed" % not_run)
+        print_sum(len(results), sum(bool(it.problem) for it in results))
 
 
-def finish(given: argparse.Namespace, results: List[Result]) -> int:
-    """Prints the sum, and writes the reports. Returns the status."""
-    failed: Set[Case] = {it.case for it in results if it.why}
-    last_failures.keep([it.case for it in results if not it.why], failed)
-    if given.report:
-        write_report(given, results)
-    print("%d passed, %d failed" % (len(results) - len(failed), len(failed)), flush=True)
+def print_sum(count: int, failed: int) -> None:
+    """Prints how many cases passed, and how many did not."""
+    print("%d passed, %d failed" % (count - failed, failed), flush=True)
+
+
+def run_all(given: argparse.Namespace, whole: Suite) -> int:
+    """Runs the cases. Whatever ends that, all is written that is known then."""
+    at_end = Ending(given, whole)
+    with contextlib.ExitStack() as stack:
+        # the last one is called first
+        stack.callback(at_end.write_sum)
+        if given.junit:
+            stack.callback(at_end.write_junit)
+        if given.report:
+            stack.callback(at_end.write_page)
+        stack.callback(at_end.keep)
+        run(given, whole)
+    return failures.WRONG if any(it.problem for it in whole.results()) else 0
+
+
+def merge(given: argparse.Namespace) -> int:
+    """Makes one report of several."""
+    from ..testing import junit, merging
+
+    cases = found_in(given.whole, matrix.configurations_of(given))
+    found = merging.merged(given.merge, cases)
+    for sentence in found.wrong:
+        messages.say(sentence)
+    for names, what in ((found.twice, "in more than one report"), (found.others, "in a report, and no case")):
+        if names:
+            messages.say("%d cases are %s, the first is %s" % (len(names), what, names[0]))
+    for case in found.missing[:MOST_LISTED]:
+        print("failed: %s\n%s" % (messages.printable(case.name()), merging.NOWHERE))
+    if found.missing[MOST_LISTED:]:
+        print("and %d more cases are in no report" % len(found.missing[MOST_LISTED:]))
     if given.junit:
-        files.replace(given.junit, junit.written(results))
-    return failures.WRONG if failed else 0
+        about = junit.About(time.time(), merging.seconds(found), {"vindaesk.version": places.version()})
+        files.replace(given.junit, junit.suite_of(found.testcases, about))
+    failed = sum(not merging.is_passed(it) for it in found.testcases)
+    print_sum(len(found.testcases), failed)
+    return failures.WRONG if failed or found.wrong else 0
 
 
 def main(words: Optional[Sequence[str]] = None) -> int:
     given = given_by(words)
     arguments.write_any_text()
-    mine = chosen(given, found_in(given.folders, matrix.configurations_of(given)))
+    if given.merge:
+        return merge(given)
+    asked = with_variables(given)
+    mine = chosen(given, found_in(given.folders, matrix.configurations_of(given)), asked.only)
     if given.list:
-        print("".join(case.name() + "\n" for case in mine), end="")
+        print("".join(messages.printable(case.name()) + "\n" for case in mine), end="")
         return 0
-    if not mine:
-        messages.say("none of these cases failed when it was run last")
     process.path()
     if given.report:
         report.prepare(given.report)
     if given.junit:
         files.check_place(given.junit)
-    return finish(given, run(given, mine))
+    return run_all(given, Suite(tasks_of(given, mine), kept_for(given)))

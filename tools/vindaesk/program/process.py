@@ -1,24 +1,13 @@
 """Finds the program and runs it for a tool."""
-import contextlib
 import functools
 import signal
 import subprocess
 import tempfile
-import threading
-from typing import Iterator, List, Optional, Set, Tuple
+from typing import Iterator, List, Tuple
 
 from ..common.failures import Failure
 from ..provenance import choice
 from . import statuses
-
-# what `ran` runs, and whether it is to run no more
-RUNNING: Set["subprocess.Popen[bytes]"] = set()
-STOPPED = threading.Event()
-
-
-class Stopped(BaseException):
-    """The program was ended, since the tool ends."""
-
 
 def path() -> str:
     """The program: the one that the variable VINDAESK_PROGRAM names, or the one of this place (choice.py)."""
@@ -39,33 +28,16 @@ def failed(status: int) -> Failure:
     return Failure("the program ended with status %d: %s" % (status, statuses.short(status)), status)
 
 
-def ran(words: List[str], given: bytes, folder: str, seconds: Optional[float] = None) -> Tuple[bytes, int]:
+def ran(words: List[str], given: bytes, folder: str) -> Tuple[bytes, int]:
     """What the program writes over a script, and its status: below 0 for a signal, as `subprocess` has it."""
     with subprocess.Popen(
         [path(), *words], stdin=subprocess.PIPE, stdout=subprocess.PIPE, stderr=subprocess.DEVNULL, cwd=folder
     ) as started:
-        RUNNING.add(started)
         try:
-            written, _ = started.communicate(given, timeout=0 if STOPPED.is_set() else seconds)
+            written, _ = started.communicate(given)
         finally:
             started.kill()
-            RUNNING.remove(started)
-    if STOPPED.is_set():
-        raise Stopped
     return written, started.returncode
-
-
-@contextlib.contextmanager
-def stopping() -> Iterator[None]:
-    """Where an exception leaves this, the programs that other threads run by `ran` end, and they run no others."""
-    STOPPED.clear()
-    try:
-        yield
-    except BaseException:
-        STOPPED.set()
-        for it in list(RUNNING):
-            it.kill()
-        raise
 
 
 def lines_of(script: bytes, folder: str, form: str = "run") -> Iterator[bytes]:

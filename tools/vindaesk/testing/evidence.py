@@ -5,14 +5,12 @@ from functools import partial
 from typing import Callable, Dict, List, NamedTuple, Optional
 
 from ..common import files
-from ..common.failures import Failure
 from ..pictures import difference, png
 from ..pictures.png import Picture
-from ..scripts.replies import Refused
 from ..views import placement
 from ..views.placement import Placed
-from . import cases
-from .cases import Case, Pictures
+from . import comparing, kinds
+from .case import Case, Pictures
 
 WANTED, FOUND, DIFFERENCE = ".wanted.png", ".found.png", ".difference.png"
 # how many regions are listed
@@ -41,15 +39,6 @@ class Evidence(NamedTuple):
     def file(self, ending: str) -> Optional[str]:
         """A file by its ending, where it is there."""
         return self.path + ending if ending in self.endings else None
-
-
-def views_of(case: Case) -> List[Placed]:
-    """The views that a case ends with; none where it has none."""
-    made = cases.made(case)
-    try:
-        return placement.views_of(made, Refused(made, is_silent=True))
-    except Failure:
-        return []
 
 
 def regions_in(found: difference.Difference, views: List[Placed]) -> List[Region]:
@@ -94,6 +83,7 @@ def of_pictures(text: str, made: Pictures, views: Callable[[], List[Placed]], pa
 
 def kept(case: Case, text: str, path: str) -> Evidence:
     """Keeps what a case that failed leaves. Without a picture there is the text alone."""
-    if not case.has_picture():
+    kind = kinds.of(case)
+    if not kind.has_picture(case):
         return without_pictures(text, path)
-    return of_pictures(text, cases.pictures(case), partial(views_of, case), path)
+    return of_pictures(text, comparing.pictures(case), partial(kind.views, case), path)

@@ -1,14 +1,35 @@
-"""A report in the form of JUnit, which servers that run tests read."""
+"""Reports in the form of JUnit, which servers that run tests read.
+
+A testcase has its path as `file` and its pictures in `system-out`, as GitLab, CircleCI and Jenkins read them; pytest
+calls this family of reports xunit1. The strict one, xunit2, has no `file`, as the schema junit-10.xsd of Jenkins has it.
+"""
+import datetime
 import os
 import re
-from typing import List
-from xml.sax.saxutils import escape, quoteattr
+import socket
+import xml.etree.ElementTree as ElementTree
+from typing import Dict, Iterable, List, NamedTuple
+from xml.etree.ElementTree import Element, SubElement
 
 from . import report
+from .problems import Sort
 from .trials import Result
 
 # the characters that XML cannot have
 FORBIDDEN = re.compile("[^\t\n\u0020-\ud7ff\ue000-\ufffd\U00010000-\U0010ffff]")
+FAMILIES = ("xunit1", "xunit2")
+NAME = "vindaesk"
+# the property with the part that a report is of, as 2/10
+PART = "vindaesk.part"
+
+
+class About(NamedTuple):
+    """What a report says of the whole run: when it began, in seconds since 1970; how long it took, in seconds; and its
+    properties."""
+
+    begun: float
+    seconds: float
+    properties: Dict[str, str]
 
 
 def plain(text: str) -> str:
@@ -16,33 +37,67 @@ def plain(text: str) -> str:
     return FORBIDDEN.sub("?", text)
 
 
-def attachments(result: Result) -> str:
+def attachments(result: Result) -> List[str]:
     """The page and the pictures of a failure, in the form in which servers show files beside it."""
     of = result.evidence
     if of is None:
-        return ""
-    rows = [report.link(of), *("[[ATTACHMENT|%s]]" % os.path.abspath(of.path + ending) for ending in of.endings)]
-    return "    <system-out>%s</system-out>\n" % escape(plain("\n".join(rows)))
+        return []
+    return [report.link(of), *("[[ATTACHMENT|%s]]" % os.path.abspath(of.path + ending) for ending in of.endings)]
 
 
-def case_of(result: Result) -> str:
+def named(path: str) -> Element:
+    """A testcase without anything."""
+    folder, name = os.path.split(path)
+    return Element("testcase", {"classname": plain(folder or "."), "name": plain(name)})
+
+
+def add_problem(to: Element, sort: Sort, sentence: str, text: str) -> None:
+    """Says why a case did not pass."""
+    tag = "error" if sort.is_error() else "failure"
+    SubElement(to, tag, {"type": sort.value, "message": plain(sentence)}).text = plain(text)
+
+
+def case_of(result: Result, family: str) -> Element:
     """One case, with what failed."""
-    folder, name = os.path.split(result.case.name())
-    head = "  <testcase classname=%s name=%s time=\"%.3f\"" % (
-        quoteattr(plain(folder or ".")), quoteattr(plain(name)), result.seconds
-    )
-    if not result.why:
-        return head + "/>\n"
-    first = plain(result.why.split("\n")[0])
-    failure = "<failure message=%s>%s</failure>" % (quoteattr(first), escape(plain(result.why)))
-    return "%s>\n    %s\n%s  </testcase>\n" % (head, failure, attachments(result))
+    made = named(result.case.name())
+    made.set("time", "%.3f" % result.seconds)
+    if family == "xunit1":
+        made.set("file", plain(result.case.source()))
+    if result.problem:
+        add_problem(made, result.problem.sort, result.problem.sentence(), result.problem.text)
+    rows = attachments(result)
+    if rows:
+        SubElement(made, "system-out").text = plain("\n".join(rows))
+    return made
 
 
-def written(results: List[Result]) -> bytes:
+def count(cases: Iterable[Element], tag: str) -> str:
+    """How many cases have an element."""
+    return "%d" % sum(it.find(tag) is not None for it in cases)
+
+
+def suite_of(cases: List[Element], about: About) -> bytes:
     """The whole report."""
-    failed = sum(bool(it.why) for it in results)
-    head = '<testsuite name="vindaesk" tests="%d" failures="%d" errors="0" time="%.3f">\n' % (
-        len(results), failed, sum(it.seconds for it in results)
-    )
-    body = "".join(map(case_of, results))
-    return ('<?xml version="1.0" encoding="UTF-8"?>\n' + head + body + "</testsuite>\n").encode()
+    begun = datetime.datetime.utcfromtimestamp(int(about.begun))
+    suite = Element("testsuite", {
+        "name": NAME, "tests": "%d" % len(cases), "failures": count(cases, "failure"), "errors": count(cases, "error"),
+        "skipped": count(cases, "skipped"), "time": "%.3f" % about.seconds, "timestamp": begun.isoformat(),
+        "hostname": plain(socket.gethostname()) or "localhost",
+    })
+    properties = SubElement(suite, "properties")
+    for name, value in about.properties.items():
+        SubElement(properties, "property", {"name": name, "value": plain(value)})
+    suite.extend(cases)
+    SubElement(suite, "system-out")
+    SubElement(suite, "system-err")
+    for it in [properties, *cases]:
+        it.tail = "\n  "
+    suite.text = "\n  "
+    suite[-1].tail = "\n"
+    body: bytes = ElementTree.tostring(suite, "utf-8")
+    return b'<?xml version="1.0" encoding="UTF-8"?>\n' + body[body.index(b"<testsuite") :] + b"\n"
+
+
+def written(results: Iterable[Result], about: About, family: str) -> bytes:
+    """The report of a run."""
+    return suite_of([case_of(it, family) for it in results], about)

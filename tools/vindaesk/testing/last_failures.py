@@ -6,7 +6,7 @@ from typing import Iterable, Iterator, List, Set
 
 from ..common import files
 from ..common.failures import Failure
-from .cases import Case
+from .case import Case
 
 MAX_PATHS = 100000
 

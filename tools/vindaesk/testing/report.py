@@ -9,7 +9,7 @@ from typing import Dict, Iterable, List, NamedTuple, Optional, Sequence, Set
 from ..common import embedding, files
 from ..common.failures import Failure, NOT_RUN
 from . import evidence
-from .cases import Case
+from .case import Case
 from .evidence import Evidence
 
 TEMPLATE = os.path.join(os.path.dirname(os.path.abspath(__file__)), "report.html")

@@ -5,7 +5,7 @@ from typing import List, Sequence
 
 from ..common.failures import Failure, NOT_RUN
 from ..scripts.grammar import guess
-from .cases import Case
+from .case import Case
 
 
 def names_of(case: Case) -> List[str]:
