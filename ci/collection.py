@@ -11,7 +11,7 @@ MODULES = (
     "examples", "pictures", "pages", "names", "promises", "layers", "broken", "limits", "tables", "launcher", "commands", "gate", "itself",
     "tools", "golden", "hostile", "plugin", "grammar", "apps", "apps_report", "fuzz_apps", "resources", "fuzz_resources",
     "driving", "lints", "browser",
-    "installed", "packages", "shells", "release_checks", "package", "house", "words", "spelling", "stored",
+    "farms", "installed", "packages", "shells", "release_checks", "package", "house", "words", "spelling", "stored",
 )
 # those that are run only where they are asked for
 ON_REQUEST = ("memory", "out_of_memory", "native")

@@ -133,6 +133,7 @@ def with_variables(given: argparse.Namespace) -> parts.Asked:
     asked = parts.by_variables()
     given.shard = given.shard or asked.part or parts.WHOLE
     given.junit = given.junit or asked.report or None
+    given.notes_failures = not asked.folder
     if asked.folder:
         tempfile.tempdir = asked.folder
         given.no_cache = given.no_cache or not given.cache
@@ -199,7 +200,8 @@ class Ending:
     def keep(self) -> None:
         """Notes what failed, and bounds what is kept."""
         found = self.whole.found.values()
-        last_failures.keep([it.case for it in found if not it.problem], [it.case for it in found if it.problem])
+        if self.given.notes_failures:
+            last_failures.keep([it.case for it in found if not it.problem], [it.case for it in found if it.problem])
         if self.whole.kept:
             self.whole.kept.tidy(it.key for it in found if it.key)
         lost = [it.lost for it in found if it.lost]
