@@ -14,7 +14,7 @@ MODULES = (
     "farms", "installed", "packages", "shells", "release_checks", "package", "house", "words", "spelling", "stored",
 )
 # those that are run only where they are asked for
-ON_REQUEST = ("memory", "out_of_memory", "native")
+ON_REQUEST = ("memory", "out_of_memory", "native", "engines")
 # what takes longest, by its name: ci/checks --slowest 40 | sed -n 's/^[0-9.]* seconds: //p' > ci/slow.txt
 SLOW = os.path.join(TOP, "ci", "slow.txt")
 

@@ -17,7 +17,7 @@ def views(random_of: random.Random) -> Iterator[str]:
         is_group = random_of.random() < 0.4
         kind = random_of.choice(("FrameLayout", "LinearLayout")) if is_group else random_of.choice(("View", "TextView"))
         sides = [random_of.choice(("match", "wrap", str(random_of.randrange(90)))) for _ in range(2)]
-        yield "add v%d %s %s %s" % (random_of.choice(parents), kind, *sides)
+        yield "add v%d %s %s" % (random_of.choice(parents), kind, " ".join(sides))
         parents += [number] if is_group else []
         if kind == "TextView":
             yield "text v%d %s" % (number, " ".join("word%d" % random_of.randrange(99) for _ in range(6)))

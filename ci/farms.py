@@ -31,8 +31,8 @@ def farm(count: int = 8) -> Iterator[Place]:
 
 def started(it: Place, *words: str, **variables: str) -> "subprocess.Popen[bytes]":
     """A call of runall that keeps nothing outside of the folder."""
-    own = {"XDG_CACHE_HOME": os.path.join(it.folder, "home")}
-    return it.start("tools/runall", *words, **{**own, **variables})
+    own = {"XDG_CACHE_HOME": os.path.join(it.folder, "home"), **variables}
+    return it.start("tools/runall", *words, stderr=subprocess.PIPE, **own)
 
 
 def ended(it: Place, *words: str, **variables: str) -> Tuple[int, List[str], str]:
