@@ -9,7 +9,7 @@ import xml.etree.ElementTree as ElementTree
 from typing import Dict, Iterator, List, Sequence, Tuple
 
 from launcher import goes_on
-from running import PROGRAM, SECONDS, TOP, Checks, named
+from running import PROGRAM, SECONDS, TOP, Checks, named, need
 from tools import RED, Place, first, place, unlike
 
 ANSWER = "v1\nsettled 0\n"
@@ -385,9 +385,45 @@ def several_at_once() -> str:
         return "" if ended(it, ".", **variables)[1] == ["40 passed, 0 failed"] else "they differ"
 
 
+def invalid(it: Place, name: str, schema: str) -> List[str]:
+    """What does not fit a schema of ci/schemas/: the attributes and elements that xmllint names."""
+    path = os.path.join(TOP, "ci", "schemas", schema)
+    ended_by = subprocess.run([need("xmllint"), "--noout", "--schema", path, os.path.join(it.folder, name)],
+                              stdout=subprocess.PIPE, stderr=subprocess.STDOUT)
+    rows = ended_by.stdout.decode().splitlines()
+    return [] if ended_by.returncode == 0 else sorted({row.split(": ", 2)[-1] for row in rows if "error" in row} or {rows[-1]})
+
+
+def fits_schemas() -> str:
+    """Reports fit the schemas of Jenkins and of Ant: the strict ones whole, the others but for the attribute `file`, and
+    for Ant the addresses of pictures."""
+    with farm(6) as it:
+        it.put("s01.answer", "x\x01y\n\xff")
+        os.unlink(os.path.join(it.folder, "s02.answer"))
+        variables = it.stand_in("given=$(cat); case $given in *'# 3') kill -9 $$;; *) printf '%s\\n' \"$given\" | '" + PROGRAM + "' \"$@\";; esac")
+        ended(it, ".", "--junit", "one.xml", **variables)
+        ended(it, ".", "--junit", "two.xml", "--junit-family", "xunit2", **variables)
+        ended(it, "s00.script", "--report", "page", "--junit", "three.xml", "--junit-family", "xunit2")
+        ended(it, "--merge", "two.xml", "--of", ".", "--junit", "merged.xml")
+        for name in ("two.xml", "three.xml", "merged.xml"):
+            for schema in ("junit-10.xsd", "ant.xsd"):
+                if invalid(it, name, schema):
+                    return "%s: %s" % (schema, invalid(it, name, schema))
+        file = ["Schemas validity error : Element 'testcase', attribute 'file': The attribute 'file' is not allowed."]
+        if invalid(it, "one.xml", "junit-10.xsd") != file or invalid(it, "one.xml", "ant.xsd") != file:
+            return "xunit1: %s" % invalid(it, "one.xml", "junit-10.xsd")
+        suite = ElementTree.fromstring(it.read("one.xml"))
+        found = [(part.tag, part.get("type"), part.get("message")) for case in suite.iter("testcase") for part in case]
+        wanted = [("failure", "AnswerDiffers", "line 1 should be 'x?y', and is 'v1'"),
+                  ("failure", "NothingStored", "it has no s02.answer; --accept writes one"),
+                  ("error", "ProgramEnded", "the program was ended by the signal SIGKILL")]
+        counts = [suite.get(name) for name in ("tests", "failures", "errors")]
+        return "" if (found, counts) == (wanted, ["6", "2", "1"]) else "%s %s" % (found, counts)
+
+
 def checks() -> Checks:
     yield from named("farms", (
-        a_process_dies, is_told_to_end, is_killed, goes_on_after_a_kill, few_files, breaks_of_cases, full_disk, results_as_they_end,
+        fits_schemas, a_process_dies, is_told_to_end, is_killed, goes_on_after_a_kill, few_files, breaks_of_cases, full_disk, results_as_they_end,
         follows_links, shows_odd_names, parts_by_names, protocol_of_bazel, merges_parts, keeps_what_passed, keeps_no_failures,
         changes_meanwhile, several_at_once
     ))
