@@ -18,17 +18,11 @@ from running import TOP, Checks, named, need
 RUNALL = os.path.join(TOP, "tools", "runall")
 COUNT, SHARDS = 2000, 10
 MINUTES = 15
-WORKSPACE = '''workspace(name = "app")
-new_local_repository(
-    name = "vindaesk",
-    path = "%s",
-    build_file_content = 'filegroup(name = "files", srcs = glob(["tools/**", "dist/**", "VERSION"]), visibility = ["//visibility:public"])',
-)
-'''
-BUILD = '''load("@vindaesk//bazel:vindaesk.bzl", "vindaesk_folder_test", "vindaesk_test")
-vindaesk_test(name = "screens", srcs = glob(["**"], exclude = ["BUILD"]), shard_count = %d)
+# one test in shards of Bazel, beside the recipe
+WHOLE = '''
+load("@vindaesk//bazel:vindaesk.bzl", "vindaesk_folder_test")
 vindaesk_folder_test(name = "whole", srcs = glob(["part000/**"]), shard_count = 4, tags = ["manual"])
-''' % SHARDS
+'''
 # in the place of what Bazel would load from the network: empty, but for one name
 STUBS = {"remote_coverage_tools": 'filegroup(name = "coverage_report_generator", visibility = ["//visibility:public"])\n',
          "rules_cc": "", "rules_java": ""}
@@ -38,6 +32,12 @@ def write(path: str, text: str) -> None:
     os.makedirs(os.path.dirname(path), exist_ok=True)
     with open(path, "w", encoding="utf-8") as file:
         file.write(text)
+
+
+def recipe_file(name: str) -> str:
+    """A file of docs/ci/."""
+    with open(os.path.join(TOP, "docs", "ci", name), encoding="utf-8") as file:
+        return file.read()
 
 
 @contextlib.contextmanager
@@ -55,18 +55,23 @@ def count_once(paths: Sequence[str], folder: str, of: str = "screens") -> str:
     return "" if ended.returncode == 0 and ended.stdout.count(b"\n") == 1 else ended.stdout.decode()[-800:]
 
 
+def is_part(words: List[bytes], variables: List[bytes], mark: bytes) -> bool:
+    """Whether these are the words and the variables of a part that runall runs, with this text in one of them."""
+    is_runall = words[0].endswith(b"python3") and any(word.endswith(b"/runall") for word in words[:2]) and b"--merge" not in words
+    return is_runall and any(mark in it for it in words + variables)
+
+
 def kill_first(mark: str) -> bool:
-    """Kills the first process of runall that has this text in its variables or its words, once there is one."""
+    """Kills the first part that is run and has this text in its variables or its words, once there is one."""
     until = time.monotonic() + 60 * MINUTES
     while time.monotonic() < until:
-        for pid in filter(str.isdigit, os.listdir("/proc")):
+        for pid in sorted(int(it) for it in os.listdir("/proc") if it.isdigit()):
             with contextlib.suppress(OSError):
-                with open("/proc/%s/cmdline" % pid, "rb") as words, open("/proc/%s/environ" % pid, "rb") as variables:
-                    line = words.read()
-                    is_runall = line.startswith(b"python3\0") and b"/runall\0" in line
-                    if is_runall and mark.encode() in line + variables.read():
-                        os.kill(int(pid), signal.SIGKILL)
-                        return True
+                with open("/proc/%d/cmdline" % pid, "rb") as words, open("/proc/%d/environ" % pid, "rb") as variables:
+                    is_found = is_part(words.read().split(b"\0"), variables.read().split(b"\0"), mark.encode())
+                if is_found:
+                    os.kill(pid, signal.SIGKILL)
+                    return True
         time.sleep(0.01)
     return False
 
@@ -76,8 +81,8 @@ class Bazel:
 
     def __init__(self, folder: str):
         self.folder = folder
-        write(os.path.join(folder, "WORKSPACE"), WORKSPACE % TOP)
-        write(os.path.join(folder, "screens", "BUILD"), BUILD)
+        write(os.path.join(folder, "WORKSPACE"), recipe_file("bazel.WORKSPACE").replace("/opt/vindaesk", TOP))
+        write(os.path.join(folder, "screens", "BUILD"), recipe_file("bazel.BUILD") + WHOLE)
         for name, text in STUBS.items():
             write(os.path.join(folder, "stubs", name, "WORKSPACE"), "")
             write(os.path.join(folder, "stubs", name, "BUILD"), text)
@@ -135,7 +140,6 @@ def again(it: Bazel) -> str:
     second = it.call("test", "//screens", "--jobs=2")
     said = [runs_of(text) for _, text in (first, second)]
     wanted = ["Executed %d out of %d tests: %d tests pass." % (count, SHARDS, SHARDS) for count in (0, 1)]
-    wanted[1] = wanted[1].replace("1 out of", "1 out of")
     return "" if said == wanted else "again: %s" % said
 
 

@@ -573,7 +573,7 @@ def closed_streams() -> str:
 def unknown_words() -> str:
     """The checks and the benchmark, by a word that names nothing."""
     with place() as it:
-        for command, name in (("ci/checks", "examples/first.script"), ("bench/run", "bounds, 4096 views")):
+        for command, name in (("ci/checks", "stored cases: examples"), ("bench/run", "bounds, 4096 views")):
             tries = ((["no such"], 2, name), (["bounds", "no such"], 2, name), (["--help"], 0, command))
             for words, status, shown in tries:
                 started = it.start(command, *words)

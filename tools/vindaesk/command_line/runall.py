@@ -17,10 +17,9 @@ import argparse
 import contextlib
 import os
 import tempfile
-import time
 from typing import Dict, List, Optional, Sequence
 
-from ..common import failures, files, messages, places, progress
+from ..common import failures, files, messages, progress
 from ..common.failures import Failure
 from ..program import process
 from ..testing import finding, kept, kinds, last_failures, parts, report, selection, suite
@@ -28,16 +27,14 @@ from ..testing.case import Case
 from ..testing.configurations import Configuration
 from ..testing.kept import Kept
 from ..testing.parts import Part
-from ..testing.report import Failed, Sum
 from ..testing.suite import Suite
-from ..testing.trials import Result, Task
+from ..testing.trials import Task
 from . import arguments, matrix
+from .runall_output import Ending, text_of
 from .uses import Purpose, Use
 
 USE = Use(Purpose.CHECK, "vindaesk runall .", "runs stored scripts, and compares what they write with their answers")
 FAMILIES = ("xunit1", "xunit2")
-# how many cases that no report has are listed one by one
-MOST_LISTED = 20
 
 
 def shard(word: str) -> Part:
@@ -155,15 +152,6 @@ def kept_for(given: argparse.Namespace) -> Optional[Kept]:
     return found
 
 
-def text_of(result: Result) -> str:
-    """How a case went, where there is something to say."""
-    name = messages.printable(result.case.name())
-    if result.why:
-        rows = [messages.printable(row) for row in result.why.split("\n")]
-        return "failed: %s\n%s\n" % (name, "\n".join(rows))
-    return "accepted: %s\n" % name if result.is_accepted else ""
-
-
 def tasks_of(given: argparse.Namespace, mine: List[Case]) -> List[Task]:
     """What is to be done."""
     where: Dict[Case, str] = report.places(mine, given.report) if given.report else {}
@@ -189,62 +177,6 @@ def run(given: argparse.Namespace, whole: Suite) -> None:
     line.clear()
 
 
-class Ending:
-    """What is written after a run, also after one that was ended before its last case."""
-
-    def __init__(self, given: argparse.Namespace, whole: Suite):
-        self.given = given
-        self.whole = whole
-        self.begun, self.first = time.time(), time.monotonic()
-
-    def keep(self) -> None:
-        """Notes what failed, and bounds what is kept."""
-        found = self.whole.found.values()
-        if self.given.notes_failures:
-            last_failures.keep([it.case for it in found if not it.problem], [it.case for it in found if it.problem])
-        if self.whole.kept:
-            self.whole.kept.tidy(it.key for it in found if it.key)
-        lost = [it.lost for it in found if it.lost]
-        if lost:
-            messages.say("%d results could not be kept: %s" % (len(lost), lost[0]))
-
-    def write_page(self) -> None:
-        """Writes the page of what failed."""
-        given, results = self.given, self.whole.results()
-        command = [messages.tool("runall"), *given.folders, *matrix.words(given), "--accept"]
-        failed = [
-            Failed(it.case.name(), it.why, it.seconds, it.evidence, report.command_to_accept(command, [it.case.name()]))
-            for it in results if it.evidence
-        ]
-        passed, seconds = sum(not it.why for it in results), sum(it.seconds for it in results)
-        path = report.write(given.report, failed, Sum(passed, seconds, report.command_to_accept(command, [])))
-        if failed:
-            messages.say("%s shows what failed" % path)
-
-    def write_junit(self) -> None:
-        """Writes the report for servers."""
-        from ..testing import junit
-
-        place, of = self.given.shard
-        known = sum(it.is_known for it in self.whole.found.values())
-        about = junit.About(self.begun, time.monotonic() - self.first, {
-            "vindaesk.version": places.version(), junit.PART: "%d/%d" % (place + 1, of), "vindaesk.known": "%d" % known})
-        files.replace(self.given.junit, junit.written(self.whole.results(), about, self.given.junit_family))
-
-    def write_sum(self) -> None:
-        """Prints the last line."""
-        results = self.whole.results()
-        not_run = len(results) - len(self.whole.found)
-        if not_run:
-            messages.say("%d cases were not run, and count as failed" % not_run)
-        print_sum(len(results), sum(bool(it.problem) for it in results))
-
-
-def print_sum(count: int, failed: int) -> None:
-    """Prints how many cases passed, and how many did not."""
-    print("%d passed, %d failed" % (count - failed, failed), flush=True)
-
-
 def run_all(given: argparse.Namespace, whole: Suite) -> int:
     """Runs the cases. Whatever ends that, all is written that is known then."""
     at_end = Ending(given, whole)
@@ -260,34 +192,13 @@ def run_all(given: argparse.Namespace, whole: Suite) -> int:
     return failures.WRONG if any(it.problem for it in whole.results()) else 0
 
 
-def merge(given: argparse.Namespace) -> int:
-    """Makes one report of several."""
-    from ..testing import junit, merging
-
-    cases = found_in(given.whole, matrix.configurations_of(given))
-    found = merging.merged(given.merge, cases)
-    for sentence in found.wrong:
-        messages.say(sentence)
-    for names, what in ((found.twice, "in more than one report"), (found.others, "in a report, and no case")):
-        if names:
-            messages.say("%d cases are %s, the first is %s" % (len(names), what, names[0]))
-    for case in found.missing[:MOST_LISTED]:
-        print("failed: %s\n%s" % (messages.printable(case.name()), merging.NOWHERE))
-    if found.missing[MOST_LISTED:]:
-        print("and %d more cases are in no report" % len(found.missing[MOST_LISTED:]))
-    if given.junit:
-        about = junit.About(time.time(), merging.seconds(found), {"vindaesk.version": places.version()})
-        files.replace(given.junit, junit.suite_of(found.testcases, about))
-    failed = sum(not merging.is_passed(it) for it in found.testcases)
-    print_sum(len(found.testcases), failed)
-    return failures.WRONG if failed or found.wrong else 0
-
-
 def main(words: Optional[Sequence[str]] = None) -> int:
     given = given_by(words)
     arguments.write_any_text()
     if given.merge:
-        return merge(given)
+        from .runall_merge import merge
+
+        return merge(given, found_in(given.whole, matrix.configurations_of(given)))
     asked = with_variables(given)
     mine = chosen(given, found_in(given.folders, matrix.configurations_of(given)), asked.only)
     if given.list:
