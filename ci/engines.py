@@ -1,7 +1,8 @@
-"""Tries the engines of farms over 2000 stored scripts, where their packages are: Bazel, GNU parallel over a server of SSH,
-and Slurm, each on this machine alone. What they start is ended. A part is killed in the middle, and in the end each case is
-reported once."""
+"""Tries the engines of farms over 2000 stored scripts: Bazel, GNU parallel over a server of SSH, and Slurm, each on this
+machine alone, where Debian's bazel-bootstrap, parallel with openssh-server, and slurm-wlm with munge are installed. What
+they start is ended. A part is killed in the middle, and in the end each case is reported once."""
 import contextlib
+import getpass
 import os
 import shutil
 import signal
@@ -18,14 +19,16 @@ from running import TOP, Checks, named, need
 RUNALL = os.path.join(TOP, "tools", "runall")
 COUNT, SHARDS = 2000, 10
 MINUTES = 15
+# a call of Bazel
+ALL = ("test", "//screens", "--jobs=2", "--flaky_test_attempts=2")
 # one test in shards of Bazel, beside the recipe
 WHOLE = '''
 load("@vindaesk//bazel:vindaesk.bzl", "vindaesk_folder_test")
 vindaesk_folder_test(name = "whole", srcs = glob(["part000/**"]), shard_count = 4, tags = ["manual"])
 '''
 # in the place of what Bazel would load from the network: empty, but for one name
-STUBS = {"remote_coverage_tools": 'filegroup(name = "coverage_report_generator", visibility = ["//visibility:public"])\n',
-         "rules_cc": "", "rules_java": ""}
+COVERAGE = 'filegroup(name = "coverage_report_generator", visibility = ["//visibility:public"])\n'
+STUBS = {"remote_coverage_tools": COVERAGE, "rules_cc": "", "rules_java": ""}
 
 
 def write(path: str, text: str) -> None:
@@ -51,14 +54,15 @@ def scripts() -> Iterator[str]:
 
 def count_once(paths: Sequence[str], folder: str, of: str = "screens") -> str:
     """Why reports have not each case of a folder once, passed, or nothing."""
-    ended = subprocess.run([RUNALL, "--merge", *paths, "--of", of], cwd=folder, stdout=subprocess.PIPE, stderr=subprocess.STDOUT)
-    return "" if ended.returncode == 0 and ended.stdout.count(b"\n") == 1 else ended.stdout.decode()[-800:]
+    command = [RUNALL, "--merge", *paths, "--of", of]
+    ended = subprocess.run(command, cwd=folder, stdout=subprocess.PIPE, stderr=subprocess.STDOUT)
+    return "" if ended.returncode == 0 and ended.stdout.count(b"\n") == 1 else ended.stdout.decode()[:800]
 
 
 def is_part(words: List[bytes], variables: List[bytes], mark: bytes) -> bool:
     """Whether these are the words and the variables of a part that runall runs, with this text in one of them."""
-    is_runall = words[0].endswith(b"python3") and any(word.endswith(b"/runall") for word in words[:2]) and b"--merge" not in words
-    return is_runall and any(mark in it for it in words + variables)
+    is_runall = words[0].endswith(b"python3") and any(word.endswith(b"/runall") for word in words[:2])
+    return is_runall and b"--merge" not in words and any(mark in it for it in words + variables)
 
 
 def kill_first(mark: str) -> bool:
@@ -91,7 +95,8 @@ class Bazel:
         self.command = [need("bazel"), "--output_user_root=%s/root" % folder, "--max_idle_secs=60"]
 
     def start(self, *words: str) -> "subprocess.Popen[bytes]":
-        return subprocess.Popen([*self.command, *words], cwd=self.folder, stdout=subprocess.PIPE, stderr=subprocess.STDOUT)
+        command = [*self.command, *words]
+        return subprocess.Popen(command, cwd=self.folder, stdout=subprocess.PIPE, stderr=subprocess.STDOUT)
 
     def call(self, *words: str) -> Tuple[int, str]:
         call = self.start(*words)
@@ -113,13 +118,13 @@ def runs_of(text: str) -> Optional[str]:
 
 
 def bazel() -> str:
-    """All in shards, one of which is killed; again with nothing changed, and with one script changed; and by one test in
-    shards of Bazel."""
+    """All in shards, one of which is killed; again with nothing changed, and with one script changed; and one test in shards
+    of Bazel."""
     need("bazel")
     with scripts() as folder:
         it = Bazel(folder)
         try:
-            call = it.start("test", "//screens", "--jobs=2", "--flaky_test_attempts=2")
+            call = it.start(*ALL)
             is_killed = kill_first("TEST_TARGET=//screens:screens_")
             out, _ = call.communicate(timeout=60 * MINUTES)
             first = out.decode("utf-8", "replace")
@@ -134,10 +139,12 @@ def bazel() -> str:
 
 def again(it: Bazel) -> str:
     """Nothing is run again without a change, and of one script only its shard."""
-    first = it.call("test", "//screens", "--jobs=2")
+    # the shard that was killed may be run once more
+    it.call(*ALL)
+    first = it.call(*ALL)
     with open(os.path.join(it.folder, "screens", "part003", "s00600.script"), "a", encoding="utf-8") as file:
         file.write("# changed\n")
-    second = it.call("test", "//screens", "--jobs=2")
+    second = it.call(*ALL)
     said = [runs_of(text) for _, text in (first, second)]
     wanted = ["Executed %d out of %d tests: %d tests pass." % (count, SHARDS, SHARDS) for count in (0, 1)]
     return "" if said == wanted else "again: %s" % said
@@ -153,6 +160,26 @@ def whole(it: Bazel) -> str:
 # GNU parallel
 
 
+SERVER = '''ListenAddress 127.0.0.1
+Port %(port)d
+HostKey %(folder)s/host
+AuthorizedKeysFile %(folder)s/user.pub
+StrictModes no
+UsePAM no
+PidFile none
+MaxStartups 100
+'''
+CLIENT = '''Host machine
+  HostName 127.0.0.1
+  Port %(port)d
+  IdentityFile %(folder)s/user
+  User %(user)s
+  StrictHostKeyChecking no
+  UserKnownHostsFile /dev/null
+  LogLevel ERROR
+'''
+
+
 def free_port() -> int:
     with socket.socket() as it:
         it.bind(("127.0.0.1", 0))
@@ -162,9 +189,9 @@ def free_port() -> int:
 
 
 @contextlib.contextmanager
-def running(*command: str, **variables: str) -> Iterator["subprocess.Popen[bytes]"]:
+def running(*command: str) -> Iterator["subprocess.Popen[bytes]"]:
     """A server that ends with this."""
-    with subprocess.Popen(command, env={**os.environ, **variables}, stdout=subprocess.DEVNULL, stderr=subprocess.DEVNULL) as it:
+    with subprocess.Popen(command, stdout=subprocess.DEVNULL, stderr=subprocess.DEVNULL) as it:
         try:
             yield it
         finally:
@@ -180,13 +207,13 @@ def machine(folder: str) -> Iterator[str]:
     """A server of SSH for this machine alone. Yields a command by which it is reached under the name `machine`."""
     sshd = shutil.which("sshd") or need("/usr/sbin/sshd")
     for name in ("host", "user"):
-        subprocess.run([need("ssh-keygen"), "-q", "-t", "ed25519", "-N", "", "-f", os.path.join(folder, name)], check=True)
+        key = os.path.join(folder, name)
+        subprocess.run([need("ssh-keygen"), "-q", "-t", "ed25519", "-N", "", "-f", key], check=True)
     port = free_port()
     os.makedirs("/run/sshd", exist_ok=True)
-    write(os.path.join(folder, "sshd_config"), "ListenAddress 127.0.0.1\nPort %d\nHostKey %s/host\nAuthorizedKeysFile %s/user.pub\n"
-          "StrictModes no\nUsePAM no\nPidFile none\nMaxStartups 100\n" % (port, folder, folder))
-    write(os.path.join(folder, "ssh_config"), "Host machine\n  HostName 127.0.0.1\n  Port %d\n  IdentityFile %s/user\n  User %s\n"
-          "  StrictHostKeyChecking no\n  UserKnownHostsFile /dev/null\n  LogLevel ERROR\n" % (port, folder, os.environ.get("USER") or "root"))
+    names = {"port": port, "folder": folder, "user": getpass.getuser()}
+    write(os.path.join(folder, "sshd_config"), SERVER % names)
+    write(os.path.join(folder, "ssh_config"), CLIENT % names)
     with running(sshd, "-D", "-f", os.path.join(folder, "sshd_config")):
         command = "ssh -F %s/ssh_config" % folder
         for _ in range(100):
@@ -250,6 +277,13 @@ PartitionName=all Nodes=node Default=YES MaxTime=INFINITE State=UP
 '''
 
 
+def state_of_node(variables: Dict[str, str]) -> bytes:
+    """What Slurm says of its node."""
+    said = subprocess.run(["sinfo", "-h", "-o", "%T"], env={**os.environ, **variables}, stdout=subprocess.PIPE,
+                          stderr=subprocess.DEVNULL)
+    return said.stdout.strip()
+
+
 @contextlib.contextmanager
 def cluster(folder: str) -> Iterator[Dict[str, str]]:
     """Slurm with one node, this machine, and Munge. Yields the variables by which it is reached."""
@@ -261,17 +295,18 @@ def cluster(folder: str) -> Iterator[Dict[str, str]]:
         file.write(os.urandom(128))
     os.chmod(os.path.join(munge, "key"), 0o400)
     config = os.path.join(folder, "slurm.conf")
-    write(config, SLURM % {"host": socket.gethostname().split(".")[0], "control": free_port(), "node": free_port(), "folder": folder})
+    host = socket.gethostname().split(".")[0]
+    write(config, SLURM % {"host": host, "control": free_port(), "node": free_port(), "folder": folder})
     variables = {"SLURM_CONF": config}
-    own = ["--%s=%s/%s" % (name, munge, name.split("-")[0]) for name in ("key-file", "socket", "pid-file", "log-file", "seed-file")]
+    files = ("key-file", "socket", "pid-file", "log-file", "seed-file")
+    own = ["--%s=%s/%s" % (name, munge, name.split("-")[0]) for name in files]
     with contextlib.ExitStack() as stack:
         stack.enter_context(running(need("munged"), "--foreground", "--force", *own))
         time.sleep(1)
         stack.enter_context(running(need("slurmctld"), "-D", "-f", config))
         stack.enter_context(running(need("slurmd"), "-D", "-f", config, "-N", "node"))
         for _ in range(300):
-            said = subprocess.run(["sinfo", "-h", "-o", "%T"], env={**os.environ, **variables}, stdout=subprocess.PIPE, stderr=subprocess.DEVNULL)
-            if said.stdout.strip() == b"idle":
+            if state_of_node(variables) == b"idle":
                 break
             time.sleep(0.2)
         try:
@@ -281,7 +316,7 @@ def cluster(folder: str) -> Iterator[Dict[str, str]]:
 
 
 def slurm() -> str:
-    """An array, of which one part is killed: what is missing is said, and no case is counted as passed that was not run."""
+    """An array, of which one part is killed: what is missing is said, and no case passes that was not run."""
     need("sbatch")
     with scripts() as folder, cluster(folder) as variables:
         status, text = recipe("slurm.sh", folder, variables)
@@ -294,8 +329,10 @@ def slurm() -> str:
             log = file.read()
         tree = ElementTree.parse(os.path.join(folder, "out.xml")).getroot()
         lost = sum(it.find("error") is not None for it in tree.iter("testcase"))
-        is_said = "there is no report of part" in log and text.splitlines()[-1:] == ["%d passed, %d failed" % (COUNT - lost, lost)]
-        return "" if status == 1 and lost and is_said else "a killed part: status %d, %d lost, %s" % (status, lost, log[-800:])
+        last = "%d passed, %d failed" % (COUNT - lost, lost)
+        is_said = "there is no report of part" in log and text.splitlines()[-1:] == [last]
+        why = "a killed part: status %d, %d lost, %s" % (status, lost, log[-800:])
+        return "" if status == 1 and lost and is_said else why
 
 
 def checks() -> Checks:

@@ -1,5 +1,5 @@
-"""Tries what farms of machines need of `tools/runall`: whatever ends, nothing is lost and nothing is reported twice; parts,
-merged reports, and results that are kept."""
+"""Tries what farms of machines need of `tools/runall`: whatever ends, nothing is lost and nothing is reported twice;
+parts, merged reports, and results that are kept."""
 import contextlib
 import os
 import signal
@@ -10,7 +10,7 @@ from typing import Dict, Iterator, List, Sequence, Tuple
 
 from launcher import goes_on
 from running import PROGRAM, SECONDS, TOP, Checks, named, need
-from tools import RED, Place, first, place, unlike
+from tools import RED, Ended, Place, first, place, unlike
 
 ANSWER = "v1\nsettled 0\n"
 # a stand-in for the program that counts its runs, and then is the program
@@ -55,6 +55,20 @@ def once(it: Place, found: Sequence[Said]) -> str:
     return "" if [name for name, _ in found] == wanted else "the report has %s" % (found,)
 
 
+def acting(it: Place, acts: str) -> Dict[str, str]:
+    """The variables under which the program does something over scripts that have some text, as branches of `case` in a
+    shell, and else what it does."""
+    passes = "printf '%%s\\n' \"$given\" | '%s' \"$@\"" % PROGRAM
+    return it.stand_in("given=$(cat); case $given in %s esac; %s" % (acts, passes))
+
+
+def shell(it: Place, command: str) -> Ended:
+    """How a command of a shell ends."""
+    call = subprocess.run(["bash", "-c", command % (TOP + "/tools/runall")], cwd=it.folder, stdout=subprocess.PIPE,
+                          stderr=subprocess.PIPE, timeout=SECONDS)
+    return call.returncode, call.stdout, call.stderr.decode()
+
+
 def runs_of(it: Place) -> int:
     """How often the program was run since this was asked last."""
     path = os.path.join(it.folder, "runs")
@@ -74,23 +88,22 @@ def a_process_dies() -> str:
     """A process that dies has its case tried once more, and given up then; the others go on."""
     with farm() as it:
         it.put("s03.script", RED + "# dies\n")
-        dies = "given=$(cat); case $given in *dies*) KILLS; esac; " + "printf '%%s\\n' \"$given\" | '%s' \"$@\"" % PROGRAM
         kills = "kill -9 $PPID; sleep 59;"
-        status, lines, said = ended(it, ".", "--no-cache", "--junit", "j.xml", "--jobs", "3", **it.stand_in(dies.replace("KILLS", kills)))
+        words = (".", "--no-cache", "--junit", "j.xml", "--jobs", "3")
+        status, lines, said = ended(it, *words, **acting(it, "*dies*) %s;" % kills))
         dead = ["failed: ./s03.script", "the process that ran it ended by the signal 9, 2 times", "7 passed, 1 failed"]
         if (status, lines) != (1, dead):
             return "status %d, %s%s" % (status, lines, said)
         found = reported(it)
         why = once(it, found) or ("" if [it for it in found if it[1]] == [("s03.script", "error")] else "%s" % found)
-        single = "test -e '%s/mark' || { touch '%s/mark'; %s };" % (it.folder, it.folder, kills)
-        status, lines, said = ended(it, ".", "--no-cache", "--jobs", "3", **it.stand_in(dies.replace("KILLS", single)))
-        return why or ("" if (status, lines) == (0, ["8 passed, 0 failed"]) else "%s%s" % (lines, said))
+        single = "*dies*) test -e '%s/mark' || { touch '%s/mark'; %s };;" % (it.folder, it.folder, kills)
+        status, lines, said = ended(it, *words, **acting(it, single))
+        return why or once(it, reported(it)) or ("" if (status, lines) == (0, ["8 passed, 0 failed"]) else said)
 
 
 def waits(it: Place) -> Dict[str, str]:
     """A program that passes for the first scripts, and for the others only says that it has begun."""
-    return it.stand_in("given=$(cat); case $given in *'# '[0-3]) printf '%%s\\n' \"$given\" | '%s' \"$@\";; *) echo $$ >> '%s/pids'; "
-                       "exec sleep 59;; esac" % (PROGRAM, it.folder))
+    return acting(it, "*'# '[4-9]) echo $$ >> '%s/pids'; exec sleep 59;;" % it.folder)
 
 
 def pids_of(it: Place, count: int) -> List[int]:
@@ -114,7 +127,8 @@ def end_all(pids: Sequence[int]) -> bool:
 
 
 def is_told_to_end() -> str:
-    """Where a signal ends it, the report has each case once, those that were not run as errors, and no program goes on."""
+    """Where a signal ends it, the report has each case once, those that were not run as errors, and no program goes
+    on."""
     for number in (signal.SIGINT, signal.SIGTERM, signal.SIGHUP):
         with farm() as it:
             call = started(it, ".", "--junit", "j.xml", "--jobs", "2", **waits(it))
@@ -141,14 +155,16 @@ def is_killed() -> str:
         if not pids or not end_all(pids):
             return "a program goes on"
         it.put("program", "#!/usr/bin/env bash\n" + COUNTS % it.folder)
-        return "" if ended(it, ".", **variables)[1] == ["8 passed, 0 failed"] and runs_of(it) == 8 else "it says another thing"
+        lines = ended(it, ".", **variables)[1]
+        return "" if (lines, runs_of(it)) == (["8 passed, 0 failed"], 8) else "%s" % lines
 
 
 def goes_on_after_a_kill() -> str:
     """The same program: what passed before the kill is not run again."""
     with farm() as it:
-        act = "echo x >> '%s/runs'; test -e '%s/go' || test $(wc -l < '%s/runs') -lt 5 || { echo $$ >> '%s/pids'; exec sleep 59; }\n"
-        variables = it.stand_in(act % ((it.folder,) * 4) + "exec '%s' \"$@\"\n" % PROGRAM)
+        waiting = "test $(wc -l < '%s/runs') -lt 5 || { echo $$ >> '%s/pids'; exec sleep 59; }" % (it.folder, it.folder)
+        act = "echo x >> '%s/runs'; test -e '%s/go' || %s\n" % (it.folder, it.folder, waiting)
+        variables = it.stand_in(act + "exec '%s' \"$@\"\n" % PROGRAM)
         call = started(it, ".", "--jobs", "1", **variables)
         pids_of(it, 1)
         call.kill()
@@ -164,24 +180,25 @@ def goes_on_after_a_kill() -> str:
 def few_files() -> str:
     """With 40 open files at most, 40 at once are no more than there is room for, and all pass."""
     with farm(60) as it:
-        command = "ulimit -n 40; exec '%s/tools/runall' . --no-cache --jobs 40 --junit j.xml" % TOP
-        call = subprocess.run(["bash", "-c", command], cwd=it.folder, stdout=subprocess.PIPE, stderr=subprocess.PIPE, timeout=SECONDS)
-        return once(it, reported(it)) or unlike((call.returncode, call.stdout, call.stderr.decode()), 0, b"60 passed, 0 failed\n", "")
+        found = shell(it, "ulimit -n 40; exec '%s' . --no-cache --jobs 40 --junit j.xml")
+        return once(it, reported(it)) or unlike(found, 0, b"60 passed, 0 failed\n", "")
 
 
 def breaks_of_cases() -> str:
     """What never ends, what writes for ever, a signal, and a folder in the place of a file: each is the case's own."""
     with farm() as it:
-        acts = "*slow*) exec sleep 59;; *long*) exec yes;; *kill*) kill -9 $$;; *) printf '%s\\n' \"$given\" | '" + PROGRAM + "' \"$@\";; esac"
+        acts = "*slow*) exec sleep 59;; *long*) exec yes;; *kill*) kill -9 $$;;"
         for number, word in enumerate(("slow", "long", "kill")):
             it.put("s%02d.script" % number, RED + "# %s\n" % word)
         it.put("s03.script", RED + "inflate pipe.xml into v1\n")
         os.mkfifo(os.path.join(it.folder, "pipe.xml"))
         os.unlink(os.path.join(it.folder, "s04.answer"))
         os.mkdir(os.path.join(it.folder, "s04.answer"))
-        status, lines, said = ended(it, ".", "--timeout", "2", "--junit", "j.xml", "--jobs", "1", **it.stand_in("given=$(cat); case $given in " + acts))
-        wanted = ["it takes more than 2 seconds", "it writes more than %d bytes, and was ended" % (len(ANSWER) + (1 << 20)),
-                  "the program was ended by the signal SIGKILL", "it takes more than 2 seconds", "./s04.answer is no file"]
+        words = (".", "--timeout", "2", "--junit", "j.xml", "--jobs", "1")
+        status, lines, said = ended(it, *words, **acting(it, acts))
+        slow, most = "it takes more than 2 seconds", len(ANSWER) + (1 << 20)
+        wanted = [slow, "it writes more than %d bytes, and was ended" % most,
+                  "the program was ended by the signal SIGKILL", slow, "./s04.answer is no file"]
         rows = [row for number, text in enumerate(wanted) for row in ("failed: ./s%02d.script" % number, text)]
         if (status, lines) != (1, [*rows, "3 passed, 5 failed"]):
             return "status %d, %s%s" % (status, lines, said)
@@ -190,15 +207,12 @@ def breaks_of_cases() -> str:
 
 
 def full_disk() -> str:
-    """Standard output that is full, and a report that cannot be written whole: the other one is written all the same."""
+    """Standard output that is full, and a report that cannot be written whole: the other one is written all the
+    same."""
     with farm(40) as it:
-        with open("/dev/full", "wb") as full:
-            call = subprocess.run([os.path.join(TOP, "tools", "runall"), ".", "--no-cache", "--junit", "j.xml"], cwd=it.folder,
-                                  stdout=full, stderr=subprocess.PIPE, timeout=SECONDS)
-        why = once(it, reported(it)) or ("" if call.returncode == 4 else "status %d" % call.returncode)
-        command = "ulimit -f 1; exec '%s/tools/runall' . --no-cache --junit k.xml" % TOP
-        call = subprocess.run(["bash", "-c", command], cwd=it.folder, stdout=subprocess.PIPE, stderr=subprocess.PIPE, timeout=SECONDS)
-        found = call.returncode, call.stdout, call.stderr.decode()
+        found = shell(it, "exec '%s' . --no-cache --junit j.xml > /dev/full")
+        why = once(it, reported(it)) or ("" if found[0] == 4 else "status %d" % found[0])
+        found = shell(it, "ulimit -f 1; exec '%s' . --no-cache --junit k.xml")
         why = why or unlike(found, 2, b"40 passed, 0 failed\n", "k.xml cannot be written: File too large")
         return why or ("" if "k.xml" not in it.names() else "a report is half written")
 
@@ -207,13 +221,14 @@ def results_as_they_end() -> str:
     """A slow case does not hold back what is said of others."""
     with farm(3) as it:
         it.put("s02.answer", "other")
-        act = "given=$(cat); case $given in *'# 0'*) while ! test -e '%s/go'; do sleep 0.1; done;; esac; printf '%%s\\n' \"$given\" | '%s' \"$@\""
-        call = started(it, ".", "--no-cache", "--jobs", "2", **it.stand_in(act % (it.folder, PROGRAM)))
+        act = "*'# 0'*) while ! test -e '%s/go'; do sleep 0.1; done;;" % it.folder
+        call = started(it, ".", "--no-cache", "--jobs", "2", **acting(it, act))
         assert call.stdout is not None
         line = call.stdout.readline()
         it.put("go", "")
         out, _ = call.communicate(timeout=SECONDS)
-        return "" if line == b"failed: ./s02.script\n" and out.endswith(b"2 passed, 1 failed\n") else "%r %r" % (line, out)
+        is_right = line == b"failed: ./s02.script\n" and out.endswith(b"2 passed, 1 failed\n")
+        return "" if is_right else "%r %r" % (line, out)
 
 
 def follows_links() -> str:
@@ -227,8 +242,10 @@ def follows_links() -> str:
         os.symlink("..", os.path.join(it.folder, "links", "above"))
         os.symlink("../real/a.script", os.path.join(it.folder, "links", "b.script"))
         os.symlink("../real/a.answer", os.path.join(it.folder, "links", "b.answer"))
-        calls = {("links/by_link",): 1, ("links",): 4, (".",): 4, ("real", "links/by_link", "real/a.script"): 1, (".", "s00.script", "."): 4}
-        return first("" if ended(it, *words)[1] == ["%d passed, 0 failed" % count] else "%s: %s" % (words, ended(it, *words))
+        twice = ("real", "links/by_link", "real/a.script")
+        calls = {("links/by_link",): 1, ("links",): 4, (".",): 4, twice: 1, (".", "s00.script", "."): 4}
+        found = {words: ended(it, *words)[1] for words in calls}
+        return first("" if found[words] == ["%d passed, 0 failed" % count] else "%s: %s" % (words, found[words])
                      for words, count in calls.items())
 
 
@@ -236,12 +253,14 @@ def shows_odd_names() -> str:
     with farm(1) as it:
         it.put("a\x1b[31m.script", RED)
         status, lines, said = ended(it, ".", "--junit", "j.xml")
-        return "" if "failed: ./a\\x1b[31m.script" in lines and reported(it)[0][0] == "a?[31m.script" else "%s%s" % (lines, said)
+        is_right = "failed: ./a\\x1b[31m.script" in lines and reported(it)[0][0] == "a?[31m.script"
+        return "" if is_right and status == 1 else "%s%s" % (lines, said)
 
 
-def parts_of(it: Place, of: int) -> List[List[str]]:
+def parts_of(it: Place, of: int, folder: str = ".") -> List[List[str]]:
     """The names of the cases of each part."""
-    return [ended(it, ".", "--list", "--shard", "%d/%d" % (k, of))[1] for k in range(1, of + 1)]
+    parts = [ended(it, folder, "--list", "--shard", "%d/%d" % (part, of))[1] for part in range(1, of + 1)]
+    return [[name.replace(folder, ".") for name in part if "/a.script" not in name] for part in parts]
 
 
 def parts_by_names() -> str:
@@ -253,10 +272,7 @@ def parts_by_names() -> str:
             return "the parts have %s" % before
         it.put("a.script", RED)
         it.put("a.answer", ANSWER)
-        after = [[name for name in part if name != "./a.script"] for part in parts_of(it, 4)]
-        whole = [[name.replace(it.folder, ".") for name in ended(it, it.folder, "--list", "--shard", "%d/4" % k)[1] if "/a.script" not in name]
-                 for k in range(1, 5)]
-        if before != after or before != whole:
+        if before != parts_of(it, 4) or before != parts_of(it, 4, it.folder):
             return "a new script, or another path, moves others"
         empty = ended(it, "s00.script", "s01.script", "--shard", "7/9")
         return "" if empty[:2] == (0, ["0 passed, 0 failed"]) else "an empty part: %s" % (empty,)
@@ -267,8 +283,9 @@ def protocol_of_bazel() -> str:
         os.mkdir(os.path.join(it.folder, "tmp"))
         found = []
         for place_of_part in range(3):
-            names = {"TEST_SHARD_INDEX": str(place_of_part), "TEST_TOTAL_SHARDS": "3", "TEST_TMPDIR": os.path.join(it.folder, "tmp"),
-                     "TEST_SHARD_STATUS_FILE": "touched%d" % place_of_part, "XML_OUTPUT_FILE": "x%d.xml" % place_of_part}
+            names = {"TEST_SHARD_INDEX": str(place_of_part), "TEST_TOTAL_SHARDS": "3",
+                     "TEST_TMPDIR": os.path.join(it.folder, "tmp"), "XML_OUTPUT_FILE": "x%d.xml" % place_of_part,
+                     "TEST_SHARD_STATUS_FILE": "touched%d" % place_of_part}
             status, lines, said = ended(it, ".", **names)
             if status or "touched%d" % place_of_part not in it.names():
                 return "status %d, %s%s" % (status, lines, said)
@@ -288,19 +305,23 @@ def merges_parts() -> str:
             ended(it, ".", "--shard", "%d/3" % part, "--junit", "p%d.xml" % part)
         merge = ("--of", ".", "--junit", "all.xml", "--merge")
         whole = ended(it, *merge, "p1.xml", "p2.xml", "p3.xml")
-        why = once(it, reported(it, "all.xml")) or ("" if whole == (0, ["20 passed, 0 failed"], "") else "%s" % (whole,))
+        why = once(it, reported(it, "all.xml"))
+        why = why or ("" if whole == (0, ["20 passed, 0 failed"], "") else "%s" % (whole,))
         count = len(reported(it, "p2.xml"))
         lacking = ended(it, *merge, "p1.xml", "p3.xml")
         said = (lacking[0], lacking[1][-1], lacking[2])
-        if why or said != (1, "%d passed, %d failed" % (20 - count, count), "runall: there is no report of part 2 of 3\n"):
+        sums = "%d passed, %d failed" % (20 - count, count)
+        if why or said != (1, sums, "runall: there is no report of part 2 of 3\n"):
             return why or "without a part: %s" % (lacking,)
         if once(it, reported(it, "all.xml")) or sum(what == "error" for _, what in reported(it, "all.xml")) != count:
             return "without a part the report has %s" % reported(it, "all.xml")
         it.put("p2.xml", it.read("p2.xml")[:300])
         cut = ended(it, *merge, "p1.xml", "p2.xml", "p3.xml")
         twice = ended(it, *merge, "p1.xml", "p1.xml", "p3.xml", "no.xml")
-        return "" if (cut[0], twice[0]) == (1, 1) and "p2.xml is no whole report" in cut[2] and "in more than one report" in twice[2] and (
-            "no.xml cannot be read" in twice[2]) else "%s %s" % (cut, twice)
+        parts = [(cut[2], "p2.xml is no whole report"), (twice[2], "in more than one report"),
+                 (twice[2], "no.xml cannot be read")]
+        is_right = (cut[0], twice[0]) == (1, 1) and all(part in text for text, part in parts)
+        return "" if is_right else "%s %s" % (cut, twice)
 
 
 def put_all_inputs(it: Place) -> None:
@@ -329,9 +350,9 @@ def keeps_what_passed() -> str:
         again = ended(it, ".", "--junit", "j.xml", **variables)
         if again[:2] != (0, ["4 passed, 0 failed"]) or runs_of(it):
             return "a second time: %s" % (again,)
-        changes = {"a.script": b"\nbg v1 #ff0000ff\n", "ids.txt": b"app:id/b = 0x7f080002\n", "start.lines": b"dpi 240\n", "b.xml": b"\0",
-                   "a.toml": b"dpi = 320\n", "a@x.png": b"x", "a@x.answer": b"x", "c.args": b" 7f010001", "d.args": b"1", "d.script": b"x\n",
-                   "e.stack": b"x\n", "e.answer": b"x", "program": b"\n"}
+        changes = {"a.script": b"\nbg v1 #ff0000ff\n", "ids.txt": b"app:id/b = 0x7f080002\n", "b.xml": b"\0",
+                   "start.lines": b"dpi 240\n", "a.toml": b"dpi = 320\n", "a@x.png": b"x", "a@x.answer": b"x",
+                   "c.args": b" 7f010001", "d.args": b"1", "d.script": b"x\n", "e.stack": b"x\n", "e.answer": b"x", "program": b"\n"}
         for name, more in changes.items():
             kept = it.read(name)
             it.put(name, kept + more)
@@ -350,7 +371,8 @@ def keeps_no_failures() -> str:
         it.put("s00.answer", "x")
         variables = counting(it)
         runs = []
-        for words in ((), (), ("--no-cache",), ("--timeout", "9"), ("--timeout", "9"), ("--cache", "other"), ("--cache", "other")):
+        limit, other = ("--timeout", "9"), ("--cache", "other")
+        for words in ((), (), ("--no-cache",), limit, limit, other, other):
             ended(it, ".", *words, **variables)
             runs.append(runs_of(it))
         if runs != [2, 1, 2, 2, 1, 2, 1]:
@@ -363,8 +385,8 @@ def keeps_no_failures() -> str:
 def changes_meanwhile() -> str:
     """What is changed while it is run is not kept by what it was before."""
     with farm(1) as it:
-        act = "echo x >> '%s/runs'; given=$(cat); echo '# y' >> '%s/s00.script'; printf '%%s\\n' \"$given\" | '%s' \"$@\""
-        variables = it.stand_in(act % (it.folder, it.folder, PROGRAM))
+        act = "*) echo x >> '%s/runs'; echo '# y' >> '%s/s00.script';;" % (it.folder, it.folder)
+        variables = acting(it, act)
         before = it.read("s00.script")
         runs = []
         for _ in range(2):
@@ -391,16 +413,17 @@ def invalid(it: Place, name: str, schema: str) -> List[str]:
     ended_by = subprocess.run([need("xmllint"), "--noout", "--schema", path, os.path.join(it.folder, name)],
                               stdout=subprocess.PIPE, stderr=subprocess.STDOUT)
     rows = ended_by.stdout.decode().splitlines()
-    return [] if ended_by.returncode == 0 else sorted({row.split(": ", 2)[-1] for row in rows if "error" in row} or {rows[-1]})
+    if ended_by.returncode == 0:
+        return []
+    return sorted({row.split(": ", 2)[-1] for row in rows if "error" in row} or {rows[-1]})
 
 
 def fits_schemas() -> str:
-    """Reports fit the schemas of Jenkins and of Ant: the strict ones whole, the others but for the attribute `file`, and
-    for Ant the addresses of pictures."""
+    """Reports fit the schemas of Jenkins and of Ant: the strict ones whole, the others but for the attribute `file`."""
     with farm(6) as it:
         it.put("s01.answer", "x\x01y\n\xff")
         os.unlink(os.path.join(it.folder, "s02.answer"))
-        variables = it.stand_in("given=$(cat); case $given in *'# 3') kill -9 $$;; *) printf '%s\\n' \"$given\" | '" + PROGRAM + "' \"$@\";; esac")
+        variables = acting(it, "*'# 3') kill -9 $$;;")
         ended(it, ".", "--junit", "one.xml", **variables)
         ended(it, ".", "--junit", "two.xml", "--junit-family", "xunit2", **variables)
         ended(it, "s00.script", "--report", "page", "--junit", "three.xml", "--junit-family", "xunit2")
@@ -423,7 +446,7 @@ def fits_schemas() -> str:
 
 def checks() -> Checks:
     yield from named("farms", (
-        fits_schemas, a_process_dies, is_told_to_end, is_killed, goes_on_after_a_kill, few_files, breaks_of_cases, full_disk, results_as_they_end,
-        follows_links, shows_odd_names, parts_by_names, protocol_of_bazel, merges_parts, keeps_what_passed, keeps_no_failures,
-        changes_meanwhile, several_at_once
+        fits_schemas, a_process_dies, is_told_to_end, is_killed, goes_on_after_a_kill, few_files, breaks_of_cases,
+        full_disk, results_as_they_end, follows_links, shows_odd_names, parts_by_names, protocol_of_bazel, merges_parts,
+        keeps_what_passed, keeps_no_failures, changes_meanwhile, several_at_once
     ))

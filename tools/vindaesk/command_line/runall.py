@@ -1,10 +1,10 @@
 """Runs the stored cases of folders, and of the folders in them, and compares what they write with their answers.
 
-A case is a script NAME.script, or NAME.stack for a stack of windows; NAME.args has the words of another call over it, as
-`focus left v2`, or of one without a script, as `lookup resources.arsc 7f010000`; and a layout file NAME.xml that has an
-answer, and nothing else of its name, is printed by `dump`. The answer has to be that of NAME.answer, the status that of
-NAME.status, or 0 without that file, and the picture of the last frame that of NAME.png where there is one. With NAME.toml
-beside it, or vindaesk.toml in its folder, a script is tried in each configuration of that file, with
+A case is a script NAME.script, or NAME.stack for a stack of windows; NAME.args has the words of another call over it,
+as `focus left v2`, or of one without a script, as `lookup resources.arsc 7f010000`; and a layout file NAME.xml that has
+an answer, and nothing else of its name, is printed by `dump`. The answer has to be that of NAME.answer, the status that
+of NAME.status, or 0 without that file, and the picture of the last frame that of NAME.png where there is one. With
+NAME.toml beside it, or vindaesk.toml in its folder, a script is tried in each configuration of that file, with
 NAME@CONFIGURATION.answer and so on. A case without an answer fails.
 
 Of each that fails a unified diff, or a sentence, is written as soon as it is known, and with --report a page with its

@@ -63,7 +63,8 @@ class Ending:
         place, of = self.given.shard
         known = sum(it.is_known for it in self.whole.found.values())
         about = junit.About(self.begun, time.monotonic() - self.first, {
-            "vindaesk.version": places.version(), junit.PART: "%d/%d" % (place + 1, of), "vindaesk.known": "%d" % known})
+            "vindaesk.version": places.version(), junit.PART: "%d/%d" % (place + 1, of), "vindaesk.known": str(known),
+        })
         files.replace(self.given.junit, junit.written(self.whole.results(), about, self.given.junit_family))
 
     def write_sum(self) -> None:

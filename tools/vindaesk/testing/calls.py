@@ -40,9 +40,8 @@ def answered(call: Call, limits: Limits) -> Tuple[bytes, int]:
         with open(given, "wb", closefd=False) as file:
             file.write(call.given)
         os.lseek(given, 0, os.SEEK_SET)
-        started = subprocess.Popen(
-            [process.path(), *call.words], stdin=given, stdout=subprocess.PIPE, stderr=subprocess.DEVNULL, cwd=call.folder
-        )
+        started = subprocess.Popen([process.path(), *call.words], stdin=given, stdout=subprocess.PIPE,
+                                   stderr=subprocess.DEVNULL, cwd=call.folder)
     finally:
         os.close(given)
     try:

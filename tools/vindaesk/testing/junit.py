@@ -1,7 +1,7 @@
 """Reports in the form of JUnit, which servers that run tests read.
 
 A testcase has its path as `file` and its pictures in `system-out`, as GitLab, CircleCI and Jenkins read them; pytest
-calls this family of reports xunit1. The strict one, xunit2, has no `file`, as the schema junit-10.xsd of Jenkins has it.
+calls this family of reports xunit1. The strict one, xunit2, has no `file`, as the schema junit-10.xsd of Jenkins.
 """
 import datetime
 import os

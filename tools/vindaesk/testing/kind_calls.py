@@ -30,7 +30,8 @@ class Calls(Kind):
     def inputs(self, case: Case, beside: FrozenSet[bytes]) -> Inputs:
         folder = case.folder()
         words = os.fsencode("\0".join(words_of(case.stem, "")))
-        return Inputs((words,), [*named_in(words.replace(b"\0", b" "), folder, beside), os.path.join(folder, names.LIST)])
+        named = named_in(words.replace(b"\0", b" "), folder, beside)
+        return Inputs((words,), [*named, os.path.join(folder, names.LIST)])
 
     def has_picture(self, case: Case) -> bool:
         return False

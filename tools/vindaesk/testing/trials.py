@@ -22,7 +22,7 @@ class Task(NamedTuple):
 
 
 class Result(NamedTuple):
-    """How a case went: why it failed, or nothing; whether its files were written; how long it took, in seconds; what the
+    """How a case went: why it failed, or nothing; whether its files were written; how long it took, in seconds; what a
     failure left; whether it was known from before; the key under which it is kept now; and why it could not be kept."""
 
     case: Case
