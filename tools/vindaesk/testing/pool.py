@@ -3,6 +3,7 @@
 A process that dies takes no other task with it: its own is tried once more, in a new process, and then given up.
 """
 import collections
+import math
 import resource
 import time
 from multiprocessing import connection
@@ -36,7 +37,7 @@ Ended = Tuple[int, Any]
 
 
 class Pool:
-    """The processes. Each may take some seconds for a task."""
+    """The processes. Each may take some seconds for a task, or `math.inf`."""
 
     def __init__(self, act: Act, jobs: int, seconds: float):
         self.act = act
@@ -85,7 +86,8 @@ class Pool:
     def ended(self, waiting: Deque[int]) -> Iterator[Ended]:
         """Waits until something has ended, and yields that."""
         left = min(it.until for it in self.busy.values()) - time.monotonic()
-        ready = connection.wait([it.worker.connection for it in self.busy.values()], max(0, left))
+        limit = None if left == math.inf else max(0, left)
+        ready = connection.wait([it.worker.connection for it in self.busy.values()], limit)
         for handle in [it.fileno() for it in ready if isinstance(it, connection.Connection)]:
             busy = self.busy.pop(handle)
             try:
