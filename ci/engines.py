@@ -26,7 +26,7 @@ WHOLE = '''
 load("@vindaesk//bazel:vindaesk.bzl", "vindaesk_folder_test")
 vindaesk_folder_test(name = "whole", srcs = glob(["part000/**"]), shard_count = 4, tags = ["manual"])
 '''
-# in the place of what Bazel would load from the network: empty, but for one name
+# in the place of what Bazel would load from the network: empty, except for one name
 COVERAGE = 'filegroup(name = "coverage_report_generator", visibility = ["//visibility:public"])\n'
 STUBS = {"remote_coverage_tools": COVERAGE, "rules_cc": "", "rules_java": ""}
 

@@ -107,7 +107,7 @@ def waits(it: Place) -> Dict[str, str]:
 
 
 def pids_of(it: Place, count: int) -> List[int]:
-    """The processes of programs that have begun, once there are so many."""
+    """The processes of programs that have begun, once there is this number of them."""
     until = time.monotonic() + SECONDS
     while time.monotonic() < until:
         with contextlib.suppress(FileNotFoundError):
@@ -232,7 +232,7 @@ def results_as_they_end() -> str:
 
 
 def follows_links() -> str:
-    """A folder behind a link, one in itself, a script behind a link, and what is named twice."""
+    """Links to a folder, to a folder around, and to a script; and what is named twice."""
     with farm(2) as it:
         os.mkdir(os.path.join(it.folder, "real"))
         for name in ("a.script", "a.answer"):
@@ -419,7 +419,7 @@ def invalid(it: Place, name: str, schema: str) -> List[str]:
 
 
 def fits_schemas() -> str:
-    """Reports fit the schemas of Jenkins and of Ant: the strict ones whole, the others but for the attribute `file`."""
+    """Reports fit the schemas of Jenkins and of Ant: the strict ones whole, the others except for the attribute `file`."""
     with farm(6) as it:
         it.put("s01.answer", "x\x01y\n\xff")
         os.unlink(os.path.join(it.folder, "s02.answer"))

@@ -50,7 +50,7 @@ class Kind(abc.ABC):
         raise Failure("%s has no picture" % case.name(), NOT_RUN)
 
     def views(self, case: Case) -> List[Placed]:
-        """The views that a case ends with, as far as it has some."""
+        """The views that a case ends with, or none, where it has no tree."""
         return []
 
 

@@ -14,7 +14,7 @@ REPORT, FOLDER, ONLY = "XML_OUTPUT_FILE", "TEST_TMPDIR", "TESTBRIDGE_TEST_ONLY"
 
 
 class Part(NamedTuple):
-    """The part of this number, from 0, of so many."""
+    """The part of this number, from 0, of a number of parts."""
 
     place: int
     of: int
@@ -43,7 +43,7 @@ def number_of(name: str) -> int:
 
 
 def by_variables() -> Asked:
-    """What the variables ask for. That the part is known is told by touching a file."""
+    """What the variables ask for. A file is touched, which says that the part is known."""
     found = os.environ.get
     part = None
     if found(TOTAL):

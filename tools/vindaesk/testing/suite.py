@@ -31,7 +31,7 @@ class Suite:
         return lambda task: trials.recalled(task, keys, kept)
 
     def run(self, jobs: int) -> Generator[Result, None, None]:
-        """Runs the cases, so many at once. Each result comes as soon as it is known."""
+        """Runs the cases, some at once. Each result comes as soon as it is known."""
         if not self.tasks:
             return
         pool = Pool(self.act(), min(jobs, len(self.tasks)), RUNS * self.tasks[0].seconds + MORE_SECONDS)

@@ -17,24 +17,24 @@ PR_SET_PDEATHSIG = 1
 GRACE = 2.0
 
 
-class Told(BaseException):
-    """This process was told to end."""
+class Ended(BaseException):
+    """The signal came by which this process has to end."""
 
 
-def be_told(number: int, _: object) -> NoReturn:
+def take(number: int, _: object) -> NoReturn:
     """Takes the signal to end."""
     signal.signal(number, signal.SIG_IGN)
-    raise Told
+    raise Ended
 
 
 def end_with(parent: int) -> None:
-    """Has the kernel tell this process to end once its parent has, which may have happened already."""
-    signal.signal(signal.SIGTERM, be_told)
+    """Has the kernel end this process once its parent has ended, which may have happened already."""
+    signal.signal(signal.SIGTERM, take)
     for number in (signal.SIGINT, signal.SIGHUP):
         signal.signal(number, signal.SIG_IGN)
     ctypes.CDLL(None, use_errno=True).prctl(PR_SET_PDEATHSIG, signal.SIGTERM)
     if os.getppid() != parent:
-        raise Told
+        raise Ended
 
 
 def serve(connection: Connection, act: Callable[[Any], Any]) -> None:
@@ -55,7 +55,7 @@ def live(connection: Connection, act: Callable[[Any], Any], parent: int, others:
         for handle in others:
             os.close(handle)
         serve(connection, act)
-    except Told:
+    except Ended:
         pass
     except BaseException as error:
         with contextlib.suppress(BaseException):
@@ -100,7 +100,7 @@ def has_ended(worker: Worker) -> bool:
 
 
 def end(workers: List[Worker]) -> None:
-    """Ends processes: first they are told, so that they remove what is half made."""
+    """Ends processes: first by a signal that they take, so that they remove what is half made."""
     for worker in workers:
         with contextlib.suppress(OSError):
             os.kill(worker.pid, signal.SIGTERM)
