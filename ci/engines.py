@@ -1,6 +1,6 @@
-"""Tries the engines of farms over 2000 stored scripts: Bazel, GNU parallel over a server of SSH, and Slurm, each on this
-machine alone, where Debian's bazel-bootstrap, parallel with openssh-server, and slurm-wlm with munge are installed. What
-they start is ended. A part is killed in the middle, and in the end each case is reported once."""
+"""Tries the engines of farms over 2000 stored scripts: Bazel, GNU parallel over a server of SSH, and Slurm, each on
+this machine alone, where Debian's bazel-bootstrap, parallel with openssh-server, and slurm-wlm with munge are installed.
+What they start is ended. A part is killed in the middle, and in the end each case is reported once."""
 import contextlib
 import getpass
 import os
@@ -118,8 +118,8 @@ def runs_of(text: str) -> Optional[str]:
 
 
 def bazel() -> str:
-    """All in shards, one of which is killed; again with nothing changed, and with one script changed; and one test in shards
-    of Bazel."""
+    """All in shards, one of which is killed; again with nothing changed, and with one script changed; and one test in
+    shards of Bazel."""
     need("bazel")
     with scripts() as folder:
         it = Bazel(folder)

@@ -150,8 +150,9 @@ def is_killed() -> str:
         variables = waits(it)
         call = started(it, ".", "--jobs", "2", **variables)
         pids = pids_of(it, 2)
+        # its output goes on as long as a process that it has started
         call.kill()
-        call.communicate(timeout=SECONDS)
+        call.wait()
         if not pids or not end_all(pids):
             return "a program goes on"
         it.put("program", "#!/usr/bin/env bash\n" + COUNTS % it.folder)
@@ -167,8 +168,9 @@ def goes_on_after_a_kill() -> str:
         variables = it.stand_in(act + "exec '%s' \"$@\"\n" % PROGRAM)
         call = started(it, ".", "--jobs", "1", **variables)
         pids_of(it, 1)
+        # its output goes on as long as a process that it has started
         call.kill()
-        call.communicate(timeout=SECONDS)
+        call.wait()
         before = runs_of(it)
         it.put("go", "")
         status, lines, _ = ended(it, ".", "--junit", "j.xml", **variables)
@@ -350,7 +352,8 @@ def keeps_what_passed() -> str:
         again = ended(it, ".", "--junit", "j.xml", **variables)
         if again[:2] != (0, ["4 passed, 0 failed"]) or runs_of(it):
             return "a second time: %s" % (again,)
-        changes = {"a.script": b"\nbg v1 #ff0000ff\n", "ids.txt": b"app:id/b = 0x7f080002\n", "b.xml": b"\0",
+        changes = {"a.script": b"\nbg v1 #ff0000ff\n", "ids.txt": b"app:id/b = 0x7f080002\n",
+                   "b.xml": b"\0",
                    "start.lines": b"dpi 240\n", "a.toml": b"dpi = 320\n", "a@x.png": b"x", "a@x.answer": b"x",
                    "c.args": b" 7f010001", "d.args": b"1", "d.script": b"x\n", "e.stack": b"x\n", "e.answer": b"x", "program": b"\n"}
         for name, more in changes.items():
@@ -419,7 +422,7 @@ def invalid(it: Place, name: str, schema: str) -> List[str]:
 
 
 def fits_schemas() -> str:
-    """Reports fit the schemas of Jenkins and of Ant: the strict ones whole, the others except for the attribute `file`."""
+    """Reports fit the schemas of Jenkins and of Ant: the strict ones whole, the others less the attribute `file`."""
     with farm(6) as it:
         it.put("s01.answer", "x\x01y\n\xff")
         os.unlink(os.path.join(it.folder, "s02.answer"))

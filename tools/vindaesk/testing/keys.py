@@ -7,7 +7,8 @@ ids in the place of names, draw the picture and compare.
 import functools
 import hashlib
 import os
-from typing import Dict, FrozenSet, Optional, Tuple
+import time
+from typing import Callable, Dict, FrozenSet, Generic, Optional, Tuple, TypeVar
 
 from ..common import files
 from ..common.failures import Failure
@@ -19,7 +20,11 @@ FORM = b"vindaesk 1"
 TOOLS = os.path.dirname(os.path.dirname(os.path.abspath(__file__)))
 
 
+# longer than the tick of any file system's clock, in nanoseconds
+SETTLED = 2 * 10**9
+
 Stamp = Tuple[int, ...]
+T = TypeVar("T")
 
 
 class Unkept(Exception):
@@ -49,17 +54,42 @@ def of_tools() -> bytes:
     return made.digest()
 
 
-def stamp_of(path: str) -> Stamp:
-    """By what it is seen that a file or a folder has changed."""
+def stamp_of(path: str) -> Optional[Stamp]:
+    """By what it is seen that a file or a folder has changed; None where there is none, or where it has changed so lately
+    that another change might not be seen by it."""
     try:
         found = os.stat(path)
     except FileNotFoundError:
-        return ()
-    return found.st_ino, found.st_size, found.st_mtime_ns, found.st_ctime_ns
+        return None
+    latest = max(found.st_mtime_ns, found.st_ctime_ns)
+    is_settled = latest < time.time_ns() - SETTLED
+    return (found.st_ino, found.st_size, found.st_mtime_ns, found.st_ctime_ns) if is_settled else None
+
+
+def listing_of(folder: str) -> FrozenSet[bytes]:
+    """The names in a folder."""
+    return frozenset(os.listdir(os.fsencode(folder)))
+
+
+class Recalled(Generic[T]):
+    """What was read of files and folders, by their paths, as long as they have not changed."""
+
+    def __init__(self, read: Callable[[str], T]):
+        self.read = read
+        self.known: Dict[str, Tuple[Stamp, T]] = {}
+
+    def of(self, path: str) -> T:
+        """What is read of a path."""
+        stamp = stamp_of(path)
+        if stamp is None:
+            return self.read(path)
+        if path not in self.known or self.known[path][0] != stamp:
+            self.known[path] = stamp, self.read(path)
+        return self.known[path][1]
 
 
 class Keys:
-    """The keys of cases. Files that several cases name are read once; a renewed object reads them anew."""
+    """The keys of cases."""
 
     def __init__(self, seconds: float):
         made = hashlib.sha256(FORM + b" %g " % seconds)
@@ -67,14 +97,7 @@ class Keys:
         library = native.path()
         made.update(digest_of(library) if library else b"")
         self.settings = made
-        self.digests: Dict[str, Tuple[Stamp, bytes]] = {}
-        self.listings: Dict[str, Tuple[Stamp, FrozenSet[bytes]]] = {}
-
-    def renewed(self) -> "Keys":
-        """The same, which has read no file yet."""
-        made = Keys.__new__(Keys)
-        made.settings, made.digests, made.listings = self.settings, {}, {}
-        return made
+        self.digests, self.listings = Recalled(digest_of), Recalled(listing_of)
 
     def of(self, case: Case) -> Optional[str]:
         """The key of a case; None where there is something that cannot be read, so that its result is not kept."""
@@ -85,28 +108,13 @@ class Keys:
 
     def made(self, case: Case) -> str:
         """The key of a case."""
-        folder = case.folder()
-        inputs = kinds.of(case).inputs(case, self.beside(folder))
+        inputs = kinds.of(case).inputs(case, self.listings.of(case.folder()))
         made = self.settings.copy()
         made.update(os.fsencode(case.ending))
         for fact in inputs.facts:
             made.update(b"%d:" % len(fact) + fact)
         for path in inputs.files:
-            made.update(os.fsencode(os.path.basename(path)) + b"\0" + self.digest(path))
+            made.update(os.fsencode(os.path.basename(path)) + b"\0" + self.digests.of(path))
         for ending in ENDINGS:
             made.update(ending.encode() + digest_of(case.file(ending)))
         return made.hexdigest()
-
-    def digest(self, path: str) -> bytes:
-        """The checksum of a file that other cases may name too."""
-        stamp = stamp_of(path)
-        if path not in self.digests or self.digests[path][0] != stamp:
-            self.digests[path] = stamp, digest_of(path)
-        return self.digests[path][1]
-
-    def beside(self, folder: str) -> FrozenSet[bytes]:
-        """The names in a folder."""
-        stamp = stamp_of(folder)
-        if folder not in self.listings or self.listings[folder][0] != stamp:
-            self.listings[folder] = stamp, frozenset(os.listdir(os.fsencode(folder)))
-        return self.listings[folder][1]

@@ -82,7 +82,7 @@ def recalled(task: Task, keys: Keys, kept: Kept) -> Result:
     if key and kept.has(key):
         return Result(task.case, None, seconds=time.monotonic() - begun, is_known=True)
     found = tried(task)
-    if not key or found.problem or found.is_accepted or keys.renewed().of(task.case) != key:
+    if not key or found.problem or found.is_accepted or keys.of(task.case) != key:
         return found
     lost = kept.keep(key)
     return found._replace(key="" if lost else key, lost=lost)

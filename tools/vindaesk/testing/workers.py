@@ -44,7 +44,9 @@ def serve(connection: Connection, act: Callable[[Any], Any]) -> None:
             given = connection.recv()
         except (EOFError, OSError):
             return
-        connection.send(act(given))
+        found = act(given)
+        with contextlib.suppress(OSError):
+            connection.send(found)
 
 
 def live(connection: Connection, act: Callable[[Any], Any], parent: int, others: Sequence[int]) -> NoReturn:
