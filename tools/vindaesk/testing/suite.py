@@ -3,10 +3,10 @@ import contextlib
 import os
 from typing import Any, Callable, Dict, Generator, List, Optional, Sequence
 
+from ..common.pool import Lost, Pool
 from . import trials
 from .kept import Kept
 from .keys import Keys
-from .pool import Lost, Pool
 from .problems import Problem, Sort
 from .trials import Result, Task
 

@@ -9,7 +9,7 @@ import time
 from multiprocessing import connection
 from typing import Any, Callable, Deque, Dict, Generator, Iterator, List, NamedTuple, Optional, Sequence, Tuple
 
-from ..common.messages import say
+from .messages import say
 from .workers import Worker, end
 
 # how often a task is tried whose process dies
