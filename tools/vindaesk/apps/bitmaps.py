@@ -1,7 +1,9 @@
 """Bitmaps of apps: their size, the padding of a nine-patch, and the mean of their colours."""
+import contextlib
+import operator
 import struct
 import zlib
-from typing import Iterator, List, NamedTuple, Optional, Tuple
+from typing import Iterable, Iterator, List, NamedTuple, Optional, Tuple
 
 from ..pictures import png
 
@@ -50,6 +52,43 @@ def mean(pixels: List[Tuple[int, int, int, int]]) -> int:
     return found
 
 
+def planes(row: bytes, form: int, palette: bytes, alphas: bytes) -> Tuple[bytes, bytes, bytes, bytes]:
+    """Alphas, reds, greens and blues of a row, by the colour type of its file."""
+    if form == 3:
+        red, green, blue = (row.translate(table(palette[part::3], 0)) for part in range(3))
+        if 3 * max(row) + 2 >= len(palette):
+            raise ValueError("a colour is not in the palette")
+        return row.translate(table(alphas, 255)), red, green, blue
+    if form in (4, 6):
+        step = png.BYTES[form]
+        red, green, blue = (row[min(part, step - 2) :: step] for part in range(3))
+        return row[step - 1 :: step], red, green, blue
+    red, green, blue = (row, row, row) if form == 0 else (row[0::3], row[1::3], row[2::3])
+    return b"\xff" * len(red), red, green, blue
+
+
+def table(known: bytes, otherwise: int) -> bytes:
+    """The bytes that replace each of 256."""
+    return known[:256] + bytes([otherwise]) * max(256 - len(known), 0)
+
+
+def mean_of(rows: Iterable[bytes], parts: "PngParts") -> int:
+    """The mean colour of rows, as `mean` has it."""
+    form, count, weight, sums = parts.head[9], 0, 0, [0, 0, 0]
+    for row in rows:
+        alphas, *others = planes(row, form, parts.palette, parts.alphas)
+        count += len(alphas)
+        weight += sum(alphas)
+        for part, it in enumerate(others):
+            sums[part] += sum(map(operator.mul, alphas, it))
+    if not weight:
+        return 0
+    found = weight // count
+    for it in sums:
+        found = found << 8 | it // weight
+    return found
+
+
 class PngParts(NamedTuple):
     """What a PNG file has: the fields of its header, its palette with alphas, its rows packed, and a nine-patch."""
 
@@ -86,17 +125,22 @@ def rows_of(parts: PngParts, most: int) -> Iterator[bytes]:
         yield above
 
 
-def pixels_of(parts: PngParts, most: int = MAX_PIXELS) -> Optional[List[List[Tuple[int, int, int, int]]]]:
-    """The pixels of a PNG file, row by row, up to about `most` of them, where it has 8 bits a channel."""
+def has_rows(parts: PngParts) -> bool:
+    """Whether the rows can be read: 8 bits a channel, not interlaced, no side too long."""
     width, height, bits, form, *others = struct.unpack(">IIBBBBB", parts.head)
-    is_fit = 0 < width <= MAX_SIDE and 0 < height <= MAX_SIDE
-    if bits != 8 or form not in png.BYTES or others != [0, 0, 0] or not is_fit:
+    return bits == 8 and form in png.BYTES and others == [0, 0, 0] and 0 < width <= MAX_SIDE and 0 < height <= MAX_SIDE
+
+
+def pixels_of(parts: PngParts, most: int) -> Optional[List[List[Tuple[int, int, int, int]]]]:
+    """The pixels of a PNG file, row by row, up to about `most` of them, where it has 8 bits a channel."""
+    if not has_rows(parts):
         return None
+    (width,) = struct.unpack_from(">I", parts.head)
     rows = rows_of(parts, max(most // width, 1))
-    return [colour_parts(row, form, parts.palette, parts.alphas) for row in rows]
+    return [colour_parts(row, parts.head[9], parts.palette, parts.alphas) for row in rows]
 
 
-def of_png(data: bytes) -> Bitmap:
+def of_png(data: bytes, has_colour: bool = True) -> Bitmap:
     """The bitmap of a PNG file; what is wrong with it is a ValueError."""
     parts = parts_of(data)
     width, height = struct.unpack_from(">II", parts.head)
@@ -104,11 +148,10 @@ def of_png(data: bytes) -> Bitmap:
     if len(parts.patch) >= PADDING_AT + 16:
         left, right, top, bottom = struct.unpack_from(">iiii", parts.patch, PADDING_AT)
         padding = left, top, right, bottom
-    try:
-        rows = pixels_of(parts)
-    except (ValueError, zlib.error, IndexError):
-        rows = None
-    colour = mean([it for row in rows for it in row]) if rows else None
+    colour = None
+    if has_colour and has_rows(parts):
+        with contextlib.suppress(ValueError, zlib.error, IndexError):
+            colour = mean_of(rows_of(parts, max(MAX_PIXELS // width, 1)), parts)
     return Bitmap(width, height, padding, colour)
 
 
@@ -121,7 +164,7 @@ def run(line: List[Tuple[int, int, int, int]]) -> Tuple[int, int]:
 def of_nine_patch_source(data: bytes) -> Bitmap:
     """The bitmap of a nine-patch as people draw it: its border of one pixel says at the right and at the bottom
     where the content is, or else at the left and at the top where it stretches."""
-    found = of_png(data)
+    found = of_png(data, False)
     rows = pixels_of(parts_of(data), MAX_SOURCE)
     if rows is None or len(rows) < found.height or found.width < 3 or found.height < 3:
         return found._replace(width=max(found.width - 2, 1), height=max(found.height - 2, 1))
@@ -159,11 +202,11 @@ def of_webp(data: bytes) -> Optional[Bitmap]:
     return None
 
 
-def read(data: bytes, is_nine_patch_source: bool = False) -> Optional[Bitmap]:
-    """The bitmap of a file; nothing where it is of no known form, or broken."""
+def read(data: bytes, is_nine_patch_source: bool = False, has_colour: bool = True) -> Optional[Bitmap]:
+    """The bitmap of a file, with its colour where that is asked for; nothing where it is of no known form, or broken."""
     try:
         if data.startswith(png.SIGNATURE):
-            return of_nine_patch_source(data) if is_nine_patch_source else of_png(data)
+            return of_nine_patch_source(data) if is_nine_patch_source else of_png(data, has_colour)
         if data.startswith(b"\xff\xd8"):
             return of_jpeg(data)
         if data[:6] in (b"GIF87a", b"GIF89a"):

@@ -117,13 +117,16 @@ class Shown(NamedTuple):
 
 
 class Drawables:
-    """Reads the drawables of an app, each once for each theme."""
+    """Reads the drawables of an app, each once for each theme; the colours of bitmaps, which take the most time, where
+    they are asked for."""
 
-    def __init__(self, files: AppFiles, resources: Resources, density: int, states: FrozenSet[str] = frozenset()):
-        self.files, self.resources, self.density = files, resources, density
+    def __init__(self, files: AppFiles, resources: Resources, density: int, states: FrozenSet[str] = frozenset(),
+                 has_colours: bool = True):
+        self.files, self.resources, self.density, self.has_colours = files, resources, density, has_colours
         self.states = states | PLAIN if "state_disabled" not in states else (states | PLAIN) - {"state_enabled"}
         self.found: Dict[Tuple[str, str, Tuple[int, ...]], Drawable] = {}
         self.of_checked: Optional[Drawables] = None
+        self.of_sizes = self if not has_colours else Drawables(files, resources, density, self.states, False)
         self.bitmaps = 0
 
     def checked(self) -> "Drawables":
@@ -169,7 +172,8 @@ class Drawables:
         self.bitmaps += 1
         if self.bitmaps > MAX_BITMAPS:
             return unknown("more than %d bitmaps are shown, and this is one more" % MAX_BITMAPS)
-        found = bitmaps.read(self.files.read(path, source), path.endswith(".9.png") and self.files.is_source(source))
+        is_drawn = path.endswith(".9.png") and self.files.is_source(source)
+        found = bitmaps.read(self.files.read(path, source), is_drawn, self.has_colours)
         if found is None:
             return unknown("%s is no bitmap that is known" % path)
         entry = self.resources.entry(passed[-1]) if passed else None
@@ -275,7 +279,7 @@ class Drawables:
         varies = root.attributes.get("android:variablePadding")
         if (varies and varies.boolean()) or not any("android:drawable" in it.attributes or it.children for it in items):
             return found
-        all_states = [self.of_child(it, shown) for it in items]
+        all_states = [self.of_sizes.of_child(it, shown) for it in items]
         paddings = [it.padding for it in all_states if it.padding]
         if paddings:
             left, top, right, bottom = (max(it[k] for it in paddings) for k in range(4))

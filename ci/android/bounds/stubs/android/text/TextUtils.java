@@ -1,0 +1,7 @@
+package android.text;
+
+public class TextUtils {
+    public static int getLayoutDirectionFromLocale(java.util.Locale locale) {
+        return 0;
+    }
+}

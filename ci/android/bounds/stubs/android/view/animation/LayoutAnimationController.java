@@ -1,0 +1,6 @@
+package android.view.animation;
+
+public class LayoutAnimationController {
+    public static class AnimationParameters {
+    }
+}
