@@ -3,15 +3,18 @@ classes give to the same files: each view of each layout at two screens, left to
 
     python3 ci/android_bounds.py BASE APP.apk .. [--framework APK] [--fault]
 
-BASE is the folder frameworks/base of Android's source; ci/apps_android fetches it and asks this. It prints each view
-whose bounds differ, and how many were compared; the status is 1 if one differs that no page of this project lists.
-With --fault a margin of each tree is made one larger for Android's classes, to see that a difference is found."""
+BASE is the folder frameworks/base of Android's source; ci/apps_android fetches it and asks this. Where bounds differ,
+Android's classes are asked again with a known difference switched: they do there as the program does. It prints each
+view whose bounds differ then too, and how many were compared. The status is 1 if there is one, or nothing to compare.
+With --fault each tree has a margin that only Android's classes are told of, to see that differences are found."""
 import argparse
 import os
 import subprocess
 import sys
 import tempfile
-from typing import Iterator, List, NamedTuple, Optional, Tuple
+from collections import Counter
+from dataclasses import dataclass, field
+from typing import Iterator, List, Optional, Tuple
 
 sys.path.append(os.path.join(os.path.dirname(os.path.abspath(__file__)), os.pardir, "tools"))
 
@@ -25,21 +28,41 @@ from vindaesk.resources.devices import device  # noqa: E402
 
 # the qualifiers of each screen, which are laid out in its pixels: 320 by 480, and 1080 by 1920
 SCREENS = ("w320dp-h480dp-mdpi", "w360dp-h640dp-xxhdpi")
-KNOWN = "lengths"
+# the known differences, which docs/ANDROID.md has, as they are switched one after the other
+KNOWN = {
+    "": "",
+    "lengths": "a length below 0 is brought to the nearest pixel; Android 6.0.1 makes it one more",
+    "lengths,weights": "a weight is a whole number of 256ths",
+}
 Bounds = Optional[Tuple[int, int, int, int]]
 
 
-class Sums(NamedTuple):
-    """How many layouts and views were compared, and of how many the bounds differ."""
+@dataclass
+class Sums:
+    """How many layouts and views were compared, of how many the bounds are the same without a switch, and with which
+    known difference they are."""
 
     layouts: int = 0
     views: int = 0
-    unlike_layouts: int = 0
-    unlike_views: int = 0
+    same_layouts: int = 0
+    same_views: int = 0
+    known_layouts: "Counter[str]" = field(default_factory=Counter)
+    known_views: "Counter[str]" = field(default_factory=Counter)
 
-    def plus(self, other: "Sums") -> "Sums":
-        """Two sums together."""
-        return Sums(*map(sum, zip(self, other)))
+    def add(self, other: "Sums") -> None:
+        """Adds other sums."""
+        self.layouts += other.layouts
+        self.views += other.views
+        self.same_layouts += other.same_layouts
+        self.same_views += other.same_views
+        self.known_layouts.update(other.known_layouts)
+        self.known_views.update(other.known_views)
+
+    @property
+    def is_explained(self) -> bool:
+        """Whether there are views, and each has the same bounds, or other ones for a known reason."""
+        layouts = self.same_layouts + sum(self.known_layouts.values())
+        return bool(self.views) and layouts == self.layouts
 
 
 class Judge:
@@ -107,20 +130,34 @@ def own_bounds(screen: Screen, folder: str) -> List[Bounds]:
     return [bounds_in(it.split()[1:]) for it in written.decode().split("\n") if it.startswith("v")]
 
 
-def compared(screen: Screen, judge: Judge, folder: str, is_faulty: bool) -> Sums:
-    """Compares a layout; prints each view that differs."""
-    try:
-        found, wanted = own_bounds(screen, folder), judge.bounds(tree_lines(screen, KNOWN, is_faulty))
-    except AssertionError as error:
-        print("%s: not compared: %s" % (screen.name, error))
-        return Sums(1, 0, 1, 0)
-    unlike = [number for number, pair in enumerate(zip(found, wanted), 1) if pair[0] != pair[1]]
-    for number in unlike:
-        what = (screen.file, number, *screen.window, found[number - 1], wanted[number - 1])
-        print("%s: v%d at %dx%d: %s here, %s in Android" % what)
+def unlike(found: List[Bounds], wanted: List[Bounds]) -> List[int]:
+    """The numbers of the views whose bounds differ."""
     if len(found) != len(wanted):
-        print("%s: %d views here, %d in Android" % (screen.file, len(found), len(wanted)))
-    return Sums(1, len(found), bool(unlike) or len(found) != len(wanted), len(unlike))
+        raise AssertionError("%d views here, %d in Android" % (len(found), len(wanted)))
+    return [number for number, pair in enumerate(zip(found, wanted), 1) if pair[0] != pair[1]]
+
+
+def compared(screen: Screen, judge: Judge, folder: str, is_faulty: bool) -> Sums:
+    """Compares a layout; prints each view that differs for no known reason."""
+    sums = Sums(1)
+    place = "%s at %dx%d" % (screen.file, *screen.window)
+    try:
+        found = own_bounds(screen, folder)
+        sums.views = len(found)
+        plain = judge.bounds(tree_lines(screen, "", is_faulty))
+        first = unlike(found, plain)
+        sums.same_views = len(found) - len(first)
+        sums.same_layouts = not first
+        known = next((it for it in KNOWN if not unlike(found, judge.bounds(tree_lines(screen, it, is_faulty)))), None)
+    except AssertionError as error:
+        print("%s: not compared: %s" % (place, error))
+        return sums
+    if known:
+        sums.known_layouts[known] += 1
+        sums.known_views[known] += len(first)
+    for number in first if known is None else ():
+        print("%s: v%d: %s here, %s in Android" % (place, number, found[number - 1], plain[number - 1]))
+    return sums
 
 
 def screens_of(path: str, framework: Optional[str]) -> Iterator[Screen]:
@@ -152,18 +189,20 @@ def main() -> int:
         for path in given.apps:
             sums = Sums()
             for screen in screens_of(path, given.framework):
-                sums = sums.plus(compared(screen, judge, folder, given.fault))
+                sums.add(compared(screen, judge, folder, given.fault))
             if sums.layouts:
                 say(os.path.basename(path), sums)
-            total = total.plus(sums)
+            total.add(sums)
         judge.end()
     say("all", total)
-    return 1 if total.unlike_layouts or not total.views else 0
+    for it, count in total.known_layouts.items():
+        print("known: %s: %d views of %d layouts" % (KNOWN[it], total.known_views[it], count))
+    return 0 if total.is_explained else 1
 
 
 def say(name: str, sums: Sums) -> None:
     """Prints what was compared."""
-    same = sums.layouts - sums.unlike_layouts, sums.layouts, sums.views - sums.unlike_views, sums.views
+    same = sums.same_layouts, sums.layouts, sums.same_views, sums.views
     print("%s: %d of %d layouts, %d of %d views have the same bounds" % (name, *same), flush=True)
 
 
