@@ -12,8 +12,7 @@ from ..resources.framework import PATH as BUILT_IN
 from ..resources.resources import File, Resources
 from ..resources.themes import Theme
 from ..resources.tables import Table as ResourceTable
-from ..resources.values import Value
-from . import app_files, constraint_solver, report, source_tree, writer
+from . import app_files, app_themes, constraint_solver, report, source_tree, writer
 from .app_files import MANIFEST, TABLE, AppFiles
 from .dex import Classes
 from .draft import MATCH, App, Node, colour_of, whole
@@ -31,10 +30,6 @@ from .widget_table import Table
 CONTENT = 0x01020002
 BASE_DENSITY = 160
 MAX_SIDE = 4096
-# the theme of an app that names none, by the API level for which it was made
-DEFAULT_THEMES = ((14, "Theme.DeviceDefault.Light.DarkActionBar"), (11, "Theme.Holo"), (0, "Theme"))
-LAST_THEME = "Theme.Material.Light"
-LAUNCHER = "android.intent.category.LAUNCHER"
 ANDROID = "android"
 FRAMEWORK = 1
 
@@ -128,21 +123,13 @@ class OpenApp:
         """What all layouts share."""
         if request not in self.made:
             resources = self.resources(request.device)
-            lookup = Lookup(resources)
-            theme, name = self.theme_of(request, resources)
+            theme, name = app_themes.chosen(request.theme, self.manifest(), resources, self.files)
+            lookup = Lookup(resources, app_themes.stand_ins(theme, resources))
             app = App(resources, lookup, Drawables(self.files, resources, request.density, request.states))
             mapper = Mapper(app, Table(sorted(RULES), list(request.maps)), RULES, self.classes)
             expansion = Expansion(self.files, resources, lookup, request.options)
             self.made[request] = Made(resources, lookup, mapper, expansion, theme, name)
         return self.made[request]
-
-    def theme_of(self, request: Request, resources: Resources) -> Tuple[Theme, str]:
-        """The theme of all layouts, and its name."""
-        number = named_theme(request.theme, resources) if request.theme else manifest_theme(self.manifest(), resources)
-        if number is None:
-            return resources.theme(), "none"
-        name = resources.name(number)
-        return resources.theme(number), str(name) if name else "@%08x" % number
 
     def screen(self, name: str, request: Request, taken: Sequence[str] = ()) -> Screen:
         """A layout for a device. What is wrong with it is in the result."""
@@ -212,55 +199,6 @@ def file_of(name: str, resources: Resources) -> File:
     if value is None or not value.is_string or not value.text:
         raise Failure("the layout '%s' has no file for this device" % printable(name), WRONG)
     return File(value.text, value.source)
-
-
-def named_theme(name: str, resources: Resources) -> int:
-    """The theme of a name."""
-    package, _, plain = name.rpartition(":")
-    plain = plain.rpartition("/")[2]
-    for it in (package,) if package else ("", "android"):
-        number = resources.find(plain, "style", it)
-        if number is not None:
-            return number
-    raise Failure("there is no theme '%s' in the app or in the framework" % printable(name), NOT_RUN)
-
-
-def theme_number(element: Optional[Element]) -> Optional[int]:
-    """The theme that an element of the manifest names."""
-    value: Optional[Value] = element.attributes.get("android:theme") if element else None
-    return value.data if value is not None and value.is_reference and value.data else None
-
-
-def manifest_theme(manifest: Optional[Element], resources: Resources) -> Optional[int]:
-    """The theme of the activity that starts the app, or of the app; else that which Android gives."""
-    if manifest is not None:
-        application = next((it for it in manifest.children if it.name == "application"), None)
-        activities = [it for it in application.children if it.name == "activity"] if application else []
-        first = next((it for it in activities if any(
-            below.name == "category" and (below.attributes.get("android:name") or Value(0, 0)).text == LAUNCHER
-            for below in it.walk())), None)
-        for number in (theme_number(first), theme_number(application), *map(theme_number, activities)):
-            if number is not None and resources.bag(number) is not None:
-                return number
-    level = target_of(manifest)
-    if level == 0:
-        level = resources.device.sdk
-    names = [it for least, it in DEFAULT_THEMES if manifest is not None and level >= least]
-    for name in (*names, LAST_THEME):
-        number = resources.find(name, "style", "android")
-        if number is not None and resources.bag(number) is not None:
-            return number
-    return None
-
-
-def target_of(manifest: Optional[Element]) -> int:
-    """The API level for which an app was made; 0 where a source does not say it, since its build file does."""
-    uses = next((it for it in manifest.children if it.name == "uses-sdk"), None) if manifest else None
-    for key in ("android:targetSdkVersion", "android:minSdkVersion"):
-        value = uses.attributes.get(key) if uses else None
-        if value is not None and value.is_int:
-            return value.number()
-    return 0 if manifest is not None and manifest.column else 1
 
 
 def add_sources(files: AppFiles, parts: List[str], base: str) -> None:

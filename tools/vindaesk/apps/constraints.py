@@ -271,6 +271,8 @@ def map_constraint(draft: Draft, mapper: Mapper, arguments: str) -> None:
             found.children.append(Child(id_of(view) or -1 - place, node, ties, is_gone, ratio, axis))
     if found.children:
         draft.node.constraints = found
+    if draft.attributes.given("app:layoutDescription") is not None:
+        draft.place_differently("app:layoutDescription", "the constraints of its scene are left out", True)
 
 
 def check(draft: Draft) -> None:

@@ -4,6 +4,7 @@ from dataclasses import dataclass, field
 from fractions import Fraction
 from typing import Dict, List, NamedTuple, Optional, Set
 
+from ..common.failures import Failure
 from ..layouts import attributes as known
 from ..layouts import documents
 from ..layouts.attributes import Form
@@ -103,8 +104,29 @@ class Draft:
         self.read: Set[str] = set()
         if "style" in view.attributes:
             self.record.use("style")
+            self.check_parents("style", view.attributes["style"], Effect.BOUNDS)
         for why in self.attributes.broken:
             self.record.leave_out("style", why, Effect.BOUNDS)
+        self.check_library(class_styles)
+
+    def check_parents(self, key: str, value: Value, effect: Effect) -> None:
+        """Says of a style that a parent of it is not there."""
+        try:
+            missing = self.app.lookup.missing_parent(value, self.theme)
+        except Failure:
+            return
+        if missing:
+            name = self.named(Value(Type.REFERENCE, missing))
+            effect = Effect.TEXT if "TextAppearance" in name else effect
+            self.record.approximate(key, "its parent %s is not in the resources" % name, effect)
+
+    def check_library(self, class_styles: List[str]) -> None:
+        """Says that the style of the class is in a library that is not there."""
+        if self.app.lookup.stand_ins and class_styles and class_styles[0].startswith("app:"):
+            if not self.attributes.class_key.startswith("app:"):
+                what = self.attributes.class_key or "none"
+                why = "the style of its class, %s, is in a library that is not there: %s here" % (class_styles[0], what)
+                self.record.approximate("", why, Effect.BOUNDS)
 
     @property
     def theme(self) -> Theme:
@@ -128,11 +150,19 @@ class Draft:
         found = self.find(key)
         if found is None:
             return None
+        self.check_stand_in(key, found.given, effect)
         if not found.is_resolved:
             what = "the theme has no such attribute" if found.value.is_attribute else "the resource is not there"
             self.record.leave_out(key, "%s (%s)" % (what, self.named(found.value)), effect)
             return None
         return found.value
+
+    def check_stand_in(self, key: str, given: Value, effect: Effect) -> None:
+        """Says of a value by an attribute of a library that is not there that it is that of Android."""
+        name = self.app.lookup.stand_ins.get(given.data) if given.is_attribute else None
+        if name:
+            why = "?%s of a library that is not there: ?android:%s here" % (name, name)
+            self.record.approximate(key, why, Effect.CONTENT if effect is Effect.BOUNDS else effect)
 
     def named(self, value: Value) -> str:
         """The name of what a reference names, or its number."""
@@ -211,6 +241,7 @@ class Draft:
         if found is None or found.value.is_null:
             return NOTHING
         made = self.drawables().of(found.given, self.theme)
+        self.check_stand_in(key, found.given, effect)
         for why in dict.fromkeys(made.picture):
             self.record.approximate(key, why, Effect.PICTURE)
         for why in dict.fromkeys(made.bounds) if effect is Effect.BOUNDS else ():
@@ -224,6 +255,7 @@ class Draft:
         if found is None or found.value.is_null:
             return None
         made = self.drawables().of(found.given, self.theme)
+        self.check_stand_in(key, found.given, Effect.PICTURE)
         if made.colour is None:
             self.record.leave_out(key, "; ".join(made.picture) or "the colour is not known", Effect.PICTURE)
         return made.colour

@@ -27,7 +27,8 @@ WORDS = {
         textFilterEnabled verticalScrollbarPosition touchscreenBlocksFocus longClickable pointerIcon
         hyphenationFrequency lineBreakStyle scrollX scrollY timeZone stretchMode addPrintersActivity
         horizontalScrollViewStyle dropDownAnchor dropDownVerticalOffset defaultWidth tabStripEnabled tabStripLeft
-        tabStripRight autoSizePresetSizes autofillHighlight allowAutoRevokePermissionsExemption
+        tabStripRight autoSizePresetSizes autofillHighlight allowAutoRevokePermissionsExemption checkable valueFrom
+        valueTo
     """,
     Effect.TEXT: """
         textSize fontFamily typeface textStyle textScaleX letterSpacing lineSpacingExtra lineSpacingMultiplier
@@ -54,7 +55,7 @@ WORDS = {
         buttonTintMode checkMarkTintMode allowSingleTap bottomOffset topOffset gestureColor uncertainGestureColor
         fadeOffset fadeDuration fadeEnabled
     """,
-    Effect.TOUCH: "enabled contextClickable textIsSelectable",
+    Effect.TOUCH: "enabled contextClickable textIsSelectable onClick",
 }
 # those of libraries
 LIBRARY_WORDS = {
@@ -62,14 +63,19 @@ LIBRARY_WORDS = {
         layout_behavior layout_scrollFlags layout_scrollInterpolator layout_collapseMode
         layout_collapseParallaxMultiplier layout_dodgeInsetEdges layout_insetEdge layout_keyline statusBarScrim
         hideOnScroll liftOnScroll popupTheme navigationContentDescription collapseContentDescription
-        hintAnimationEnabled passwordToggleContentDescription layoutDescription motionDebug tabMode tabContentStart
+        hintAnimationEnabled passwordToggleContentDescription motionDebug tabMode tabContentStart
         animate_relativeTo defaultNavHost navGraph barrierAllowsGoneWidgets layout_constraintTag showIn
         behavior_hideable behavior_skipCollapsed enableSwipe singleSelection cardPreventCornerOverlap
         fontProviderAuthority fontProviderPackage fontProviderQuery queryHint searchHintIcon voiceIcon closeIcon
         goIcon commitIcon submitBackground queryBackground fastScrollEnabled spanCount stackFromEnd reverseLayout
-        layoutManager layout_editor_absoluteX layout_editor_absoluteY
+        layoutManager layout_editor_absoluteX layout_editor_absoluteY checkedButton checkedChip selectionRequired toolbarId
+        counterMaxLength endIconContentDescription startIconContentDescription endIconCheckable startIconCheckable
+        enforceMaterialTheme enforceTextAppearance layout_optimizationLevel fabAlignmentMode fabAnimationMode
+        autoSizeText motionProgress onHide onShow applyMotionScene currentState
+        errorContentDescription
     """,
     Effect.TEXT: """
+        helperTextTextAppearance prefixTextAppearance suffixTextAppearance
         fontFamily autoSizeTextType autoSizeMaxTextSize autoSizeMinTextSize autoSizeStepGranularity lineHeight
         titleTextAppearance subtitleTextAppearance autoSizePresetSizes tabTextAppearance
     """,
@@ -82,7 +88,15 @@ LIBRARY_WORDS = {
         subtitleTextColor itemIconTint itemTextColor itemBackground strokeColor strokeWidth cornerRadius thumbTint
         trackTint titleEnabled insetForeground foregroundInsidePadding hintTextAppearance errorTextAppearance
         counterTextAppearance borderWidth hoveredFocusedTranslationZ pressedTranslationZ labelVisibilityMode menu
-        headerLayout boxBackgroundColor boxStrokeColor
+        headerLayout boxBackgroundColor boxStrokeColor shapeAppearance shapeAppearanceOverlay iconTint iconTintMode
+        hintTextColor boxCornerRadiusTopStart boxCornerRadiusTopEnd boxCornerRadiusBottomStart boxCornerRadiusBottomEnd
+        boxStrokeWidth boxStrokeWidthFocused startIconTint endIconTint chipBackgroundColor chipStrokeColor
+        chipStrokeWidth chipIconTint chipSurfaceColor chipCornerRadius closeIconTint trackColor indicatorColor
+        trackCornerRadius thumbColor trackColorActive trackColorInactive haloColor tickColor tickColorActive
+        tickColorInactive dividerColor tabRippleColor tabIndicator tabIndicatorGravity tabIndicatorFullWidth tabGravity
+        tabIconTint itemRippleColor itemTextAppearanceActive itemTextAppearanceInactive itemShapeAppearance
+        statusBarForeground statusBarBackground cardForegroundColor checkedIcon checkedIconTint
+        materialThemeOverlay
     """,
 }
 PLATFORM: Dict[str, Effect] = {name: effect for effect, names in WORDS.items() for name in names.split()}

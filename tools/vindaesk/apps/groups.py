@@ -275,27 +275,31 @@ def map_fragment(draft: Draft, mapper: Mapper, arguments: str) -> None:
     draft.node.children = mapper.children(draft)
 
 
+def key_of(draft: Draft, name: str) -> str:
+    """The key of an attribute that a library has, or else Android."""
+    return "app:" + name if draft.attributes.given("app:" + name) is not None else "android:" + name
+
+
 def map_toolbar(draft: Draft, mapper: Mapper, arguments: str) -> None:
     """An icon, a title, and children in a line."""
     box = boxes.put_box(draft)
     draft.node.kind = "LinearLayout"
     draft.put("gravity", whole(CENTRE_DOWN))
-    library = "app:" if draft.app.lookup.number("app:contentInsetStart") else "android:"
-    inset = draft.length(library + "contentInsetStart")
-    icon = draft.attributes.given(library + "navigationIcon")
-    title = draft.text(library + "title") or draft.text("android:title")
+    inset = draft.length(key_of(draft, "contentInsetStart"))
+    icon = draft.attributes.given(key_of(draft, "navigationIcon"))
+    title = draft.text(key_of(draft, "title"))
     for name in ("contentInsetEnd", "contentInsetLeft", "contentInsetRight", "contentInsetStartWithNavigation"):
-        draft.use(library + name)
+        draft.use(key_of(draft, name))
     children = mapper.children(draft)
     added = []
     if icon is not None and not icon[0].is_null:
-        draft.use(library + "navigationIcon")
+        draft.use(key_of(draft, "navigationIcon"))
         added.append(square(draft, dp(draft, TOOLBAR_ICON)))
     elif inset is not None and inset > box.padding[0] and (children or title):
         draft.put("paddingLeft", length_of(inset))
         draft.node.attributes.pop("paddingStart", None)
     if title:
-        added.append(title_of(draft, title, library))
+        added.append(title_of(draft, title))
     draft.node.children = added + children
     if draft.node.children:
         draft.place_differently("", "a toolbar places its icons, titles and children by rules of its own")
@@ -308,11 +312,11 @@ def square(draft: Draft, side: int) -> Node:
     return node
 
 
-def title_of(draft: Draft, title: str, library: str) -> Node:
+def title_of(draft: Draft, title: str) -> Node:
     """A title as a view."""
     node = Node("TextView", record=draft.record, is_added=True)
     node.attributes = {"layout_width": whole(WRAP), "layout_height": whole(WRAP), "text": text_of(title)}
-    colour = draft.colour(library + "titleTextColor")
+    colour = draft.colour(key_of(draft, "titleTextColor"))
     node.attributes["textColor"] = colour_of(colour if colour is not None else 0xDE000000)
     return node
 

@@ -10,12 +10,14 @@ from .widget_table import Row, Table
 
 # what a class is by the end of its name, where nothing else is known of it
 ENDS = (
-    ("LinearLayout", "LinearLayout"), ("RelativeLayout", "RelativeLayout"), ("FrameLayout", "FrameLayout"),
-    ("ScrollView", "ScrollView"), ("Layout", "FrameLayout"), ("TextView", "TextView"), ("EditText", "EditText"),
-    ("ImageButton", "ImageButton"), ("Button", "Button"), ("Text", "TextView"), ("ImageView", "ImageView"),
-    ("ListView", "ListView"), ("RecyclerView", "RecyclerView"), ("ViewPager", "ViewPager"),
-    ("ProgressBar", "ProgressBar"),
+    "LinearLayout", "RelativeLayout", "FrameLayout", "ConstraintLayout", "MotionLayout", "CoordinatorLayout",
+    "DrawerLayout", "SwipeRefreshLayout", "TabLayout", "TableLayout", "GridLayout", "HorizontalScrollView", "ScrollView",
+    "AutoCompleteTextView", "CheckedTextView", "TextView", "EditText", "ImageButton", "RadioButton", "ToggleButton",
+    "FloatingActionButton", "Button", "CheckBox", "Switch", "Spinner", "SeekBar", "RatingBar", "ProgressBar", "ImageView",
+    "ListView", "GridView", "RecyclerView", "ViewPager", "ViewPager2", "WebView", "CardView", "Toolbar",
 )
+# what less plain names are by their end
+OTHER_ENDS = {"Layout": "FrameLayout", "Text": "TextView"}
 # methods by which a class measures or places in a way of its own
 OWN_RULES = ("onMeasure", "onLayout", "measureChild", "measureChildWithMargins", "setMeasuredDimension")
 
@@ -55,10 +57,11 @@ class Mapper:
                 why = "%s has a method %s of its own" % (own[0], own[1]) if own else row.why
                 return Match(row, why)
         plain = view.name.rpartition(".")[2]
-        fit = next((it for end, it in ENDS if plain.endswith(end)), "FrameLayout" if view.children else "View")
+        named = next((it for it in (*ENDS, *OTHER_ENDS) if plain.endswith(it)), None)
+        fit = OTHER_ENDS.get(named, named) if named else "FrameLayout" if view.children else "View"
         row = self.table.row(fit)
         assert row is not None
-        by = "its name" if plain.endswith(fit) else "its children"
+        by = "its name" if named else "its children" if view.children else "its lack of children"
         return Match(row, "the class is not known: as a %s, by %s" % (fit, by))
 
     def map(self, view: View, parent: str) -> Node:

@@ -35,6 +35,8 @@ FILE_TYPES = set(TYPES) - {"array", "attr", "bool", "dimen", "fraction", "id", "
 FOLDER = re.compile(r"([a-z]+)(?:-(.+))?")
 PLAIN_NAME = re.compile(r"[A-Za-z_][\w.]*", re.ASCII)
 NEW_ID = re.compile(rb"@\+id/([\w.]+)")
+THEMED = re.compile(rb"\"\?(?:attr/)?(\w+)\"")
+LAUNCHER = b"android.intent.category.LAUNCHER"
 
 
 class ResourceFile(NamedTuple):
@@ -48,14 +50,33 @@ class ResourceFile(NamedTuple):
 
 
 def folders_in(top: str) -> Iterator[str]:
-    """The `res` folders of a project, those of its app first."""
+    """The `res` folders of a project: those of its app first, and in a module those of all flavours."""
     found = []
     for place, folders, _ in os.walk(top):
         depth = os.path.relpath(place, top).count(os.sep)
         folders[:] = sorted(it for it in folders if it not in SKIPPED and not it.startswith(".") and depth < MAX_DEPTH)
         if "res" in folders and has_resources(os.path.join(place, "res")):
             found.append(os.path.join(place, "res"))
-    return iter(sorted(found, key=lambda it: ("%sapp%s" % (os.sep, os.sep) not in it, "test" in it.lower(), it)))
+    return iter(sorted(found, key=lambda it: (rank(it), it)))
+
+
+def rank(folder: str) -> Tuple[bool, bool, bool, bool]:
+    """How far a folder of resources is from those of the app: tests, modules without an activity that starts it, other
+    names than `app`, flavours."""
+    place = os.path.dirname(folder)
+    manifests = [os.path.join(it, MANIFEST) for it in (place, os.path.join(os.path.dirname(place), "main"))]
+    starts = any(LAUNCHER in beginning(it) for it in manifests)
+    is_app = "%sapp%s" % (os.sep, os.sep) in folder
+    return "test" in os.path.basename(place).lower(), not starts, not is_app, os.path.basename(place) != "main"
+
+
+def beginning(path: str) -> bytes:
+    """The bytes of a file, nothing where it is not there."""
+    try:
+        with open(path, "rb") as file:
+            return file.read(MAX_BYTES)
+    except OSError:
+        return b""
 
 
 def has_resources(folder: str) -> bool:
@@ -114,8 +135,8 @@ class SourceTree(Names):
         return found
 
     def manifest(self) -> Optional[str]:
-        """The manifest: the one beside the first folder of resources."""
-        for file in self.folders[:1]:
+        """The manifest: the one beside the first folder of resources that has one."""
+        for file in self.folders:
             for place in (os.path.dirname(file), os.path.dirname(os.path.dirname(file))):
                 if os.path.isfile(os.path.join(place, MANIFEST)) and place.startswith(self.top):
                     return os.path.join(place, MANIFEST)
@@ -218,9 +239,11 @@ class SourceTree(Names):
     def put_ids(self, writer: Writer) -> None:
         """Adds the ids that layouts make, and the attributes that only they name."""
         for it in self.files:
-            if it.kind == "layout" and it.path.endswith(".xml"):
-                for name in NEW_ID.findall(self.read(it.path, MAX_BYTES)):
-                    self.made("id", name.decode("ascii", "replace"))
+            if it.kind in ("layout", "drawable", "color") and it.path.endswith(".xml"):
+                body = self.read(it.path, MAX_BYTES)
+                for kind, pattern in (("id", NEW_ID), ("attr", THEMED)):
+                    for name in pattern.findall(body):
+                        self.made(kind, name.decode("ascii", "replace"))
         for (kind, name), number in sorted(self.ids.items()):
             if kind in ("id", "attr"):
                 content = Value(Type.INT_BOOLEAN, 0)

@@ -36,10 +36,12 @@ class Found(NamedTuple):
 
 
 class Lookup:
-    """Finds the numbers of attributes, and styles, in the resources of an app; each is looked for once."""
+    """Finds the numbers of attributes, and styles, in the resources of an app; each is looked for once. `stand_ins` are
+    the attributes of a library that is not there which lead to those of Android, with their names."""
 
-    def __init__(self, resources: Resources):
+    def __init__(self, resources: Resources, stand_ins: Optional[Dict[int, str]] = None):
         self.resources = resources
+        self.stand_ins = stand_ins or {}
         self.numbers: Dict[str, Optional[int]] = dict(NUMBER_OF)
         self.known: Dict[str, Optional[int]] = {}
         self.names: Dict[int, str] = {}
@@ -70,6 +72,11 @@ class Lookup:
             return None
         return self.resources.style(number).items
 
+    def missing_parent(self, value: Value, theme: Theme) -> int:
+        """The id of a parent of a style that is not there, or 0."""
+        number = self.style_number(value, theme)
+        return 0 if number is None or self.resources.bag(number) is None else self.resources.style(number).missing
+
     def style_number(self, value: Value, theme: Theme) -> Optional[int]:
         """The number of the style that a value names."""
         _, passed = self.resources.follow(value, theme)
@@ -90,6 +97,8 @@ class Attributes:
         self.own, self.theme, self.lookup = own, theme, lookup
         self.broken: List[str] = []
         self.style = self.items_of(own.get("style"))
+        # which of the attributes of the theme has the style of the class, and nothing where none has one
+        self.class_key = ""
         self.class_style = self.first_of(class_styles)
 
     def items_of(self, value: Optional[Value]) -> Mapping[int, Item]:
@@ -110,6 +119,7 @@ class Attributes:
             number = self.lookup.number(name)
             item = self.theme.item(number) if number else None
             if item is not None:
+                self.class_key = name
                 return self.items_of(item.value)
         return {}
 

@@ -50,6 +50,8 @@ def appearance(draft: Draft) -> Items:
     draft.use("android:textAppearance")
     if given is None or given[0].is_null:
         return {}
+    if "android:textAppearance" in draft.own:
+        draft.check_parents("android:textAppearance", given[0], Effect.TEXT)
     return draft.attributes.items_of(given[0])
 
 
