@@ -12,7 +12,7 @@ from ..resources.framework import PATH as BUILT_IN
 from ..resources.resources import File, Resources
 from ..resources.themes import Theme
 from ..resources.tables import Table as ResourceTable
-from . import app_files, app_themes, constraint_solver, report, source_tree, writer
+from . import app_files, app_themes, placing, report, source_tree, writer
 from .app_files import MANIFEST, TABLE, AppFiles
 from .dex import Classes
 from .draft import MATCH, App, Node, colour_of, whole
@@ -143,7 +143,7 @@ class OpenApp:
             root = self.root(views, made, request)
             found.records = made.expansion.records
             writer.check(root, name)
-            constraint_solver.solve(root, Measurer(window, request.density))
+            placing.place(root, Measurer(window, request.density))
             found.compiled = writer.compiled(root, name)
         except Failure as failure:
             found.records = list(made.expansion.records)

@@ -84,8 +84,8 @@ def mean_of(rows: Iterable[bytes], parts: "PngParts") -> int:
     if not weight:
         return 0
     found = weight // count
-    for it in sums:
-        found = found << 8 | it // weight
+    for total in sums:
+        found = found << 8 | total // weight
     return found
 
 

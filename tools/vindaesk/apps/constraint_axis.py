@@ -3,8 +3,9 @@ barriers. All are pixels from the side where the axis begins."""
 from fractions import Fraction
 from typing import Dict, List, NamedTuple, Optional, Set, Tuple
 
-from .constraints import PACKED, PARENT, SPREAD_INSIDE, Anchor, Child, Constraints, Line, Tie
+from .constraints import BASELINE, PACKED, PARENT, SPREAD_INSIDE, Anchor, Child, Constraints, Line, Tie
 from .draft import MATCH
+from .report import Effect
 
 Place = Tuple[int, int]
 # how many children are followed from one to the other
@@ -17,13 +18,14 @@ def rounded(number: Fraction) -> int:
 
 
 class Axis(NamedTuple):
-    """An axis, 0 across and 1 down: how long it is, the padding at both ends, and the size of each child that is
-    known."""
+    """An axis, 0 across and 1 down: how long it is, the padding at both ends, the size of each child that is known, and
+    how far below its top its text begins."""
 
     axis: int
     size: int
     padding: Tuple[int, int]
     sizes: Dict[int, int]
+    texts: Dict[int, int]
 
 
 def limited(tie: Tie, size: int) -> int:
@@ -121,6 +123,13 @@ class Solver:
         return limited(tie, room if room is not None else natural)
 
     def single(self, child: Child) -> bool:
+        """Places a child by the circle that it is on, by its baseline, or by its anchors."""
+        for target, place in ((child.circle and child.circle.target, self.on_circle), (child.baseline, self.on_baseline)):
+            if target is not None and (target in self.children or target == PARENT):
+                return place(child, target)
+        return self.by_anchors(child)
+
+    def by_anchors(self, child: Child) -> bool:
         """Places a child by its own anchors."""
         tie = self.tie(child)
         begin, end = (it if self.is_there(it) else None for it in (tie.begin, tie.end))
@@ -138,6 +147,30 @@ class Solver:
             size = self.size_in(child, None)
             at = low if low is not None else high - size if high is not None else self.axis.padding[0]
         self.places[child.number] = (at, at + size)
+        return True
+
+    def on_baseline(self, child: Child, target: int) -> bool:
+        """Places a child so that its text is as high as that of another one."""
+        if self.axis.axis == 0:
+            return self.by_anchors(child)
+        other = self.places.get(target)
+        if other is None:
+            return False
+        texts = self.axis.texts
+        begin = other[0] + texts.get(target, 0) - texts.get(child.number, 0)
+        if not {target, child.number} <= texts.keys() and child.node.record is not None:
+            child.node.record.approximate(BASELINE, "the tops are aligned, not the baselines", Effect.BOUNDS)
+        self.places[child.number] = (begin, begin + self.size_in(child, None))
+        return True
+
+    def on_circle(self, child: Child, target: int) -> bool:
+        """Places a child on a circle around another one."""
+        around = self.places.get(target)
+        if around is None or child.circle is None:
+            return False
+        size = self.size_in(child, None)
+        begin = rounded(Fraction(sum(around) - size, 2) + child.circle.away[self.axis.axis])
+        self.places[child.number] = (begin, begin + size)
         return True
 
     # chains

@@ -1,42 +1,40 @@
 """Places the children of ConstraintLayouts for one window: the program measures them, anchors place them, and
-margins and sizes in pixels say where they are. A group that is in another one is placed after it."""
-from typing import Dict, List, Optional, Tuple
+margins and sizes in pixels say where they are."""
+from typing import Dict, Optional
 
-from ..common.failures import NOT_BUILT, Failure
 from . import constraint_axis
 from .constraint_axis import Axis, Place, rounded
 from .constraints import SIZES, Child, Constraints, natural
-from .draft import MATCH, MAX_MARGIN, MAX_SIZE, WRAP, Node, length_of, whole
-from .measurer import Bounds, Measurer
+from .draft import MATCH, MAX_MARGIN, MAX_SIZE, WRAP, length_of, whole
+from .placing import MAX_ROUNDS, Seen, Size, Task
 from .report import Effect
 
 NATURAL, ACROSS, DONE = 0, 1, 2
 MARGINS = (("layout_marginLeft", "layout_marginRight"), ("layout_marginTop", "layout_marginBottom"))
 OLD_MARGINS = ("layout_margin", "layout_marginStart", "layout_marginEnd", "layout_marginLeft", "layout_marginRight",
                "layout_marginTop", "layout_marginBottom", "layout_gravity")
-# each group is measured twice, and again if a group around it has changed
-MAX_ROUNDS = 3
-Size = Tuple[int, int]
 
 
-class Task:
+class ConstraintTask(Task):
     """A group that is placed: how far it is, the size for which, the number of rounds, and the sizes of its
-    children."""
+    children. It is measured twice, and again if a group around it has changed."""
 
-    def __init__(self, group: Constraints, around: Optional["Task"]):
-        self.group, self.around = group, around
+    def __init__(self, group: Constraints, around: Optional[Task]):
+        super().__init__(group.node, around)
+        self.group = group
         self.stage, self.rounds = NATURAL, 0
         self.size: Size = (0, 0)
-        self.natural: Dict[int, Size] = {}
         self.widths: Dict[int, int] = {}
+        self.texts: Dict[int, int] = {}
+
+    @property
+    def is_done(self) -> bool:
+        """Whether all is placed."""
+        return self.stage == DONE
 
     def is_wrapped(self, axis: int) -> bool:
         """Whether the group is as large as its content on an axis."""
         return self.group.node.attributes[SIZES[axis]] == whole(WRAP)
-
-    def is_ready(self) -> bool:
-        """Whether the groups around are placed."""
-        return self.around is None or (self.around.stage == DONE and self.around.is_ready())
 
     def reset(self) -> None:
         """Gives all children their own sizes again."""
@@ -46,96 +44,29 @@ class Task:
             for name in OLD_MARGINS:
                 child.node.attributes.pop(name, None)
 
-
-def tasks_in(root: Node) -> List[Task]:
-    """The groups of a layout, those around others first."""
-    found: List[Task] = []
-    left: List[Tuple[Node, Optional[Task]]] = [(root, None)]
-    while left:
-        node, around = left.pop()
-        if isinstance(node.constraints, Constraints):
-            around = Task(node.constraints, around)
-            found.append(around)
-        left.extend((it, around) for it in reversed(node.children))
-    return found
-
-
-def nodes_in(root: Node) -> List[Node]:
-    """The elements in the order in which they begin."""
-    found, left = [], [root]
-    while left:
-        node = left.pop()
-        found.append(node)
-        left.extend(reversed(node.children))
-    return found
-
-
-def solve(root: Node, measurer: Measurer) -> bool:
-    """Places all groups of a layout; returns whether there are any."""
-    tasks = tasks_in(root)
-    for task in tasks:
-        task.reset()
-    nodes = nodes_in(root)
-    is_changed = bool(tasks)
-    while is_changed:
-        try:
-            bounds = dict(zip(map(id, nodes), measurer.bounds(root)))
-        except Failure as failure:
-            if failure.status != NOT_BUILT:
-                raise
-            leave(tasks, "constraints are not solved: there is no program")
+    def advance(self, seen: Seen) -> bool:
+        """Takes the next step, and returns whether anything was changed."""
+        size = seen.size(self.node)
+        sizes = {it.number: seen.size(it.node) for it in self.group.children}
+        if self.stage == DONE:
+            is_same = all(self.is_wrapped(axis) or size[axis] == self.size[axis] for axis in (0, 1))
+            if is_same or self.rounds >= MAX_ROUNDS:
+                return False
+            self.reset()
             return True
-        is_changed = False
-        for task in tasks:
-            if task.is_ready():
-                is_changed = advance(task, bounds) or is_changed
-    for task in tasks:
-        say_window(task, measurer)
-    return bool(tasks)
-
-
-def leave(tasks: List[Task], why: str) -> None:
-    """Says of groups, and of what is in them, that nothing is placed."""
-    for task in tasks:
-        for node in (task.group.node, *task.group.node.children):
-            if node.record is not None:
-                node.record.leave_out("", why, Effect.BOUNDS)
-
-
-def say_window(task: Task, measurer: Measurer) -> None:
-    """Notes that the places are those of one window."""
-    record = task.group.node.record
-    if record is not None:
-        record.solved_for = measurer.window
-
-
-def size_of(bounds: Bounds) -> Size:
-    """Width and height of bounds; of none 0."""
-    return (bounds[2] - bounds[0], bounds[3] - bounds[1]) if bounds else (0, 0)
-
-
-def advance(task: Task, bounds: Dict[int, Bounds]) -> bool:
-    """Takes the next step of a group, and returns whether anything was changed."""
-    size = size_of(bounds.get(id(task.group.node)))
-    sizes = {it.number: size_of(bounds.get(id(it.node))) for it in task.group.children}
-    if task.stage == DONE:
-        is_same = all(task.is_wrapped(axis) or size[axis] == task.size[axis] for axis in (0, 1))
-        if is_same or task.rounds >= MAX_ROUNDS:
-            return False
-        task.reset()
+        if self.stage == NATURAL:
+            self.size = size
+            self.rounds += 1
+            put_axis(self, 0, {number: it[0] for number, it in first_sizes(self, sizes).items()})
+            self.stage = ACROSS
+            return True
+        self.texts = {it.number: top for it in self.group.children for top in [seen.text_top(it.node)] if top is not None}
+        put_axis(self, 1, heights(self, sizes))
+        self.stage = DONE
         return True
-    if task.stage == NATURAL:
-        task.size, task.natural = size, sizes
-        task.rounds += 1
-        put_axis(task, 0, {number: it[0] for number, it in first_sizes(task, sizes).items()})
-        task.stage = ACROSS
-        return True
-    put_axis(task, 1, heights(task, sizes))
-    task.stage = DONE
-    return True
 
 
-def first_sizes(task: Task, sizes: Dict[int, Size]) -> Dict[int, Size]:
+def first_sizes(task: ConstraintTask, sizes: Dict[int, Size]) -> Dict[int, Size]:
     """The sizes of children, of which one may have its width by its height."""
     found = dict(sizes)
     for child in task.group.children:
@@ -146,7 +77,7 @@ def first_sizes(task: Task, sizes: Dict[int, Size]) -> Dict[int, Size]:
     return found
 
 
-def heights(task: Task, sizes: Dict[int, Size]) -> Dict[int, int]:
+def heights(task: ConstraintTask, sizes: Dict[int, Size]) -> Dict[int, int]:
     """The heights of children once their widths are known, of which one may have its height by its width."""
     found = {number: it[1] for number, it in sizes.items()}
     for child in task.group.children:
@@ -156,11 +87,11 @@ def heights(task: Task, sizes: Dict[int, Size]) -> Dict[int, int]:
     return found
 
 
-def put_axis(task: Task, axis: int, sizes: Dict[int, int]) -> None:
+def put_axis(task: ConstraintTask, axis: int, sizes: Dict[int, int]) -> None:
     """Places the children of a group on an axis."""
     group = task.group
     padding = (group.padding[axis], group.padding[axis + 2])
-    made = Axis(axis, task.size[axis], padding, sizes)
+    made = Axis(axis, task.size[axis], padding, sizes, task.texts if axis == 1 else {})
     if task.is_wrapped(axis):
         made = made._replace(size=constraint_axis.needed(group, made))
     places, stuck = constraint_axis.solved(group, made)

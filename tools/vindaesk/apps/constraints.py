@@ -1,5 +1,6 @@
 """The children of a ConstraintLayout: what each is tied to on each axis. Guidelines, barriers and groups are no
 views that are seen. apps/constraint_solver.py places them for one window."""
+import math
 from dataclasses import dataclass, field
 from fractions import Fraction
 from typing import List, NamedTuple, Optional, Set, Tuple
@@ -28,6 +29,7 @@ GONE = VISIBILITIES["gone"]
 MAX_REFERENCES = 256
 HALF = Fraction(1, 2)
 CONSTRAINT = "app:layout_constraint"
+BASELINE = CONSTRAINT + "Baseline_toBaselineOf"
 
 
 class Anchor(NamedTuple):
@@ -68,6 +70,17 @@ class Child:
     is_gone: bool = False
     ratio: Optional[Fraction] = None
     ratio_axis: Optional[int] = None
+    # the id of the view whose text has the same baseline
+    baseline: Optional[int] = None
+    circle: Optional["Circle"] = None
+
+
+class Circle(NamedTuple):
+    """A place on a circle around the centre of another view: its id; how far the centre is from there across and down,
+    in pixels."""
+
+    target: int
+    away: Tuple[Fraction, Fraction]
 
 
 class Line(NamedTuple):
@@ -193,6 +206,19 @@ def ratio_of(draft: Draft) -> Tuple[Optional[Fraction], Optional[int]]:
     return width / height, {"W": 0, "H": 1}.get(axis.strip().upper())
 
 
+def circle_of(draft: Draft) -> Optional[Circle]:
+    """The circle on which a child is placed: the angle runs from the top to the right."""
+    key = CONSTRAINT + "Circle"
+    draft.use(key)
+    target = target_of(draft.own.get(key))
+    angle, radius = fraction(draft, key + "Angle"), draft.length(key + "Radius")
+    if target is None:
+        return None
+    turn = math.radians(float(angle or 0))
+    across, down = (Fraction(it * (radius or 0)) for it in (math.sin(turn), -math.cos(turn)))
+    return Circle(target, (across, down))
+
+
 def line_of(view: View, draft: Draft) -> Line:
     """A guideline."""
     down = draft.number("orientation", ORIENTATIONS) or draft.number("app:orientation", ORIENTATIONS) or 0
@@ -221,68 +247,6 @@ def barrier_of(view: View, draft: Draft) -> Line:
     at_ends = side in (DIRECTIONS["right"], DIRECTIONS["bottom"], DIRECTIONS["end"])
     margin = draft.length("app:barrierMargin") or 0
     return Line(id_of(view), axis, views=references(draft), is_at_ends=at_ends, margin=margin)
-
-
-def helper(view: View, draft: Draft, found: Constraints) -> bool:
-    """Takes an element that is no view that is seen."""
-    plain = view.name.rpartition(".")[2]
-    if plain == "Guideline":
-        found.lines.append(line_of(view, draft))
-    elif plain == "Barrier":
-        found.lines.append(barrier_of(view, draft))
-    elif plain in ("Group", "Layer"):
-        references(draft)
-    else:
-        return False
-    return True
-
-
-def map_helper(draft: Draft, mapper: Mapper, arguments: str) -> None:
-    """An element that is there for the places of others alone."""
-    boxes.put_box(draft)
-    draft.put("visibility", whole(GONE))
-    for name in ("layout_width", "layout_height"):
-        draft.put(name, length_of(0))
-
-
-def map_constraint(draft: Draft, mapper: Mapper, arguments: str) -> None:
-    """Children in a frame, which are placed when all of the layout is mapped."""
-    box = boxes.put_box(draft)
-    draft.node.kind = "FrameLayout"
-    found = Constraints(draft.node, box.padding)
-    gone: Set[int] = set()
-    for view in draft.view.children:
-        if view.name.rpartition(".")[2] == "Group":
-            group = Draft(view, mapper.app, [], "ConstraintLayout")
-            if group.number("visibility", VISIBILITIES) == GONE:
-                gone |= set(references(group))
-    for place, view in enumerate(draft.view.children):
-        own = Draft(view, mapper.app, [], "ConstraintLayout")
-        is_helper = helper(view, own, found)
-        ratio, axis = (None, None) if is_helper else ratio_of(own)
-        ties = (Tie(), Tie()) if is_helper else (tie_of(own, 0), tie_of(own, 1))
-        check(own)
-        node = mapper.map(view, "ConstraintLayout")
-        draft.node.children.append(node)
-        if is_helper or id_of(view) in gone:
-            node.attributes["visibility"] = whole(GONE)
-        if not is_helper:
-            is_gone = node.attributes.get("visibility") == whole(GONE)
-            found.children.append(Child(id_of(view) or -1 - place, node, ties, is_gone, ratio, axis))
-    if found.children:
-        draft.node.constraints = found
-    if draft.attributes.given("app:layoutDescription") is not None:
-        draft.place_differently("app:layoutDescription", "the constraints of its scene are left out", True)
-
-
-def check(draft: Draft) -> None:
-    """Says of a child what is not solved."""
-    baseline = CONSTRAINT + "Baseline_toBaselineOf"
-    if target_of(draft.own.get(baseline)) is not None:
-        draft.record.approximate(baseline, "the tops are aligned, not the baselines", Effect.BOUNDS)
-    for key in draft.own:
-        if key.startswith(CONSTRAINT + "Circle"):
-            draft.record.leave_out(key, "a view on a circle is not placed", Effect.BOUNDS)
 
 
 def natural(child: Child) -> None:

@@ -2,7 +2,7 @@
 import struct
 from dataclasses import dataclass, field
 from fractions import Fraction
-from typing import Dict, List, NamedTuple, Optional, Set
+from typing import Any, Callable, Dict, List, NamedTuple, Optional, Set
 
 from ..common.failures import Failure
 from ..layouts import attributes as known
@@ -35,8 +35,8 @@ class Node:
     children: List["Node"] = field(default_factory=list)
     record: Optional[Record] = None
     is_added: bool = False
-    # of a ConstraintLayout, what its children are tied to
-    constraints: Optional[object] = None
+    # of a group whose children are placed by what the program measures, what does so: a placing.Maker
+    placed: Optional[Callable[["Node", Any], Any]] = None
 
 
 class App(NamedTuple):

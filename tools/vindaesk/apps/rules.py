@@ -1,7 +1,7 @@
 """The rules of the table of classes by their names."""
 from typing import Dict
 
-from . import constraints, groups, images, texts
+from . import constraint_mapper, groups, images, texts
 from .mapper import Rule
 
 RULES: Dict[str, Rule] = {
@@ -26,7 +26,7 @@ RULES: Dict[str, Rule] = {
     "list": groups.map_list,
     "recycler": groups.map_recycler,
     "pager": groups.map_pager,
-    "constraint": constraints.map_constraint,
+    "constraint": constraint_mapper.map_constraint,
     "text": texts.map_text,
     "compound": texts.map_compound,
     "checked": texts.map_checked,
@@ -44,5 +44,5 @@ RULES: Dict[str, Rule] = {
     "fill": images.map_fill,
     "stub": images.map_stub,
     "gone": images.map_gone,
-    "helper": constraints.map_helper,
+    "helper": constraint_mapper.map_helper,
 }
