@@ -127,11 +127,11 @@ def writes_a_folder() -> str:
 
 def marks_what_is_not_exact() -> str:
     with place() as it:
-        found = it.call("app", TRIPS, "cards", "--tree", "--config", "mdpi")
+        found = it.call("app", TRIPS, "player", "--tree", "--config", "mdpi")
         lines = found[1].decode().split("\n")
         marked = [line for line in lines if line.startswith("~ ")]
         why = unlike(found, 0, None, "")
-        return why or ("" if len(marked) == 2 and "HorizontalScrollView" in marked[0] else "marked: %s" % marked)
+        return why or ("" if len(marked) == 1 and "Chronometer" in marked[0] else "marked: %s" % marked)
 
 
 def lint_names_the_source() -> str:
@@ -154,14 +154,14 @@ def takes_configurations() -> str:
 def is_strict() -> str:
     with place() as it:
         why = unlike(it.call("app", TRIPS, "home", "--strict"), 0, None, "")
-        return why or unlike(it.call("app", TRIPS, "cards", "--strict"), 1, None, "")
+        return why or unlike(it.call("app", TRIPS, "player", "--strict"), 1, None, "")
 
 
 def takes_rows() -> str:
     with place() as it:
-        it.put("map.txt", "HorizontalScrollView | FrameLayout | direct | - | exact\n")
-        why = unlike(it.call("app", TRIPS, "cards", "--strict"), 1, None, "")
-        why = why or unlike(it.call("app", TRIPS, "cards", "--strict", "--map", "map.txt"), 0, None, "")
+        it.put("map.txt", "Chronometer | TextView | text says 00:00 | android:textViewStyle | exact\n")
+        why = unlike(it.call("app", TRIPS, "player", "--strict"), 1, None, "")
+        why = why or unlike(it.call("app", TRIPS, "player", "--strict", "--map", "map.txt"), 0, None, "")
         rows = {
             "a | b": "map.txt:1: a row has 5 cells",
             "A | Button | direct | - | exact": "map.txt:1: 'Button' is none of View, TextView",

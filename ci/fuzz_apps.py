@@ -19,7 +19,7 @@ from typing import Dict, Iterator, List, Tuple
 sys.dont_write_bytecode = True
 
 from running import PROGRAM, TOP, Checks, run
-from vindaesk.apps import app, constraint_solver, widget_table
+from vindaesk.apps import app, placing, widget_table
 from vindaesk.apps.app import Request, Screen
 from vindaesk.apps.constraints import CHAINS
 from vindaesk.apps.draft import Node
@@ -80,7 +80,7 @@ class AnyMeasurer(Measurer):
         self.dice = dice
 
     def bounds(self, root: Node) -> List[Bounds]:
-        count = len(constraint_solver.nodes_in(root))
+        count = len(placing.nodes_in(root))
         return [self.box() if self.dice.random() < 0.9 else None for _ in range(count)]
 
     def box(self) -> Tuple[int, int, int, int]:
@@ -162,12 +162,12 @@ def refused(screen: Screen, folder: str) -> str:
 @contextlib.contextmanager
 def measured_by(dice: random.Random) -> Iterator[None]:
     """Has bounds at random take the place of those of the program."""
-    before = constraint_solver.solve
+    before = placing.place
 
     def solve(root: Node, _: Measurer) -> bool:
         return before(root, AnyMeasurer(dice))
 
-    with unittest.mock.patch.object(constraint_solver, "solve", solve):
+    with unittest.mock.patch.object(placing, "place", solve):
         yield
 
 

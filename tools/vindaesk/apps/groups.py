@@ -2,7 +2,11 @@
 from typing import Dict, List, Optional, Set
 
 from ..layouts.attributes import GRAVITIES, ORIENTATIONS, VISIBILITIES
+from ..resources.values import Type, Value
 from . import boxes
+from .across import AcrossTask
+from .baselines import BaselineTask
+from .drawables import pixels
 from .draft import MATCH, MAX_MARGIN, WRAP, Draft, Node, colour_of, length_of, text_of, whole
 from .expansion import View
 from .images import BASE_DENSITY, put_content
@@ -13,7 +17,7 @@ DIVIDERS = {"none": 0, "beginning": 1, "middle": 2, "end": 4}
 BEGINNING, MIDDLE, END = 1, 2, 4
 GONE, INVISIBLE = VISIBILITIES["gone"], VISIBILITIES["invisible"]
 VERTICAL = ORIENTATIONS["vertical"]
-ACROSS, DOWN, CENTRE_DOWN = 0x07, 0x70, 0x10
+ACROSS, DOWN, CENTRE_DOWN, TOP, TOP_LEFT = 0x07, 0x70, 0x10, 0x30, 0x33
 DRAWER_ROOM = 64
 NAVIGATION_WIDTH, TAB_HEIGHT, TOOLBAR_ICON = 280, 48, 56
 
@@ -119,13 +123,15 @@ def check_line(draft: Draft) -> None:
         draft.record.no_effect("android:baselineAlignedChildIndex", "no parent aligns baselines")
     tops = {} if not is_aligned or is_vertical(draft.node) else tops_of(draft)
     if len(set(tops.values())) > 1:
-        why = "children with a text are not placed on a common baseline"
-        key = "android:baselineAligned" if "android:baselineAligned" in draft.own else ""
-        draft.record.approximate(key, why, Effect.CONTENT)
-        for number in tops:
-            record = draft.node.children[number].record
-            if record is not None:
-                record.approximate("", "in a %s: %s" % (draft.record.row, why), Effect.BOUNDS)
+        children = [draft.node.children[it] for it in tops]
+        margins = [margin_at_top(draft, it) for it in children]
+        draft.node.placed = lambda node, around: BaselineTask(node, around, children, margins)
+
+
+def margin_at_top(draft: Draft, child: Node) -> int:
+    """The margin at the top of a child, in pixels."""
+    found = child.attributes.get("layout_margin") or child.attributes.get("layout_marginTop")
+    return (pixels(Value(Type.DIMENSION, found.word), draft.app.density) or 0) if found is not None else 0
 
 
 def tops_of(draft: Draft) -> Dict[int, object]:
@@ -134,10 +140,10 @@ def tops_of(draft: Draft) -> Dict[int, object]:
     found: Dict[int, object] = {}
     for number, child in enumerate(draft.node.children):
         is_text = child.kind == "TextView" or any(it.kind == "TextView" and it.is_added for it in child.children)
-        own = child.attributes.get("layout_gravity") or draft.node.attributes.get("gravity")
-        down = own.word & DOWN if own else 0
+        own = child.attributes.get("layout_gravity") or draft.node.attributes.get("gravity") or whole(TOP_LEFT)
+        down = own.word & DOWN
         high = child.attributes.get("layout_height")
-        if is_text and down in (0, 0x30) and child.attributes.get("visibility") != whole(GONE) and high != whole(MATCH):
+        if is_text and down == TOP and child.attributes.get("visibility") != whole(GONE) and high != whole(MATCH):
             names = ("padding", "paddingTop", "layout_margin", "layout_marginTop", "minHeight")
             inner = [it for it in child.children if it.is_added and it.kind == "TextView"]
             text = [it.attributes.get("layout_gravity") for it in inner]
@@ -172,14 +178,14 @@ def map_scroll(draft: Draft, mapper: Mapper, arguments: str) -> None:
 
 def map_across(draft: Draft, mapper: Mapper, arguments: str) -> None:
     """A child that may be wider than the view."""
-    boxes.put_box(draft)
+    box = boxes.put_box(draft)
     draft.node.kind = "FrameLayout"
     fills = draft.boolean("fillViewport")
     draft.node.children = mapper.children(draft)
-    for child in draft.node.children:
-        child.attributes["layout_width"] = whole(MATCH if fills else WRAP)
-    if draft.node.children:
-        draft.place_differently("", "what is in it is not wider than the view")
+    if len(draft.node.children) == 1 and not is_gone(draft.view.children[0]):
+        draft.node.placed = lambda node, around: AcrossTask(node, around, fills, box.across)
+    elif len(draft.node.children) > 1:
+        draft.place_differently("", "it has several children, which Android refuses: a FrameLayout here")
 
 
 def map_first(draft: Draft, mapper: Mapper, arguments: str) -> None:
@@ -341,7 +347,9 @@ def map_coordinator(draft: Draft, mapper: Mapper, arguments: str) -> None:
         floating = [node for _, node in pairs if node is not bars[0] and node not in frame.children]
         draft.node.children = [column, *floating]
         if any("app:layout_scrollFlags" in it.attributes for it in below_of(draft.view)):
-            draft.place_differently("", "the content is as high as it is while the bar is open")
+            for view, _ in below:
+                why = "in a %s: the content is as high as it is while the bar is open" % draft.record.row
+                view.record.approximate("", why, Effect.BOUNDS)
     else:
         draft.node.children = nodes
     for view, node in pairs:

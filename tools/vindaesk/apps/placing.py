@@ -3,20 +3,23 @@ changes anything. A group that is in another one is placed after it."""
 from typing import Callable, Dict, List, Optional, Tuple
 
 from ..common.failures import NOT_BUILT, Failure
+from ..resources.values import Type, Value
 from .draft import Node
+from .drawables import pixels
 from .measurer import Bounds, Measurer
 from .report import Effect
 
-# a group is placed again if one around it has changed its size, so many times
+# how often a group is placed again, if one around it has changed its size
 MAX_ROUNDS = 3
 Size = Tuple[int, int]
 
 
 class Seen:
-    """What the program has measured: the bounds of elements."""
+    """What the program has measured: the bounds of elements, on a screen of some density."""
 
-    def __init__(self, nodes: List[Node], bounds: List[Bounds]):
+    def __init__(self, nodes: List[Node], bounds: List[Bounds], density: int):
         self.bounds: Dict[int, Bounds] = dict(zip(map(id, nodes), bounds))
+        self.density = density
 
     def of(self, node: Node) -> Bounds:
         """The bounds of an element in the one around it; None where it has none."""
@@ -36,8 +39,8 @@ class Seen:
             return found[1] if found else None
         if node.kind != "TextView":
             return None
-        padding = node.attributes.get("paddingTop") or node.attributes.get("padding")
-        return padding.word >> 8 if padding is not None and padding.word & 0xFF == 0 else None if padding else 0
+        padding = node.attributes.get("padding") or node.attributes.get("paddingTop")
+        return pixels(Value(Type.DIMENSION, padding.word), self.density) if padding else 0
 
 
 class Task:
@@ -50,6 +53,11 @@ class Task:
     def is_done(self) -> bool:
         """Whether all is placed."""
         raise NotImplementedError
+
+    @property
+    def comes_first(self) -> bool:
+        """Whether all other groups wait for it."""
+        return False
 
     def is_ready(self) -> bool:
         """Whether the groups around are placed."""
@@ -100,14 +108,14 @@ def place(root: Node, measurer: Measurer) -> bool:
     is_changed = bool(tasks)
     while is_changed:
         try:
-            seen = Seen(nodes_in(root), measurer.bounds(root))
+            seen = Seen(nodes_in(root), measurer.bounds(root), measurer.density)
         except Failure as failure:
             if failure.status != NOT_BUILT:
                 raise
             leave(tasks, "children are not placed: there is no program")
             return True
         is_changed = False
-        for task in tasks:
+        for task in [it for it in tasks if it.comes_first] or tasks:
             if task.is_ready():
                 is_changed = task.advance(seen) or is_changed
     for task in tasks:
