@@ -118,20 +118,49 @@ def writes_a_folder() -> str:
             return why or "files: %s" % made
         tree = it.call("tree", "made/home.script")
         marked = it.call("app", TRIPS, "home", "--tree", "--config", "mdpi")
-        lines = [line[2:].split("  LinearLayout res/")[0] for line in marked[1].decode().split("\n")]
-        if tree[1].decode().split("\n")[0] != lines[0] or len(lines) != len(tree[1].decode().split("\n")):
-            return "the tree is another one"
+        if tree[:2] != marked[:2]:
+            return "the tree is another one: %r" % tree[1][:200]
         ids = it.read("made/ids.txt").decode().splitlines()
         return "" if any(line.startswith("vindaesk.trips:id/book = 0x7f") for line in ids) else "the ids are %s" % ids
 
 
 def marks_what_is_not_exact() -> str:
+    """In a tree, on a page, and of what is refused; a report that is broken, or another one's, marks nothing."""
     with place() as it:
-        found = it.call("app", TRIPS, "player", "--tree", "--config", "mdpi")
-        lines = found[1].decode().split("\n")
-        marked = [line for line in lines if line.startswith("~ ")]
-        why = unlike(found, 0, None, "")
-        return why or ("" if len(marked) == 1 and "Chronometer" in marked[0] else "marked: %s" % marked)
+        why = unlike(it.call("app", TRIPS, "player", "settings", "--out", "made", "--config", "mdpi"), 0, None, "")
+        said = "Chronometer res/layout/player.xml:19: the text is that of a time: 00:00 here"
+        lines = it.call("tree", "made/player.script")[1].decode().split("\n")
+        marked = [line for line in lines if "  ~ " in line]
+        if why or len(marked) != 1 or not marked[0].endswith("  ~ " + said) or not lines[0].endswith("#fffafafa"):
+            return why or "the tree is %s" % lines
+        why = unlike(it.call("page", "made/player.script", "a.html"), 0, b"", "")
+        why = why or ("" if ('"app":"~ %s"' % said).encode() in it.read("a.html") else "the page has no mark")
+        found = it.call("lint", "made/settings.script")
+        why = why or ("" if b"res/layout/settings.xml:34: v13 " in found[1] else "lint says %r" % found[1])
+        return why or wrong_reports(it)
+
+
+def wrong_reports(it: Place) -> str:
+    """Reports that say nothing."""
+    why = ""
+    for body, said in (("{", "no view is marked, since made/app.json"), ('{"a": 1}', ""), ("[]", ""), (b"\xff", "no view is"),
+                       ('{"version": 2, "layouts": []}', "it is of the version 2"), ('{"version": 1, "layouts": [{}]}', "no view")):
+        it.put("made/app.json", body)
+        found = it.call("tree", "made/settings.script")
+        why = why or unlike(found, 0, None, said) or ("" if b"res/layout" not in found[1] else "marked: %r" % found[1])
+    return why
+
+
+def check_names_the_source() -> str:
+    """Of a layout whose file was changed, so that it is refused."""
+    with place() as it:
+        why = unlike(it.call("app", TRIPS, "player", "--out", "made", "--config", "mdpi"), 0, None, "")
+        source = it.call("axml", "--text", "made/player.xml", "a.xml")
+        text = it.read("a.xml").decode().replace("<TextView", "<TextVeiw", 1)
+        why = why or unlike(source, 0, None, "") or unlike(it.call("axml", "-", "made/player.xml", given=text), 0, None, "")
+        found = it.call("check", "made/player.script")
+        named = b"; it is of Chronometer res/layout/player.xml:19" in found[1]
+        return why or ("" if found[0] == 1 and named else "check says %r" % found[1])
 
 
 def lint_names_the_source() -> str:
@@ -228,6 +257,7 @@ def checks() -> Checks:
     yield "app: a folder of scripts", writes_a_folder
     yield "app: marks", marks_what_is_not_exact
     yield "app: lint", lint_names_the_source
+    yield "app: check", check_names_the_source
     yield "app: configurations", takes_configurations
     yield "app: --strict", is_strict
     yield "app: rows of a table", takes_rows

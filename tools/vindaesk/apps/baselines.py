@@ -27,8 +27,8 @@ class BaselineTask(Task):
         """Writes the margin of all sides as one of each side, since that would count before one at the top."""
         for child in self.children:
             every = child.attributes.pop("layout_margin", None)
-            for side in ("Left", "Top", "Right", "Bottom") if every is not None else ():
-                child.attributes["layout_margin" + side] = every
+            if every is not None:
+                child.attributes.update({"layout_margin" + it: every for it in ("Left", "Top", "Right", "Bottom")})
 
     def advance(self, seen: Seen) -> bool:
         """Takes the next step, and returns whether anything was changed."""

@@ -6,13 +6,12 @@ from typing import Dict, List, Sequence
 
 from ..common import files
 from ..common.messages import printable
+from ..layouts.app_elements import REPORT, VERSION
 from . import report, writer
 from .app import Screen
 from .report import Sums
 
-IDS, REPORT = "ids.txt", "app.json"
-# the version of the form of docs/app.schema.json
-JSON_VERSION = 1
+IDS = "ids.txt"
 
 
 def unknown(name: str, known: Sequence[str]) -> str:
@@ -51,7 +50,7 @@ def screen_json(screen: Screen) -> Dict[str, object]:
 def json_of(screens: Sequence[Screen]) -> Dict[str, object]:
     """The report as docs/app.schema.json has it."""
     return {
-        "version": JSON_VERSION, "sums": sums_json(total(screens)), "layouts": [screen_json(it) for it in screens],
+        "version": VERSION, "sums": sums_json(total(screens)), "layouts": [screen_json(it) for it in screens],
     }
 
 
@@ -85,5 +84,9 @@ def write(folder: str, screens: Sequence[Screen]) -> None:
         files.replace(os.path.join(folder, it.name + ".xml"), it.compiled)
         files.replace(os.path.join(folder, it.name + ".script"), it.script)
     files.replace(os.path.join(folder, IDS), writer.list_of(ids))
-    body = json.dumps(json_of(screens), indent=1, ensure_ascii=False) + "\n"
-    files.replace(os.path.join(folder, REPORT), body.encode("utf-8", "replace"))
+    files.replace(os.path.join(folder, REPORT), written(screens))
+
+
+def written(screens: Sequence[Screen]) -> bytes:
+    """The report as a file has it."""
+    return (json.dumps(json_of(screens), indent=1, ensure_ascii=False) + "\n").encode("utf-8", "replace")

@@ -66,7 +66,7 @@ def reader() -> argparse.ArgumentParser:
                        help="a pixel of the picture is N by N, 1 to 8")
     found.add_argument("--page", metavar="OUT.html", help="writes a page of one layout")
     found.add_argument("--tree", action="store_true",
-                       help="prints the views of layouts; ~ is before one that is not exact")
+                       help="prints the views of layouts; ~ follows one that is not exact")
     found.add_argument("--lint", action="store_true", help="prints what is wrong with layouts")
     return found
 

@@ -2,13 +2,13 @@
 import contextlib
 import os
 import tempfile
-from typing import Dict, Iterator, List
+from typing import Iterator, List
 
-from ..apps import writer
+from ..apps import results, writer
 from ..apps.app import Screen
-from ..apps.report import Record
 from ..common import files
 from ..common.failures import WRONG, Failure
+from ..layouts.app_elements import REPORT
 from ..lint import linter, rules
 from ..pages import page
 from ..pictures import frames, png
@@ -20,14 +20,14 @@ from ..scripts.script import Script
 from ..views import placement
 from ..views.screens import Screen as Device
 
-MARK, NO_MARK = "~ ", "  "
-
 
 @contextlib.contextmanager
 def script_of(screen: Screen) -> Iterator[Script]:
-    """The script of a layout with the names of its ids, in a folder that has its file for as long as it is carried out."""
+    """The script of a layout with the names of its ids, in a folder that has its file and its report for as
+    long as it is carried out."""
     with tempfile.TemporaryDirectory() as folder:
         files.replace(os.path.join(folder, screen.name + ".xml"), screen.compiled)
+        files.replace(os.path.join(folder, REPORT), results.written([screen]))
         ids = Ids(Names(writer.list_of(screen.ids), names.LIST), names.LIST)
         yield Script(script.lines_in(screen.script), folder, ids=ids)
 
@@ -56,43 +56,20 @@ def whole_page(screen: Screen) -> bytes:
     return page.page(screen.name, found)
 
 
-def records_by_view(screen: Screen) -> Dict[int, Record]:
-    """The rows of the report by the numbers of their views, and of those that were added for them."""
-    found: Dict[int, Record] = {}
-    for record in screen.records:
-        for number in (record.number, *record.added):
-            if number:
-                found[number] = record
-    return found
-
-
 def tree_lines(screen: Screen) -> List[str]:
-    """The views of a layout, a line each: a mark, the view, and its element with the line of its source."""
+    """The views of a layout, a line each, with its element and the line of its source."""
     with script_of(screen) as made:
         refused = Refused(made)
         views = placement.views_of(made, refused)
     check(screen, refused)
-    rows = records_by_view(screen)
-    found = []
-    for it in views:
-        record = rows.get(it.view.number)
-        mark = NO_MARK if record is None or record.is_exact else MARK
-        source = "" if record is None else "  %s %s:%d" % (record.element, record.file, record.line)
-        found.append(mark + placement.text_line(it) + source)
-    return found
+    return [placement.text_line(it) for it in views]
 
 
 def lint_lines(screen: Screen) -> List[str]:
     """What is wrong with a layout, a line each."""
-    rows = records_by_view(screen)
     with script_of(screen) as made:
         refused = Refused(made)
         found = linter.found_on(made, [Device(None, None)], refused, dict(rules.RULES))
     check(screen, refused)
-    lines = []
-    for it in sorted(found, key=lambda it: it.number):
-        record = rows.get(it.number)
-        place = "%s:%d: " % (record.file, record.line) if record else ""
-        mark = "" if record is None or record.is_exact else " (its bounds are not exact)"
-        lines.append("%s%s: %s: %s%s" % (place, it.name, it.rule, it.sentence, mark))
-    return lines
+    in_order = sorted(found, key=lambda it: it.number)
+    return ["%s%s: %s: %s%s" % (it.place, it.name, it.rule, it.sentence, it.mark) for it in in_order]

@@ -61,6 +61,6 @@ def main(words: Optional[Sequence[str]] = None) -> int:
     all_screens = [Screen(dpi, width) for dpi in given.dpi for width in given.width]
     found = linter.found_on(made, all_screens, refused, wanted)
     for it, where in sorted(found.items(), key=lambda pair: pair[0].number):
-        line = "%s: %s: %s (%s)" % (it.name, it.rule, it.sentence, "; ".join(where))
+        line = "%s%s: %s: %s%s (%s)" % (it.place, it.name, it.rule, it.sentence, it.mark, "; ".join(where))
         print(messages.printable(line))
     return refused.end() or (failures.WRONG if found else 0)

@@ -15,7 +15,7 @@ from ..scripts import replies
 from ..scripts.grammar import CLASSES, guess
 from ..scripts.refusals import REFUSALS
 from ..scripts.replies import Part, Refusal
-from . import attributes, compiler, documents, values
+from . import app_elements, attributes, compiler, documents, values
 from .documents import ANDROID, REFERENCE, Attribute, End, Node, Start
 from ..scripts.resource_names import Names
 
@@ -69,7 +69,9 @@ class Files:
         lines, _ = documents.printed(name, self.folder) if numbers else (None, "")
         starts = documents.starts(list(documents.nodes_in(lines or [])))
         found = [starts[number - 1] for number in numbers if number <= len(starts)]
-        return self.of_elements(name, found, refusal.number) if found else ""
+        of_app = app_elements.of_layout(self.folder, name)
+        sources = ["; it is of %s" % of_app[it] for it in numbers if it in of_app]
+        return self.of_elements(name, found, refusal.number) + "".join(sources) if found else ""
 
     def is_source(self, name: str) -> bool:
         """Whether a file is XML as people write it."""

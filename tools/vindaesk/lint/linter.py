@@ -6,6 +6,7 @@ from typing import Dict, Iterable, List, NamedTuple, Tuple
 
 from ..common import progress
 from ..common.failures import Failure, NOT_RUN
+from ..layouts.app_elements import BOUNDS
 from ..scripts import script
 from ..scripts.replies import Refused
 from ..scripts.script import Script
@@ -14,14 +15,19 @@ from ..views.screens import PLAIN_DPI, Screen
 from . import rules
 from .rules import Page, Rule
 
+NOT_EXACT = " (its bounds are not exact)"
+
 
 class Finding(NamedTuple):
-    """What a rule says of a view: the view's number, its name, the rule, the sentence."""
+    """What a rule says of a view: the view's number, its name, the rule, the sentence; of a view of an app's layout the
+    place of its element, and whether its bounds are exact."""
 
     number: int
     name: str
     rule: str
     sentence: str
+    place: str = ""
+    mark: str = ""
 
 
 def laid_out(made: Script, screen: Screen, refused: Refused) -> Tuple[Page, str]:
@@ -43,7 +49,9 @@ def findings_of(shown: Page, chosen: Dict[str, Rule]) -> List[Finding]:
             except Exception as error:
                 why = "the rule %s failed at v%d: %s: %s" % (name, it.view.number, type(error).__name__, error)
                 raise Failure(why, NOT_RUN)
-            found += [Finding(it.view.number, it.name(), name, str(sentence)) for sentence in sentences]
+            of_app = it.view.of_app
+            more = ("%s: " % of_app.place, NOT_EXACT if of_app.reasons(BOUNDS) else "") if of_app else ("", "")
+            found += [Finding(it.view.number, it.name(), name, str(sentence), *more) for sentence in sentences]
     return found
 
 

@@ -67,7 +67,8 @@ def picture_record(picture: Picture, body: bytes) -> Record:
 def view_record(it: Placed) -> Record:
     """A view as the page has it."""
     spaces = {name: it.view.given.get(name, "") for name in view_tree.SPACES}
-    return {**placement.record(it), "answer": it.view.answer, **spaces}
+    of_app = {"app": placement.mark(it.view).strip()} if it.view.of_app else {}
+    return {**placement.record(it), "answer": it.view.answer, **spaces, **of_app}
 
 
 class Recording:

@@ -3,6 +3,7 @@ import json
 from typing import Dict, List, NamedTuple, Optional, Tuple
 
 from ..common.failures import Failure, WRONG
+from ..layouts.app_elements import BOUNDS
 from ..pictures.frames import REASONS
 from ..scripts import replies
 from ..scripts.replies import Part, Refused
@@ -147,7 +148,13 @@ def text_line(it: Placed) -> str:
     words.append("scroll %d" % it.scroll if it.scroll is not None else None)
     words.append(view.visibility if view.visibility != "visible" else None)
     words.append("bg %s" % (view.background or "unknown") if view.background != view_tree.CLEAR else None)
-    return "  " * (view.depth - 1) + " ".join(filter(None, words))
+    return "  " * (view.depth - 1) + " ".join(filter(None, words)) + mark(view)
+
+
+def mark(view: View) -> str:
+    """Of a view of an app's layout its element; after `~` where its bounds are not exact, with the reasons."""
+    of_app = view.of_app
+    return "" if of_app is None else "  %s%s" % ("~ " if of_app.reasons(BOUNDS) else "", of_app)
 
 
 def as_text(views: List[Placed]) -> str:

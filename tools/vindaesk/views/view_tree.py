@@ -3,7 +3,8 @@ import re
 from typing import Dict, Iterator, List, Optional, Sequence, Set, Tuple
 
 from ..common.failures import Failure
-from ..layouts import documents, elements
+from ..layouts import app_elements, documents, elements
+from ..layouts.app_elements import AppElement
 from ..layouts.documents import Value
 from ..layouts.elements import Element
 from ..scripts import names, script
@@ -42,6 +43,8 @@ class View:
         self.background: Optional[str] = CLEAR
         self.answer = "off"
         self.given: Dict[str, Optional[str]] = {}
+        # the element of an app's source that it was made of
+        self.of_app: Optional[AppElement] = None
 
     def is_touched(self) -> bool:
         """Whether it answers touches itself."""
@@ -142,9 +145,11 @@ class Tree:
         read = elements.read(name, self.folder)
         if len(read) != last - first + 1:
             raise Failure("the layout file %s changed in the meantime" % name)
+        of_app = app_elements.of_layout(self.folder, name)
         for number, element in enumerate(read, first):
             parent = place if element.parent is None else self.views[first + element.parent]
             self.dress(self.put(number, parent, element.name), element)
+            self.views[number].of_app = of_app.get(number - first + 1)
 
     def dress(self, view: View, element: Element) -> None:
         """Gives a new view what the attributes of its element say."""
