@@ -143,7 +143,7 @@ def marks_what_is_not_exact() -> str:
 def wrong_reports(it: Place) -> str:
     """Reports that say nothing."""
     why = ""
-    for body, said in (("{", "no view is marked, since made/app.json"), ('{"a": 1}', ""), ("[]", ""), (b"\xff", "no view is"),
+    for body, said in (("{", "app.json is no report that can be read"), ('{"a": 1}', ""), ("[]", ""), (b"\xff", "no view is"),
                        ('{"version": 2, "layouts": []}', "it is of the version 2"), ('{"version": 1, "layouts": [{}]}', "no view")):
         it.put("made/app.json", body)
         found = it.call("tree", "made/settings.script")

@@ -42,14 +42,14 @@ class Box(NamedTuple):
 
 
 def put_sizes(draft: Draft) -> None:
-    """Width and height. Android refuses a view without them, except in a table."""
+    """Width and height. Android refuses a view without them, except in a table or a grid."""
     for name in SIZES:
         draft.put_direct(name)
         if name in draft.node.attributes:
             continue
         is_wide = draft.parent == "TableLayout" and name == "layout_width"
         draft.put(name, whole(MATCH if is_wide else WRAP))
-        if draft.parent not in TABLE_PARENTS and draft.view.parent is not None:
+        if draft.parent not in (*TABLE_PARENTS, "GridLayout") and draft.view.parent is not None:
             draft.record.approximate("", "it has no %s: wrap_content here; Android refuses it" % name, Effect.BOUNDS)
 
 

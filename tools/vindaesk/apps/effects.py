@@ -22,7 +22,7 @@ WORDS = {
         scrollIndicators selectAllOnFocus smoothScrollbar soundEffectsEnabled spinnerMode stackFromBottom tag
         textCursorDrawable textEditPasteWindowLayout textEditSideNoPasteWindowLayout textEditSidePasteWindowLayout
         textEditSuggestionItemLayout textSelectHandle textSelectHandleLeft textSelectHandleRight tooltipText
-        transcriptMode transitionGroup transitionName useDefaultMargins visible choiceMode checkedButton format
+        transcriptMode transitionGroup transitionName visible choiceMode checkedButton format
         flipInterval autoStart fastScrollEnabled fastScrollAlwaysVisible fastScrollStyle scrollingCache
         textFilterEnabled verticalScrollbarPosition touchscreenBlocksFocus longClickable pointerIcon
         hyphenationFrequency lineBreakStyle scrollX scrollY timeZone stretchMode addPrintersActivity

@@ -248,23 +248,6 @@ def map_row(draft: Draft, mapper: Mapper, arguments: str) -> None:
     put_dividers(draft)
 
 
-def map_grid(draft: Draft, mapper: Mapper, arguments: str) -> None:
-    """Rows of as many cells as there are columns."""
-    boxes.put_box(draft)
-    draft.node.kind = "LinearLayout"
-    columns = draft.number("columnCount", {}) or draft.number("app:columnCount", {}) or 0
-    put_orientation(draft, "")
-    runs_down = is_vertical(draft.node)
-    draft.put("orientation", whole(VERTICAL))
-    cells = mapper.children(draft, "LinearLayout")
-    count = columns if columns > 0 else (1 if runs_down else max(len(cells), 1))
-    for at in range(0, len(cells), count):
-        row = Node("LinearLayout", record=draft.record, is_added=True)
-        row.attributes = {"layout_width": whole(MATCH), "layout_height": whole(WRAP)}
-        row.children = cells[at : at + count]
-        draft.node.children.append(row)
-
-
 def map_absolute(draft: Draft, mapper: Mapper, arguments: str) -> None:
     """Children at places that are given."""
     boxes.put_box(draft)

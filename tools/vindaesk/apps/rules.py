@@ -1,7 +1,7 @@
 """The rules of the table of classes by their names."""
 from typing import Dict
 
-from . import constraint_mapper, groups, images, texts
+from . import constraint_mapper, grids, groups, images, texts
 from .mapper import Rule
 
 RULES: Dict[str, Rule] = {
@@ -13,7 +13,7 @@ RULES: Dict[str, Rule] = {
     "first": groups.map_first,
     "table": groups.map_table,
     "table-row": groups.map_row,
-    "grid": groups.map_grid,
+    "grid": grids.map_grid,
     "absolute": groups.map_absolute,
     "fragment": groups.map_fragment,
     "toolbar": groups.map_toolbar,
