@@ -143,8 +143,11 @@ def marks_what_is_not_exact() -> str:
 def wrong_reports(it: Place) -> str:
     """Reports that say nothing."""
     why = ""
-    for body, said in (("{", "app.json is no report that can be read"), ('{"a": 1}', ""), ("[]", ""), (b"\xff", "no view is"),
-                       ('{"version": 2, "layouts": []}', "it is of the version 2"), ('{"version": 1, "layouts": [{}]}', "no view")):
+    bodies = {
+        b"{": "app.json is no report that can be read", b'{"a": 1}': "", b"[]": "", b"\xff": "no view is marked",
+        b'{"version": 2, "layouts": []}': "it is of the version 2", b'{"version": 1, "layouts": [{}]}': "no view is marked",
+    }
+    for body, said in bodies.items():
         it.put("made/app.json", body)
         found = it.call("tree", "made/settings.script")
         why = why or unlike(found, 0, None, said) or ("" if b"res/layout" not in found[1] else "marked: %r" % found[1])

@@ -123,8 +123,8 @@ class OpenApp:
         """What all layouts share."""
         if request not in self.made:
             resources = self.resources(request.device)
-            theme, name = app_themes.chosen(request.theme, self.manifest(), resources, self.files)
-            lookup = Lookup(resources, app_themes.stand_ins(theme, resources))
+            theme, name, lacks_library = app_themes.chosen(request.theme, self.manifest(), resources, self.files)
+            lookup = Lookup(resources, lacks_library, app_themes.stand_ins(theme, resources))
             app = App(resources, lookup, Drawables(self.files, resources, request.density, request.states))
             mapper = Mapper(app, Table(sorted(RULES), list(request.maps)), RULES, self.classes)
             expansion = Expansion(self.files, resources, lookup, request.options)

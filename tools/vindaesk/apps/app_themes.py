@@ -1,7 +1,7 @@
 """The theme of an app's layouts: the one that is asked for, or that of the manifest. A source lacks the themes of its
 libraries: where the parent of its theme is one of these, the theme is over the nearest one of Android, and attributes
 of the library lead to those of Android with the same name."""
-from typing import Dict, Optional, Tuple
+from typing import Dict, NamedTuple, Optional
 
 from ..common.failures import NOT_RUN, Failure
 from ..common.messages import printable
@@ -22,21 +22,29 @@ STAND_IN = -1
 DARK_THEME = "Theme.Material"
 
 
-def chosen(name: str, manifest: Optional[Element], resources: Resources, files: AppFiles) -> Tuple[Theme, str]:
-    """The theme of all layouts, and its name."""
+class Chosen(NamedTuple):
+    """The theme of all layouts, its name, and whether a library that it is from is not there."""
+
+    theme: Theme
+    name: str
+    lacks_library: bool = False
+
+
+def chosen(name: str, manifest: Optional[Element], resources: Resources, files: AppFiles) -> Chosen:
+    """The theme of all layouts."""
     number = named_theme(name, resources) if name else manifest_theme(manifest, resources)
     if number is None:
-        return resources.theme(), "none"
+        return Chosen(resources.theme(), "none")
     found = resources.name(number)
     said = str(found) if found else "@%08x" % number
     missing = resources.style(number).missing
     if not missing:
-        return resources.theme(number), said
+        return Chosen(resources.theme(number), said)
     parent = name_of_missing(files, missing)
     base = resources.find(nearest(parent, resources.device), "style", "android")
     theme = resources.theme(*([base] if base is not None else []), number)
     what = "whose parent %s is not there: over %s" % (parent or "@%08x" % missing, resources.name(base or 0))
-    return with_stand_ins(theme, resources), "%s, %s" % (said, what)
+    return Chosen(with_stand_ins(theme, resources), "%s, %s" % (said, what), True)
 
 
 def nearest(parent: str, device: Configuration) -> str:

@@ -122,7 +122,7 @@ class Draft:
 
     def check_library(self, class_styles: List[str]) -> None:
         """Says that the style of the class is in a library that is not there."""
-        if self.app.lookup.stand_ins and class_styles and class_styles[0].startswith("app:"):
+        if self.app.lookup.lacks_library and class_styles and class_styles[0].startswith("app:"):
             if not self.attributes.class_key.startswith("app:"):
                 what = self.attributes.class_key or "none"
                 why = "the style of its class, %s, is in a library that is not there: %s here" % (class_styles[0], what)

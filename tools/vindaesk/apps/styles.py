@@ -36,12 +36,12 @@ class Found(NamedTuple):
 
 
 class Lookup:
-    """Finds the numbers of attributes, and styles, in the resources of an app; each is looked for once. `stand_ins` are
-    the attributes of a library that is not there which lead to those of Android, with their names."""
+    """Finds the numbers of attributes, and styles, in the resources of an app; each is looked for once. If a
+    library of the theme is not there, `stand_ins` are its attributes that lead to those of Android, with their names."""
 
-    def __init__(self, resources: Resources, stand_ins: Optional[Dict[int, str]] = None):
+    def __init__(self, resources: Resources, lacks_library: bool = False, stand_ins: Optional[Dict[int, str]] = None):
         self.resources = resources
-        self.stand_ins = stand_ins or {}
+        self.lacks_library, self.stand_ins = lacks_library, stand_ins or {}
         self.numbers: Dict[str, Optional[int]] = dict(NUMBER_OF)
         self.known: Dict[str, Optional[int]] = {}
         self.names: Dict[int, str] = {}
