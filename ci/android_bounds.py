@@ -6,7 +6,7 @@ classes give to the same files: each view of each layout at two screens, left to
 BASE is the folder frameworks/base of Android's source; ci/apps_android fetches it and asks this. Where bounds differ,
 Android's classes are asked again with a known difference switched: they do there as the program does. It prints each
 view whose bounds differ then too, and how many were compared. The status is 1 if there is one, or nothing to compare.
-With --fault each tree has a margin that only Android's classes are told of, to see that differences are found."""
+With --fault each tree has a margin for Android's classes alone, to see that differences are found."""
 import argparse
 import os
 import subprocess

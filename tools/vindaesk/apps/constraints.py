@@ -3,16 +3,13 @@ views that are seen. apps/constraint_solver.py places them for one window."""
 import math
 from dataclasses import dataclass, field
 from fractions import Fraction
-from typing import List, NamedTuple, Optional, Set, Tuple
+from typing import List, NamedTuple, Optional, Tuple
 
 from ..layouts.attributes import ORIENTATIONS, VISIBILITIES
 from ..resources.values import Type, Value
-from . import boxes
 from .draft import MATCH, WRAP, Draft, Node, length_of, whole
 from .drawables import pixels
 from .expansion import View
-from .mapper import Mapper
-from .report import Effect
 
 PARENT = 0
 AXES = ("Horizontal", "Vertical")
