@@ -9,7 +9,7 @@ from running import TOP, Check, Checks
 # each has a function `checks`
 MODULES = (
     "examples", "pictures", "pages", "names", "promises", "layers", "broken", "limits", "tables", "launcher", "commands", "gate", "itself",
-    "tools", "golden", "hostile", "plugin", "grammar", "apps", "apps_report", "fuzz_apps", "resources", "fuzz_resources",
+    "tools", "golden", "hostile", "plugin", "grammar", "apps", "apps_report", "app_goldens", "fuzz_apps", "resources", "fuzz_resources",
     "driving", "lints", "browser",
     "farms", "installed", "packages", "shells", "release_checks", "package", "house", "words", "spelling", "stored",
 )

@@ -5,11 +5,12 @@ from typing import Dict, List, Optional
 from .case import ANSWER, PICTURE, Case
 from .configurations import Configuration
 from .kind import Kind
+from .kind_apps import Apps
 from .kind_calls import Calls
 from .kind_layouts import Layouts
 from .kind_scripts import Scripts, Stacks
 
-KINDS: Dict[str, Kind] = {kind.ENDING: kind for kind in (Scripts(), Stacks(), Layouts(), Calls())}
+KINDS: Dict[str, Kind] = {kind.ENDING: kind for kind in (Scripts(), Stacks(), Layouts(), Calls(), Apps())}
 
 
 def ending_of(path: str) -> Optional[str]:
