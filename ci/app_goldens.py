@@ -22,8 +22,8 @@ dpi = 160
 night = true
 locale = "de"
 '''
-CASES = ["home-phone-day", "home-phone-night", "home-tablet-day", "home-tablet-night", "row-phone-day", "row-phone-night",
-         "row-tablet-day", "row-tablet-night"]
+CASES = ["home-phone-day", "home-phone-night", "home-tablet-day", "home-tablet-night", "row-phone-day",
+         "row-phone-night", "row-tablet-day", "row-tablet-night"]
 # what is wrong in a file, and what is said
 WRONG = {
     'layouts = ["home"]\n': "a.app.toml: it names no app, as app = ",
@@ -57,7 +57,8 @@ def keeps_pictures() -> str:
         why = why or ("" if "\nv1 0 0 800 1280\n" in answer else "the answer is %s" % answer[:80])
         it.put("a" + ENDING, WHOLE.replace("640", "630"))
         found = it.call("runall", ".")
-        return why or unlike(found, 1, None) or ("" if b"4 passed, 4 failed" in found[1] else "it says %r" % found[1][-80:])
+        is_right = b"4 passed, 4 failed" in found[1]
+        return why or unlike(found, 1, None) or ("" if is_right else "it says %r" % found[1][-80:])
 
 
 def refuses_wrong_files() -> str:

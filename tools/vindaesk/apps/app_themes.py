@@ -65,7 +65,7 @@ def with_stand_ins(theme: Theme, resources: Resources) -> Theme:
 
 
 def stand_ins(theme: Theme, resources: Resources) -> Dict[int, str]:
-    """The attributes of a library that lead to those of Android, with the names of these; none where no library is missing."""
+    """The attributes of a library that lead to those of Android, with the names of these."""
     found = {}
     for number, it in theme.items.items():
         name = resources.name(number) if it.style == STAND_IN else None

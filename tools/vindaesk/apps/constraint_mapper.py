@@ -5,7 +5,8 @@ from ..layouts.attributes import VISIBILITIES
 from . import boxes
 from .constraint_solver import ConstraintTask
 from .constraints import (
-    BASELINE, GONE, Child, Constraints, Tie, barrier_of, circle_of, id_of, line_of, ratio_of, references, target_of, tie_of
+    BASELINE, GONE, Child, Constraints, Tie, barrier_of, circle_of, id_of, line_of, ratio_of, references, target_of,
+    tie_of
 )
 from .draft import Draft, length_of, whole
 from .expansion import View

@@ -60,7 +60,8 @@ class ConstraintTask(Task):
             put_axis(self, 0, {number: it[0] for number, it in first_sizes(self, sizes).items()})
             self.stage = ACROSS
             return True
-        self.texts = {it.number: top for it in self.group.children for top in [seen.text_top(it.node)] if top is not None}
+        tops = {it.number: seen.text_top(it.node) for it in self.group.children}
+        self.texts = {number: top for number, top in tops.items() if top is not None}
         put_axis(self, 1, heights(self, sizes))
         self.stage = DONE
         return True

@@ -1,5 +1,5 @@
-"""GridLayouts: rows of cells, each a line. A cell takes as many columns as it says; one with a weight, or that fills its
-column, shares the room of its row."""
+"""GridLayouts: rows of cells, each a line. A cell takes as many columns as it says; one with a weight, or that fills
+its column, shares the room of its row."""
 from typing import List, NamedTuple, Optional, Tuple
 
 from ..layouts.attributes import ORIENTATIONS

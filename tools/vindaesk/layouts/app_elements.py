@@ -1,4 +1,4 @@
-"""The elements of an app's source of which `tools/app` made those of a layout file, by the report app.json beside it."""
+"""The elements of an app's source of which `tools/app` made those of a layout file, by the app.json beside it."""
 import functools
 import json
 import os
@@ -59,7 +59,7 @@ def of_layout(folder: str, name: str) -> Elements:
 
 @functools.lru_cache(maxsize=8)
 def layouts_of(path: str, size: int, time: int) -> Dict[str, Elements]:
-    """The elements of all layouts of a report, by the names of their files; nothing of a file that is no such report."""
+    """The elements of all layouts of a report, by the names of their files; nothing of another file."""
     try:
         if size > MAX_REPORT:
             raise ValueError("it has more than %d bytes" % MAX_REPORT)

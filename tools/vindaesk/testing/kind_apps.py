@@ -1,5 +1,5 @@
-"""Cases that are layouts of an app: NAME.app.toml names the app, its layouts and its configurations; each layout in each
-of these is a case, NAME@LAYOUT-CONFIGURATION. Its answer has the bounds of all views.
+"""Cases that are layouts of an app: NAME.app.toml names the app, its layouts and its configurations; each layout in
+each of these is a case, NAME@LAYOUT-CONFIGURATION. Its answer has the bounds of all views.
 
     app = "trips.apk"
     layouts = ["home", "trip"]
@@ -23,7 +23,7 @@ import functools
 import os
 import tempfile
 from dataclasses import dataclass
-from typing import ContextManager, Dict, FrozenSet, Iterator, List, Optional, Tuple
+from typing import Any, ContextManager, Dict, FrozenSet, Iterator, List, Optional, Tuple
 
 from ..apps import app, app_files, results, writer
 from ..apps.app import OpenApp, Request, Screen
@@ -53,6 +53,7 @@ TEXTS = ("config", "theme", "framework")
 OWN = ("app", "layouts", *TEXTS)
 BOUNDS = b"bounds\n"
 MAX_FILE = 1 << 16
+Stamps = Tuple[Tuple[int, int], ...]
 KEPT_OPEN: List[ContextManager[OpenApp]] = []
 
 
@@ -98,7 +99,8 @@ def given_in(path: str, stamp: Tuple[int, int]) -> Given:
 
 def plain_of(entries: Dict[str, Entry], path: str) -> Configuration:
     """The configuration of a file without tables."""
-    return Configuration("", file=path, line=1)._replace(**configurations.settings_of(entries, path))  # type: ignore[arg-type]
+    found: Dict[str, Any] = configurations.settings_of(entries, path)
+    return Configuration("", file=path, line=1)._replace(**found)
 
 
 def read(path: str) -> Given:
@@ -128,7 +130,7 @@ def request_of(given: Given, it: Configuration) -> Request:
 
 
 @functools.lru_cache(2)
-def opened(process: int, paths: Tuple[str, ...], framework: Optional[str], stamps: Tuple[Tuple[int, int], ...]) -> OpenApp:
+def opened(process: int, paths: Tuple[str, ...], framework: Optional[str], stamps: Stamps) -> OpenApp:
     """An app, which stays open for all its cases in a process: two that share its files would read them in each other's
     places."""
     made = app.opened(paths, framework)
