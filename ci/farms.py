@@ -355,7 +355,8 @@ def keeps_what_passed() -> str:
         changes = {"a.script": b"\nbg v1 #ff0000ff\n", "ids.txt": b"app:id/b = 0x7f080002\n",
                    "b.xml": b"\0",
                    "start.lines": b"dpi 240\n", "a.toml": b"dpi = 320\n", "a@x.png": b"x", "a@x.answer": b"x",
-                   "c.args": b" 7f010001", "d.args": b"1", "d.script": b"x\n", "e.stack": b"x\n", "e.answer": b"x", "program": b"\n"}
+                   "c.args": b" 7f010001", "d.args": b"1", "d.script": b"x\n", "e.stack": b"x\n", "e.answer": b"x",
+                   "program": b"\n"}
         for name, more in changes.items():
             kept = it.read(name)
             it.put(name, kept + more)
