@@ -52,9 +52,11 @@ class Kept:
         """Notes that a case has passed; where that cannot be written, why: it is run again the next time."""
         path = self.path(key)
         try:
-            with contextlib.suppress(FileExistsError):
-                os.mkdir(os.path.dirname(path))
-            os.close(os.open(path, os.O_CREAT | os.O_WRONLY, 0o666))
+            try:
+                touch(path)
+            except FileNotFoundError:
+                os.makedirs(os.path.dirname(path), exist_ok=True)
+                touch(path)
         except OSError as error:
             return error.strerror or str(error)
         return ""
@@ -67,6 +69,11 @@ class Kept:
                 names = os.listdir(folder)
                 if len(names) > MOST:
                     remove_oldest(folder, names)
+
+
+def touch(path: str) -> None:
+    """Makes an empty file, if it is not there."""
+    os.close(os.open(path, os.O_CREAT | os.O_WRONLY, 0o666))
 
 
 def remove_oldest(folder: str, names: List[str]) -> None:
