@@ -3,10 +3,10 @@
 A testcase has its path as `file` and its pictures in `system-out`, as GitLab, CircleCI and Jenkins read them; pytest
 calls this family of reports xunit1. The strict one, xunit2, has no `file`, as the schema junit-10.xsd of Jenkins.
 """
-import datetime
 import os
 import re
 import socket
+import time
 import xml.etree.ElementTree as ElementTree
 from typing import Dict, Iterable, List, NamedTuple
 from xml.etree.ElementTree import Element, SubElement
@@ -78,10 +78,10 @@ def count(cases: Iterable[Element], tag: str) -> str:
 
 def suite_of(cases: List[Element], about: About) -> bytes:
     """The whole report."""
-    begun = datetime.datetime.utcfromtimestamp(int(about.begun))
+    begun = time.strftime("%Y-%m-%dT%H:%M:%S", time.gmtime(about.begun))
     suite = Element("testsuite", {
         "name": NAME, "tests": "%d" % len(cases), "failures": count(cases, "failure"), "errors": count(cases, "error"),
-        "skipped": count(cases, "skipped"), "time": "%.3f" % about.seconds, "timestamp": begun.isoformat(),
+        "skipped": count(cases, "skipped"), "time": "%.3f" % about.seconds, "timestamp": begun,
         "hostname": plain(socket.gethostname()) or "localhost",
     })
     properties = SubElement(suite, "properties")
