@@ -24,7 +24,7 @@ from .common import files
 from .common.failures import Failure
 from .pictures import png
 from .session import Session
-from .session.session import Bounds
+from .session.results import Bounds
 from .testing import comparing, configurations, evidence, kinds, report, trials
 from .testing.case import Case, Pictures
 from .testing.evidence import Evidence, Region

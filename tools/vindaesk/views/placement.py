@@ -104,6 +104,24 @@ def seen(views: List[Placed]) -> List[Placed]:
     return list(found.values())
 
 
+def shown(views: List[Placed], window: Optional[Window]) -> Dict[int, Box]:
+    """The part of each view that lies within the window and all views around it, by its number; none of a view that is
+    not visible, as one around it, or of which nothing is seen."""
+    found: Dict[int, Box] = {}
+    for it in seen(views):
+        around = found.get(it.view.parent.number) if it.view.parent else (0, 0, *(window or (0, 0)))
+        box = common(it.window, around) if it.window and around else None
+        if box:
+            found[it.view.number] = box
+    return found
+
+
+def common(box: Box, other: Box) -> Optional[Box]:
+    """What two boxes have in common, if that is not empty."""
+    left, top, right, bottom = max(box[0], other[0]), max(box[1], other[1]), min(box[2], other[2]), min(box[3], other[3])
+    return (left, top, right, bottom) if left < right and top < bottom else None
+
+
 def view_at(views: List[Placed], box: Box) -> Optional[View]:
     """The last view in preorder that is seen and has the whole of a box of the window in it."""
     found = None

@@ -1,0 +1,345 @@
+"""Sessions: what is found, gestures that fail midway, time limits, scripts of what was done, programs that take over, stacks
+of windows and walks of the focus."""
+import contextlib
+import os
+import random
+import tempfile
+import time
+from typing import Iterator, List, Optional, Tuple
+
+from running import PROGRAM, TOP, run
+from tools import place
+from vindaesk.session import LineRefused, NoAnswer, NoRoom, NotFound, OtherView, Session, Stack, Way
+
+EXAMPLES = os.path.join(TOP, "examples")
+CARD = os.path.join(EXAMPLES, "card.script")
+
+
+@contextlib.contextmanager
+def card() -> Iterator[Session]:
+    """A session over the card: v5 Later, v6 Reply with the id @7f080002."""
+    with open(CARD, encoding="utf-8") as file, Session(EXAMPLES) as s:
+        s.script(file.read())
+        yield s
+
+
+@contextlib.contextmanager
+def program(act: str) -> Iterator[None]:
+    """Sessions in here have a program that does this."""
+    kept = dict(os.environ)
+    with place() as it:
+        os.environ.update(it.stand_in(act))
+        try:
+            yield
+        finally:
+            os.environ.clear()
+            os.environ.update(kept)
+
+
+def names(found: List[object]) -> List[str]:
+    return [getattr(it, "name") for it in found]
+
+
+def test_find() -> None:
+    with card() as s:
+        assert s.find(text="Reply").name == "v6"
+        assert s.find(id="@7f080002").name == s.find(text_contains="epl", clickable=True).name == "v6"
+        assert names(list(s.find_all(cls="android.widget.TextView", clickable=True))) == ["v5", "v6"]
+        assert names(list(s.find_all(below="v4"))) == ["v5", "v6"] and s.find_all(below="v5") == []
+        s.set("v4", "visible", "gone")
+        s.frame()
+        assert s.find_all(text="Reply") == []
+        for text, why in (("Reply", "text 'Reply'; one that is not seen has"),
+                          ("Meeting moved to Frida", "; did you mean 'Meeting moved to Friday'?")):
+            try:
+                s.find(text=text)
+            except NotFound as missing:
+                assert why in str(missing), missing
+            else:
+                raise AssertionError("found")
+
+
+def test_taps() -> None:
+    with card() as s:
+        way = s.tap(s.find(text="Reply"), check=True)
+        assert (way.taken_by, way.taken_at, way.clicked, way.scrolled) == ("v6", (70, 24), ["v6"], {})
+
+
+def test_overlay() -> None:
+    with Session() as s:
+        s.script("window 50 50\nadd root FrameLayout match match\nadd v1 View 20 20\nanswer v2 click\nadd v1 View 50 50\n"
+                 "answer v3 yes\nframe")
+        try:
+            s.tap("v2", check=True)
+        except OtherView as other:
+            assert (other.view, other.taken_by) == ("v2", "v3")
+        else:
+            raise AssertionError("taken by v2")
+        # the pointer is up
+        assert s.tap("v2").taken_by == "v3"
+
+
+def test_held_and_several() -> None:
+    with card() as s:
+        with s.held("v6") as way:
+            assert way.taken_by == "v6" and way.clicked == []
+            s.frame()
+        assert way.clicked == ["v6"]
+        both = s.gesture([(60, 190), (61, 191)], [(200, 190)])
+        assert both.clicked == ["v6", "v5"]
+
+
+class Breaking(Session):
+    """A session whose second move is refused, since no pointer has this number."""
+
+    count = 0
+
+    def move(self, pointer: int, x: int, y: int) -> Way:
+        self.count += 1
+        return super().move(pointer if self.count != 2 else 7, x, y)
+
+
+def test_lifts_pointers() -> None:
+    s = Breaking()
+    with s:
+        s.script("window 100 40\nadd root FrameLayout match match\nadd v1 View match match\nanswer v2 click\nframe")
+        try:
+            s.drag("v2", 10, 0)
+        except LineRefused as refused:
+            assert refused.name == "Pointer" and s.count == 2
+        else:
+            raise AssertionError("dragged")
+        assert s.tap("v2").clicked == ["v2"]
+
+
+def test_time_limit() -> None:
+    for act in ("exec sleep 30", "read line; printf 'v1'; exec sleep 30"):
+        with program(act):
+            begun = time.monotonic()
+            s = Session(seconds=0.3)
+            try:
+                s.add("root", "View", 1, 1)
+            except NoAnswer as late:
+                assert str(late) == "the program gave no answer within 0.3 seconds to: add root View 1 1"
+            else:
+                raise AssertionError("answered")
+            assert time.monotonic() - begun < 5 and not s._channel.is_open
+
+
+def test_record() -> None:
+    with tempfile.TemporaryDirectory() as folder, Session(EXAMPLES) as s:
+        replies = s.script("window 160 200\ninflate page.xml\nframe\nbounds v3\n# a remark\n")
+        replies += s.drag("@7f080001", 0, -60)
+        try:
+            s.set("v2", "size", -1, 8)
+        except LineRefused:
+            pass
+        path = os.path.join(folder, "done.script")
+        s.record(path)
+        with open(path, "rb") as file:
+            written, status = run([PROGRAM, "run"], file.read(), folder)
+        # besides the replies of the session's own questions
+        assert status == 0 and [it for it in written.decode().splitlines() if it in replies] and "page.xml" in os.listdir(folder)
+        rest = iter(written.decode().splitlines())
+        assert all(it in rest for it in replies)
+        with open(path, encoding="utf-8") as text:
+            assert "# refused 30 Range: size v2 -1 8\n" in text.read()
+        with open(os.path.join(folder, "page.xml"), "ab") as layout:
+            layout.write(b"x")
+        try:
+            s.record(path)
+        except Exception as failure:
+            assert str(failure).endswith("page.xml is another file than the session's")
+        else:
+            raise AssertionError("recorded")
+
+
+def test_full() -> None:
+    with Session() as s:
+        s._channel.limit = 200
+        s.script("window 9 9\nadd root View 1 1")
+        try:
+            for _ in range(9):
+                s.line("# a remark that takes room")
+        except NoRoom as full:
+            assert "the program reads 200 bytes and has" in str(full) and s.left >= 0
+        else:
+            raise AssertionError("room")
+        assert s.frame().is_settled
+
+
+# programs that take over
+
+KINDS = ("View", "TextView", "FrameLayout", "LinearLayout", "RelativeLayout", "ScrollView")
+EDITS = ("size {v} {n} {n}", "min {v} {n} {n}", "margins {v} {n} {n} {n} {n}", "padding {v} {n} {n} {n} {n}", "text {v} {n} a",
+         "gravity {v} self right|bottom", "gravity {v} kids center", "gravity {v} self left", "orient {v} vertical",
+         "direction {v} rtl", "weight {v} {n}", "weightsum {v} {n}", "bg {v} #ff0000{h}", "ink {v} #ff00{h}00",
+         "flag {v} clip no", "flag {v} split no", "flag {v} fill yes", "rule {v} below @{i}", "rule {v} right_of @{i}",
+         "rule {v} parent_right yes", "scroll {v} {n}", "visible {v} gone", "visible {v} visible", "visible {v} invisible",
+         "id {v} @{i}", "answer {v} click", "intercept {v} move", "disallow {v} yes", "res @7f00000{i} color #ff00ff{h}",
+         "hook {v} size {w} {n} {n}", "hook {v} bg {w} #ffff00{h}", "save", "restore", "remove {v}")
+
+
+# why no program takes over where the lines that it gets are right
+KNOWN = ("", "a pointer is down, a hook is armed, or lines came after the last frame",
+         "it is not known what the hooks that fired have set")
+
+
+def random_line(draw: random.Random, most: int) -> str:
+    """A line about some of the first views, which may be refused."""
+    if draw.random() < 0.3:
+        around = "root" if draw.random() < 0.1 else "v%d" % draw.randint(1, most)
+        return "add %s %s %s %s" % (around, draw.choice(KINDS), draw.choice(("match", "wrap", "20")), draw.choice(("30", "wrap")))
+    if draw.random() < 0.15:
+        return draw.choice(("down 0 {x} {y}", "move 0 {x} {y}", "up 0", "cancel")).format(
+            x=draw.randint(0, 99), y=draw.randint(0, 99))
+    if draw.random() < 0.05:
+        return "inflate page.xml into v%d" % draw.randint(1, most)
+    form = draw.choice(EDITS)
+    if form.startswith(("remove", "hook")) and draw.random() < 0.7:
+        form = "bg {v} #ff0000{h}"
+    return form.format(v="v%d" % draw.randint(1, most), w="v%d" % draw.randint(1, most), n=draw.randint(0, 40),
+                       h="%02x" % draw.randint(0, 255), i=draw.randint(1, 5))
+
+
+def answer(s: Session, line: str) -> object:
+    """What a session answers to a line, also where it refuses it."""
+    try:
+        return s.line(line)
+    except LineRefused as refused:
+        return refused.number, refused.name, refused.detail
+
+
+def test_takes_over() -> None:
+    """Two sessions of the same random lines, in one of which a new program takes over wherever it can: each answer is the
+    same, so are all bounds and the picture."""
+    taken = 0
+    for seed in range(20):
+        draw = random.Random(seed)
+        with Session(EXAMPLES) as plain, Session(EXAMPLES) as renewed:
+            begun = ["window 100 100", "add root %s match match" % draw.choice(KINDS[2:])]
+            lines = begun + [random_line(draw, 2 + number // 3) if number % 4 else "frame" for number in range(60)]
+            for number, line in enumerate(lines):
+                found = [answer(it, line) for it in (plain, renewed)]
+                assert found[0] == found[1], (seed, number, line, found)
+                if line == "frame":
+                    found = [[answer(it, question) for question in ("bounds", "digest")] for it in (plain, renewed)]
+                    assert found[0] == found[1], (seed, number, found)
+                    why = renewed.renew()
+                    assert why in KNOWN or why.startswith("the saved state has"), (seed, number, why)
+                    taken += why == ""
+    assert taken > 80, taken
+
+
+def test_takes_over_with_several_of_a_kind() -> None:
+    with Session() as s:
+        s.script("window 100 100\nadd root RelativeLayout match match\nadd v1 View 20 20\nid v2 @1\nadd v1 View 10 10\n"
+                 "rule v3 below @1\nrule v3 right_of @1\nadd v1 LinearLayout 60 60\ngravity v4 kids center\n"
+                 "rule v4 parent_right yes\nrule v4 parent_bottom yes\nadd v4 View 80 5\nanswer v5 click\nbg v5 #ff0000ff\n"
+                 "gravity v4 self left\nflag v4 clip no\npadding v4 9 9 9 9\nflag v4 split no\nintercept v4 move\nframe")
+        ways = [s.down(0, 70, 70), s.move(0, 71, 70), s.cancel()]
+        s.frame()
+        assert s.renew() == ""
+        assert ways == [s.down(0, 70, 70), s.move(0, 71, 70), s.cancel()] and "v4 ask MOVE 0:31,30 yes" in ways[1]
+
+
+def test_takes_over_by_itself() -> None:
+    with Session() as s:
+        s._channel.limit = 20000
+        s._due = 20000 // 16
+        s.script("window 50 40\nadd root ScrollView match match\nadd v1 LinearLayout match wrap\norient v2 vertical\n"
+                 "add v2 View match 100\nanswer v3 click\nid v1 @1\nframe")
+        s.save()
+        for number in range(1500):
+            s.drag("v3", 0, -3 if number % 2 else 3)
+            s.frame()
+            if s._channel.limit != 20000:
+                s._channel.limit, s._due = 20000, 20000 // 16
+        assert s.renewals > 5
+        s.line("scroll v1 60")
+        s.frame()
+        s.restore()
+        s.frame()
+        assert s.bounds("v1")[4] == 0  # type: ignore[index]
+
+
+def test_says_why_none_takes_over() -> None:
+    with Session() as s:
+        s.script("window 9 9\nadd root View 1 1\nframe\nhook v1 bg v1 #ff000000")
+        assert s.renew() == "a pointer is down, a hook is armed, or lines came after the last frame"
+        s.script("size v1 2 2\nframe\nframe")
+        assert s.renew() == "" and s.renewals == 1
+
+
+# stacks and the focus
+
+def dialog(stack: Stack) -> None:
+    """Opens the app and the dialog of the example."""
+    with open(os.path.join(EXAMPLES, "dialog.stack"), encoding="utf-8") as file:
+        for line in file:
+            words = line.split()
+            if words[0] == "at":
+                stack.open(*map(int, words[1:]))
+            elif words[0] == "in":
+                stack.windows[int(words[1])].line(line[5:].rstrip("\n"))
+
+
+def test_stack() -> None:
+    with tempfile.TemporaryDirectory() as folder, Stack(EXAMPLES) as stack:
+        dialog(stack)
+        app, above = stack.windows[0], stack.windows[1]
+        assert above.tap(above.find(text="No"), check=True).clicked == ["v3"]
+        try:
+            app.tap(app.find(text="Lunch on Friday"), check=True)
+        except OtherView as other:
+            assert other.view == "v4" and other.taken_by is None
+        else:
+            raise AssertionError("the app is below the dialog")
+        stack.on_top(0)
+        assert app.tap("v4", check=True).clicked == ["v4"]
+        assert stack.down(0, 500, 500) == [] and app.tap("v3").taken_by == "v3"
+        path = os.path.join(folder, "done.stack")
+        stack.record(path)
+        with open(path, "rb") as file:
+            assert run([PROGRAM, "stack"], file.read(), folder)[1] == 0
+        stack.close(1)
+        assert list(stack.windows) == [0]
+        picture = stack.picture(320, 180)
+        assert (picture.width, picture.height, len(picture.rows)) == (320, 180, 180)
+
+
+def test_same_place_in_two_windows() -> None:
+    with Stack() as stack:
+        for number in (0, 1):
+            stack.open(number, 0, 0).script("window 20 20\nadd root View match match\nanswer v1 click\nframe")
+        try:
+            stack.windows[0].tap("v1", check=True)
+        except ValueError as error:
+            assert "v1 of two windows is at the same place" in str(error)
+        else:
+            raise AssertionError("not known which")
+        assert stack.windows[1].tap("v1").clicked == ["v1"]
+
+
+def focus(lines: str, *questions: Tuple[str, str]) -> List[Optional[str]]:
+    """What the program says of questions, each of a view and a side."""
+    found = []
+    for view, side in questions:
+        written, _ = run([PROGRAM, "focus", side, view], lines.encode(), TOP)
+        word = written.decode().split()[-1]
+        found.append(None if word == "none" else word)
+    return found
+
+
+def test_focus() -> None:
+    with open(os.path.join(EXAMPLES, "focus.script"), encoding="utf-8") as file:
+        lines = file.read()
+    with Session(EXAMPLES) as s:
+        s.script(lines)
+        s.digest()
+        walk = s.focus("v2", "right", "right", "right", "down", "up", "left")
+        views = ["v2"]
+        for it in walk:
+            views.append(it or views[-1])
+        assert walk == focus(lines, *zip(views, ("right", "right", "right", "down", "up", "left")))
+        assert walk[2] is None and walk[0] == "v3"
