@@ -14,22 +14,22 @@ import tempfile
 from typing import FrozenSet, Iterator, List, Optional, Sequence, Tuple, Union
 
 from ..apps import app as apps
-from ..apps import report
+from ..apps import report, writer
 from ..apps.app import Request, Screen
 from ..apps.expansion import Options
 from ..common import files
 from ..common.failures import NOT_RUN, Failure
 from ..resources.devices import device
-from ..scripts import script
-from .session import Session
+from ..scripts import names, script
+from .session import SECONDS, Session
 
 
 class AppSession(Session):
     """A session whose tree is a layout of an app, laid out in its window. `screen` has the report of the layout."""
 
-    def __init__(self, folder: str, screen: Screen):
+    def __init__(self, folder: str, screen: Screen, seconds: float = SECONDS):
         """Carries out the script of the layout, whose file is in the folder."""
-        super().__init__(folder)
+        super().__init__(folder, seconds=seconds)
         self.screen = screen
         for line in script.lines_in(screen.script):
             if script.words_of(line):
@@ -59,7 +59,8 @@ def qualifiers_of(locale: str, night: bool, land: bool, density: int, more: str)
 def app(
     path: Union[str, Sequence[str]], layout: str, *, locale: str = "", night: bool = False, land: bool = False,
     density: int = 0, config: str = "", theme: str = "", framework: Optional[str] = None, pixels: bool = False,
-    states: FrozenSet[str] = frozenset(), options: Options = Options(), maps: Tuple[str, ...] = ()
+    states: FrozenSet[str] = frozenset(), options: Options = Options(), maps: Tuple[str, ...] = (),
+    seconds: float = SECONDS
 ) -> Iterator[AppSession]:
     """A session over a layout of an app, for as long as it is used: an APK, several split ones, or a folder.
     `config` has further qualifiers of the device, as `v30`, which come after the others in the order of Android's
@@ -72,7 +73,8 @@ def app(
         raise Failure(screen.why, NOT_RUN)
     with tempfile.TemporaryDirectory() as folder:
         files.replace(os.path.join(folder, screen.name + ".xml"), screen.compiled)
-        made = AppSession(folder, screen)
+        files.replace(os.path.join(folder, names.LIST), writer.list_of(screen.ids))
+        made = AppSession(folder, screen, seconds)
         try:
             yield made
         finally:

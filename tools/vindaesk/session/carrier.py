@@ -39,14 +39,19 @@ class Carrier:
     def __init__(self, carries: Line, folder: str, ids: Ids):
         self._carries = carries
         self._folder = folder
-        self._ids = ids
+        self.ids = ids
         self._views = view_tree.Tree(folder, ids)
-        self._window: Optional[Window] = None
+        self.window_size: Optional[Window] = None
         self._down: Set[int] = set()
         self._kept = b""
         self.inflated: Dict[str, bytes] = {}
         self._world = World(self._views)
         self.changes = 0
+
+    @property
+    def last_number(self) -> int:
+        """The number of the view that was made last; 0 where none was."""
+        return self._world.last
 
     def line(self, text: str) -> List[str]:
         """Carries out any line of docs/SCRIPT.md, and returns its replies."""
@@ -68,7 +73,7 @@ class Carrier:
         """A line for the program, with ids in the place of their names, and without its line feed."""
         if "\n" in text:
             raise ValueError("a line has a line feed in it: %r" % text)
-        found = self._ids.expanded(text.encode("utf-8", "surrogateescape"))
+        found = self.ids.expanded(text.encode("utf-8", "surrogateescape"))
         if found.unknown:
             raise Failure("%s: %s" % (found.unknown[0].why, text))
         return found.text
@@ -111,7 +116,7 @@ class Carrier:
     def _note(self, word: bytes, words: List[bytes], line: bytes, reply: bytes) -> None:
         """What a line made of the window, of the pointers, of files and of the saved state."""
         if word == b"window":
-            self._window = script.window_of(line) or self._window
+            self.window_size = script.window_of(line) or self.window_size
         elif word == b"down":
             self._down.add(int(words[1]))
         elif word == b"up":

@@ -25,8 +25,11 @@ class Looking(Carrier):
 
     def tree(self) -> List[Node]:
         """All views in preorder, each with its place in its parent and in the window, and what is seen of it."""
-        views = self.placed()
-        boxes = placement.shown(views, self._window)
+        return self.nodes_of(self.placed())
+
+    def nodes_of(self, views: List[Placed]) -> List[Node]:
+        """The same of what `placed` returned."""
+        boxes = placement.shown(views, self.window_size)
         return [node_of(it, boxes.get(it.view.number)) for it in views]
 
     def placed(self) -> List[Placed]:
@@ -61,9 +64,9 @@ class Looking(Carrier):
     def seen(self, view: Viewed) -> Optional[Box]:
         """The part of a view that lies within all views around it and the window; None where there is none."""
         boxes = [it.window for it in self._around(view)]
-        if None in boxes or self._window is None:
+        if None in boxes or self.window_size is None:
             return None
-        sides = list(zip((0, 0, *self._window), *boxes))
+        sides = list(zip((0, 0, *self.window_size), *boxes))
         left, top, right, bottom = max(sides[0]), max(sides[1]), min(sides[2]), min(sides[3])
         return (left, top, right, bottom) if left < right and top < bottom else None
 
@@ -86,8 +89,8 @@ class Looking(Carrier):
 
     def picture(self) -> png.Picture:
         """The picture of the last frame."""
-        width, height = self._window or (1, 1)
-        lines = [row for line in frames.asked(self._window) for row in self._carried_out(line, self._carries.until_mark)]
+        width, height = self.window_size or (1, 1)
+        lines = [row for line in frames.asked(self.window_size) for row in self._carried_out(line, self._carries.until_mark)]
         return png.Picture(width, height, [bytes.fromhex(row.decode()) for row in lines])
 
     def screenshot(self, path: str, scale: int = 1) -> None:

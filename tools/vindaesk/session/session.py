@@ -123,6 +123,16 @@ class Session(Editing):
         self._channel.close()
 
     @property
+    def is_open(self) -> bool:
+        """Whether the program still takes lines."""
+        return self._channel.is_open
+
+    @property
+    def journal(self) -> str:
+        """What was done, as `record` writes it."""
+        return self._channel.journal.decode("utf-8", "surrogateescape")
+
+    @property
     def left(self) -> int:
         """How many more bytes of lines the program reads, with two for each line of any number of replies. Before they
         end, a new program takes over, if it can: `renew` says why it cannot."""
@@ -132,7 +142,7 @@ class Session(Editing):
         """Has a new program take over, with the same views, bounds and picture. Returns why it cannot, or nothing."""
         why = renewal.why_not(self._world, self._kept)
         if not why:
-            new = Channel("run", self._folder, self._ids, self._seconds)
+            new = Channel("run", self._folder, self.ids, self._seconds)
             why = renewal.renewed(self._channel, new, self._world)
             if not why:
                 self._channel = self._carries = new
