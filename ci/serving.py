@@ -16,6 +16,7 @@ from functools import partial
 from typing import Any, Dict, Iterator, List, Optional, Tuple
 
 from running import TOP, Checks, Skipped, named
+from tools import place
 from vindaesk.pictures import png
 from vindaesk.server.capabilities import Place
 from vindaesk.server.keeper import Keeper, Limits
@@ -96,6 +97,12 @@ def unlike(pairs: List[Tuple[object, object]]) -> str:
     return next(("%r in place of %r" % pair for pair in pairs if pair[0] != pair[1]), "")
 
 
+def printed() -> str:
+    """What docs/SERVE.md says that the example prints."""
+    with open(os.path.join(TOP, "docs", "SERVE.md"), encoding="utf-8") as file:
+        return file.read().split("```drawing\n")[1].split("```")[0]
+
+
 def by_selenium() -> str:
     """The example of the page, by Debian's Selenium as it is."""
     if not os.path.exists(SELENIUM):
@@ -108,9 +115,7 @@ def by_selenium() -> str:
             return ended.stderr.decode()[-900:]
         with open(picture, "rb") as file, open(os.path.join(TOP, "examples", "card.png"), "rb") as wanted:
             same = png.read(file.read(), "found") == png.read(wanted.read(), "wanted")
-        lines = ["Reply {'height': 48, 'width': 140, 'x': 164, 'y': 176}", "True true None", "v6 click", "2 tappable",
-                 "NoSuchElementException", "StaleElementReferenceException", ""]
-    return unlike([(ended.stdout.decode(), "\n".join(lines)), (same, True)])
+    return unlike([(ended.stdout.decode(), printed()), (same, True)])
 
 
 # what both engines of XPath find in examples/reader.script, by XPath 1.0
@@ -275,7 +280,7 @@ def refuses_sessions() -> str:
             ({"vindaesk:script": "/etc/passwd"}, "'/etc/passwd' is not below the server's folder"),
             ({"vindaesk:script": "refusals.script"}, "a line is refused"), ({"vindaesk:lines": "ad"}, "a line is refused 31 Syntax: ad"),
             ({"platformName": "iOS"}, "the platform is Android, and not iOS"), ({"browserName": "chrome"}, "and not chrome"),
-            ({"vindaesk:scirpt": "x"}, "there is no capability vindaesk:scirpt"), ({"vindaesk:lines": 3}, "has to be a text"),
+            ({"vindaesk:skript": "x"}, "there is no capability vindaesk:skript"), ({"vindaesk:lines": 3}, "has to be a text"),
             ({"appium:app": "card.script", "vindaesk:layout": "x"}, "card.script"), ({"appium:app": "x"}, "vindaesk:layout has to"),
             ({"vindaesk:lines": "include ../README.md"}, "a line is refused"),
         ]
@@ -399,6 +404,24 @@ def asks_for_a_token() -> str:
     return unlike([(made, [(401, "unauthorized")] * 4), (good, [200, 200]), (len(token) >= 32, True)])
 
 
+def ends_sessions_whose_program_fails() -> str:
+    """One that answers some lines and then nothing, and one that ends."""
+    kept, found = dict(os.environ), []
+    for act in ("read a; read b; echo 'line 2: refused 31 Syntax'; exec sleep 60", "read a; read b; echo 'line 2: refused 31 Syntax'"):
+        with place() as it:
+            os.environ.update(it.stand_in(act))
+            try:
+                with served("--seconds", "1") as client:
+                    begun = client.begin(vindaesk__lines="window 9 9")
+                    found.append((begun["error"], begun["message"]))
+                    found.append(client.raw("GET", "/status")[1]["ready"])
+            finally:
+                os.environ.clear()
+                os.environ.update(kept)
+    return unlike([(found, [("timeout", "the program gave no answer within 1 seconds to: bounds"), True,
+                            ("unknown error", "the program ended before its input did"), True])])
+
+
 def ends_sessions_that_are_not_used() -> str:
     with served("--idle", "1") as client:
         client.begin(vindaesk__script="card.script")
@@ -413,4 +436,4 @@ def checks() -> Checks:
     yield from named("the server", (
         by_selenium, finds_by_others, touches, clicks_that_others_take, answers_as_webdriver, refuses_sessions,
         survives_hostile_requests, ends_what_takes_too_long, limits_connections, drops_slow_clients, asks_for_a_token,
-        ends_sessions_that_are_not_used))
+        ends_sessions_that_are_not_used, ends_sessions_whose_program_fails))

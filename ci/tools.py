@@ -24,7 +24,7 @@ from vindaesk.pictures import png
 Ended = Tuple[int, bytes, str]
 
 EXAMPLES = os.path.join(TOP, "examples")
-TOOLS = ("screenshot", "picdiff", "tree", "runall", "check", "axml", "unpack", "lint", "page", "install", "app")
+TOOLS = ("screenshot", "picdiff", "tree", "runall", "check", "axml", "unpack", "lint", "page", "install", "app", "serve")
 RED = "window 2 2\nadd root View match match\nbg v1 #ffff0000\nframe\n"
 UNSETTLED = """window 100 20
 add root LinearLayout match match

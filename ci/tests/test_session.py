@@ -343,3 +343,10 @@ def test_focus() -> None:
             views.append(it or views[-1])
         assert walk == focus(lines, *zip(views, ("right", "right", "right", "down", "up", "left")))
         assert walk[2] is None and walk[0] == "v3"
+        # the same after much has been done
+        for _ in range(5000):
+            s.bounds("v2")
+            s.set("v2", "min", 0, 0)
+        s.frame()
+        assert s.focus("v2", "right", "right", "right", "down", "up", "left") == walk
+        assert len(s._copy()) < 2000

@@ -22,7 +22,7 @@ KINDS = {
     **dict.fromkeys(("SCRIPT", "FILE", "FILE,..", "NAME", "APP", "APK"), Kind.FILE),
     **dict.fromkeys(("DIR", "PREFIX"), Kind.FOLDER),
     **dict.fromkeys(("N", "S", "I/N", "WxH", "TEXT", "ID", "SIDE", "V", "WORD", "CASE"), Kind.TEXT),
-    **dict.fromkeys(("LAYOUT", "QUALIFIERS"), Kind.TEXT),
+    **dict.fromkeys(("LAYOUT", "QUALIFIERS", "ADDRESS"), Kind.TEXT),
 }
 LIST = ",.."
 FILE_NAME = re.compile(r"[A-Za-z]+\.[a-z]+")

@@ -12,6 +12,7 @@ from typing import Any, Dict, List, Optional, Set, Tuple
 
 from ..common.failures import Failure
 from ..common.places import version
+from ..session import NoAnswer
 from .commands import carried_out
 from .errors import Problem
 from .keeper import Keeper
@@ -81,11 +82,12 @@ class Server(ThreadingHTTPServer):
         """Closes connections that take too long, and ends sessions that are not used."""
         while not self._is_ended.wait(LOOKS):
             for it in self._late_ones(time.monotonic()):
+                is_again = it in self._late
+                self._late.add(it)
                 try:
-                    it.shutdown(socket.SHUT_RDWR if it in self._late else socket.SHUT_RD)
+                    it.shutdown(socket.SHUT_RDWR if is_again else socket.SHUT_RD)
                 except OSError:
                     continue
-                self._late.add(it)
             self.keeper.end_unused()
 
     def _late_ones(self, now: float) -> List[socket.socket]:
@@ -159,7 +161,7 @@ class Handler(BaseHTTPRequestHandler):
         except Problem as problem:
             value = problem
         except Failure as failure:
-            value = Problem("unknown error", str(failure))
+            value = Problem("timeout" if isinstance(failure, NoAnswer) else "unknown error", str(failure))
         except Exception as error:
             # a mistake of this server, or of the machine: the client gets it, and the server goes on
             value = Problem("unknown error", "%s: %s" % (type(error).__name__, error))
@@ -244,10 +246,12 @@ class Handler(BaseHTTPRequestHandler):
         if not rest and self.command == "DELETE" or (self.command, rest) == ("DELETE", "window"):
             keeper.end(begun)
             return [] if rest else None
-        found = carried_out(screen, self.command, "/" + rest if rest else "", body)
-        if not screen.session.is_open:
-            keeper.end(begun)
-        return found
+        try:
+            return carried_out(screen, self.command, "/" + rest if rest else "", body)
+        finally:
+            # the program has ended
+            if not screen.session.is_open:
+                keeper.end(begun)
 
     def _send(self, value: Any) -> None:
         status, extra = 200, {}

@@ -34,7 +34,7 @@ class OtherView(Exception):
     """A tap was not taken by the view that it was meant for: that view, and the one that took it, or None."""
 
     def __init__(self, view: str, taken_by: Optional[str], place: Tuple[int, int]):
-        by = "by %s" % taken_by if taken_by else "by no view"
+        by = "by %s" % taken_by if taken_by else "by no view of the window"
         super().__init__("the tap on %s, at %d %d, was taken %s" % (view, *place, by))
         self.view = view
         self.taken_by = taken_by

@@ -18,6 +18,7 @@ its left upper corner. docs/SESSION.md has examples, docs/SCRIPT.md the lines, d
 A line that is refused raises `LineRefused` and changes nothing, so that the session can go on. Where the program itself
 ends, `Failure` has the sentence and the status. A session is for one thread at a time.
 """
+import contextlib
 from types import TracebackType
 from typing import List, Optional, Type
 
@@ -31,6 +32,8 @@ from .touching import Touching
 TOGETHER = 1000
 # how long an answer may take, in seconds
 SECONDS = 60
+# from how many bytes on a shorter script is looked for
+LONG = 65536
 
 
 class Editing(Touching):
@@ -175,4 +178,15 @@ class Session(Editing):
         where no view gets it, so that it stays. Each key is a run of the program over what was done."""
         first = self._number(view)
         assert first is not None
-        return focus.walk(focus.copy_of(bytes(self._channel.journal)), self._folder, sides, first, self._seconds)
+        return focus.walk(self._copy(), self._folder, sides, first, self._seconds)
+
+    def _copy(self) -> bytes:
+        """A script that leaves what there is now: what was done, or where that is long the lines by which a new program
+        would take over."""
+        done = bytes(self._channel.journal)
+        if len(done) > LONG and not renewal.why_not(self._world, self._kept):
+            with contextlib.closing(Channel("run", self._folder, self.ids, self._seconds)) as new:
+                lines = renewal.lines_for(self._channel, self._world)
+                if lines is not None and not renewal.take_over(self._channel, new, lines):
+                    done = bytes(new.journal)
+        return focus.copy_of(done)
