@@ -1,4 +1,4 @@
-"""Tries the server of tools/: by Selenium as Debian has it, by plain HTTP, and by requests that nobody should send."""
+"""Tries the server of tools/: by Selenium as Debian has it, by plain HTTP, and by hostile requests."""
 import base64
 import contextlib
 import http.client
@@ -404,6 +404,27 @@ def asks_for_a_token() -> str:
     return unlike([(made, [(401, "unauthorized")] * 4), (good, [200, 200]), (len(token) >= 32, True)])
 
 
+def refuses_calls() -> str:
+    """Arguments with which no server begins: one sentence, and status 2."""
+    with tempfile.NamedTemporaryFile() as token, socket.create_server(("127.0.0.1", 0)) as taken:
+        token.write(b"short\n")
+        token.flush()
+        port = taken.getsockname()[1]
+        calls = {
+            ("--folder", "/nothing"): "serve: /nothing is no folder\n",
+            ("--token", token.name): "serve: %s has no token of 16 characters or more\n" % token.name,
+            ("--port", str(port)): "serve: 127.0.0.1:%d cannot be listened on: Address already in use\n" % port,
+            ("--host", "256.0.0.1", "--port", "0"): "serve: 256.0.0.1:0 cannot be listened on: ",
+        }
+        for words, wanted in calls.items():
+            ended = subprocess.run([sys.executable, os.path.join(TOP, "tools", "serve"), *words], stdout=subprocess.PIPE,
+                                   stderr=subprocess.PIPE, cwd=TOP, timeout=SECONDS)
+            said = ended.stderr.decode()
+            if ended.returncode != 2 or not said.startswith(wanted) or said.count("\n") != 1 or ended.stdout:
+                return "%s: status %d, %r" % (" ".join(words), ended.returncode, said)
+    return ""
+
+
 def ends_sessions_whose_program_fails() -> str:
     """One that answers some lines and then nothing, and one that ends."""
     kept, found = dict(os.environ), []
@@ -436,4 +457,4 @@ def checks() -> Checks:
     yield from named("the server", (
         by_selenium, finds_by_others, touches, clicks_that_others_take, answers_as_webdriver, refuses_sessions,
         survives_hostile_requests, ends_what_takes_too_long, limits_connections, drops_slow_clients, asks_for_a_token,
-        ends_sessions_that_are_not_used, ends_sessions_whose_program_fails))
+        ends_sessions_that_are_not_used, ends_sessions_whose_program_fails, refuses_calls))

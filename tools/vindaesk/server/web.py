@@ -4,6 +4,7 @@ import hmac
 import json
 import math
 import socket
+import socketserver
 import threading
 import time
 import urllib.parse
@@ -42,7 +43,6 @@ class Server(ThreadingHTTPServer):
     def __init__(self, address: Tuple[str, int], keeper: Keeper, token: str = ""):
         if ":" in address[0]:
             self.address_family = socket.AF_INET6
-        super().__init__(address, Handler)
         self.keeper, self.token = keeper, token
         # until when each connection has to bring something
         self._until: Dict[socket.socket, float] = {}
@@ -50,7 +50,13 @@ class Server(ThreadingHTTPServer):
         self._late: Set[socket.socket] = set()
         self._lock = threading.Lock()
         self._is_ended = threading.Event()
+        super().__init__(address, Handler)
         threading.Thread(target=self._look, daemon=True).start()
+
+    def server_bind(self) -> None:
+        """As a server of TCP does: one of HTTP asks the network for this machine's name, which may take seconds."""
+        socketserver.TCPServer.server_bind(self)
+        self.server_name, self.server_port = self.server_address[:2]  # type: ignore[assignment]
 
     def wait_until(self, connection: socket.socket, until: Optional[float]) -> None:
         """Sets when a connection is closed, or that it is not."""
