@@ -2,12 +2,14 @@
 import contextlib
 import os
 from dataclasses import dataclass
-from typing import Any, Dict, List
+from typing import TYPE_CHECKING, Any, Dict, List
 
 from ..common.failures import Failure
-from ..session import AppSession, LineRefused, Session
-from ..session import app as app_session
+from ..session import LineRefused, Session
 from .errors import Problem
+
+if TYPE_CHECKING:
+    from ..session import AppSession
 
 OWN = "vindaesk:"
 # capabilities that are read; those of `appium:` that have no effect are listed as `vindaesk:ignored`
@@ -92,8 +94,10 @@ def returned(wanted: Dict[str, Any], session: Session) -> Dict[str, Any]:
     ignored = sorted(it for it in wanted if it not in known and (":" in it or it in DROPPED) and it not in TEXTS)
     if ignored:
         found["vindaesk:ignored"] = ignored
-    if isinstance(session, AppSession):
-        found["vindaesk:notes"] = session.notes()
+    # of a layout of an app
+    notes = getattr(session, "notes", None)
+    if notes is not None:
+        found["vindaesk:notes"] = notes()
     return found
 
 
@@ -123,8 +127,11 @@ def of_script(wanted: Dict[str, Any], place: Place, closing: contextlib.ExitStac
 
 def of_app(wanted: Dict[str, Any], place: Place) -> "contextlib.AbstractContextManager[AppSession]":
     """A session over a layout of an app."""
+    # loaded when it is asked for
+    from ..session import app
+
     locale = "-".join(filter(None, (wanted.get("appium:language", ""), wanted.get("appium:locale", ""))))
-    return app_session(
+    return app(
         place.inside(wanted["appium:app"], "appium:app"), wanted["vindaesk:layout"], locale=locale,
         night=wanted.get("vindaesk:night", False), land=wanted.get("appium:orientation") == "LANDSCAPE",
         config=wanted.get("vindaesk:config", ""), theme=wanted.get("vindaesk:theme", ""), seconds=place.seconds
