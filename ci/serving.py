@@ -39,7 +39,9 @@ class Client:
     def __init__(self, port: int, token: str = ""):
         self.port, self.token, self.session = port, token, ""
 
-    def raw(self, method: str, path: str, body: Optional[bytes] = None, headers: Optional[Dict[str, str]] = None) -> Answer:
+    def raw(
+        self, method: str, path: str, body: Optional[bytes] = None, headers: Optional[Dict[str, str]] = None
+    ) -> Answer:
         """The status of an answer, and its value."""
         connection = http.client.HTTPConnection("127.0.0.1", self.port, timeout=SECONDS)
         with contextlib.closing(connection):
@@ -70,7 +72,15 @@ class Client:
 @contextlib.contextmanager
 def served(*words: str, python: Optional[List[str]] = None, folder: str = "examples") -> Iterator[Client]:
     """A client of a server that is started, and ended at the end."""
-    command = [*(python or [sys.executable]), os.path.join(TOP, "tools", "serve"), "--port", "0", "--folder", folder, *words]
+    command = [
+        *(python or [sys.executable]),
+        os.path.join(TOP, "tools", "serve"),
+        "--port",
+        "0",
+        "--folder",
+        folder,
+        *words,
+    ]
     started = subprocess.Popen(command, stdout=subprocess.PIPE, stderr=subprocess.PIPE, cwd=TOP)
     try:
         assert started.stdout is not None
@@ -109,8 +119,9 @@ def by_selenium() -> str:
         raise Skipped(SELENIUM)
     with served() as client, tempfile.TemporaryDirectory() as folder:
         picture = os.path.join(folder, "a.png")
-        ended = subprocess.run([*DEBIAN, TAP, str(client.port), picture], stdout=subprocess.PIPE, stderr=subprocess.PIPE,
-                               timeout=SECONDS)
+        ended = subprocess.run(
+            [*DEBIAN, TAP, str(client.port), picture], stdout=subprocess.PIPE, stderr=subprocess.PIPE, timeout=SECONDS
+        )
         if ended.returncode:
             return ended.stderr.decode()[-900:]
         with open(picture, "rb") as file, open(os.path.join(TOP, "examples", "card.png"), "rb") as wanted:
@@ -127,11 +138,17 @@ PATHS: Dict[str, List[str]] = {
     "//android.widget.LinearLayout/android.widget.TextView[2]": ["v6", "v11"],
     "//android.widget.ScrollView//android.widget.TextView": ["v5", "v6", "v7", "v8"],
     "//android.widget.LinearLayout//*[@resource-id]//android.widget.TextView[1]": ["v5", "v10"],
-    "//hierarchy": [], "//nothing": [],
+    "//hierarchy": [],
+    "//nothing": [],
 }
 # what needs lxml, and what is no XPath at all
-MORE = {"//*[contains(@text, 'drawn')]": ["v8"], "(//*[@clickable='true'])[last()]": ["v11"], "//*[3]": ["v7", "v9"],
-        "//*[@text='Next']/..": ["v9"], "//*[@text='Back' or @text='Next']": ["v10", "v11"]}
+MORE = {
+    "//*[contains(@text, 'drawn')]": ["v8"],
+    "(//*[@clickable='true'])[last()]": ["v11"],
+    "//*[3]": ["v7", "v9"],
+    "//*[@text='Next']/..": ["v9"],
+    "//*[@text='Back' or @text='Next']": ["v10", "v11"],
+}
 WRONG = ("//*[", "count(//*)", "//@text", "", "$x", "//*[re:test(@text, 'x')]", "/" * 3, "x" * 5000)
 
 
@@ -143,7 +160,9 @@ def finds_by_xpath(python: List[str], has_all: bool) -> str:
         pairs: List[Tuple[object, object]] = [(client.find("xpath", it), found) for it, found in PATHS.items()]
         pairs += [(client.find("xpath", it), found if has_all else ["invalid selector"]) for it, found in MORE.items()]
         pairs += [(client.find("xpath", it), ["invalid selector"]) for it in WRONG]
-        pairs += [(client.find("xpath", it, "v9"), ["v10", "v11"]) for it in (".//*", "./*", "*", "android.widget.TextView")]
+        pairs += [
+            (client.find("xpath", it, "v9"), ["v10", "v11"]) for it in (".//*", "./*", "*", "android.widget.TextView")
+        ]
         pairs += [(client.find("xpath", "//android.widget.ScrollView", "v9"), ["v3"])]
     return unlike(pairs)
 
@@ -153,29 +172,61 @@ def finds_by_others() -> str:
         client.begin(**{"appium:app": "inbox.apk", "vindaesk:layout": "inbox", "platformName": "Android"})
         reply = client.find("id", "reply")
         pairs: List[Tuple[object, object]] = [(len(reply), 1)]
-        pairs += [(client.find(*it), reply) for it in (
-            ("id", "vindaesk.inbox:id/reply"), ("css selector", "#reply"), ("css selector", '[id="reply"]'),
-            ("link text", "Reply"), ("partial link text", "epl"), ("xpath", "//*[@resource-id='vindaesk.inbox:id/reply']"),
-            ("-android uiautomator", 'new UiSelector().text("Reply").className("android.widget.TextView");'),
-            ("-android uiautomator", 'new UiSelector().className("android.widget.LinearLayout").childSelector('
-             'new UiSelector().resourceId("vindaesk.inbox:id/reply").clickable(true))'))]
+        pairs += [
+            (client.find(*it), reply)
+            for it in (
+                ("id", "vindaesk.inbox:id/reply"),
+                ("css selector", "#reply"),
+                ("css selector", '[id="reply"]'),
+                ("link text", "Reply"),
+                ("partial link text", "epl"),
+                ("xpath", "//*[@resource-id='vindaesk.inbox:id/reply']"),
+                ("-android uiautomator", 'new UiSelector().text("Reply").className("android.widget.TextView");'),
+                (
+                    "-android uiautomator",
+                    'new UiSelector().className("android.widget.LinearLayout").childSelector('
+                    'new UiSelector().resourceId("vindaesk.inbox:id/reply").clickable(true))',
+                ),
+            )
+        ]
         texts = client.find("class name", "TextView")
-        pairs += [(client.find(*it), texts) for it in (
-            ("class name", "android.widget.TextView"), ("tag name", "TextView"), ("css selector", ".android\\.widget\\.TextView"))]
-        pairs += [(client.find("-android uiautomator", 'new UiSelector().className("android.widget.TextView").instance(1)'),
-                   texts[1:2])]
-        pairs += [(client.find(*it), ["invalid selector"]) for it in (
-            ("css selector", "a > b"), ("accessibility id", "x"), ("-android uiautomator", "new UiSelector().fly(true)"),
-            ("-android uiautomator", "new UiSelector().text("), ("-android uiautomator", "drop()"),
-            ("-android uiautomator", "new UiSelector().childSelector(" * 99))]
+        pairs += [
+            (client.find(*it), texts)
+            for it in (
+                ("class name", "android.widget.TextView"),
+                ("tag name", "TextView"),
+                ("css selector", ".android\\.widget\\.TextView"),
+            )
+        ]
+        pairs += [
+            (
+                client.find(
+                    "-android uiautomator", 'new UiSelector().className("android.widget.TextView").instance(1)'
+                ),
+                texts[1:2],
+            )
+        ]
+        pairs += [
+            (client.find(*it), ["invalid selector"])
+            for it in (
+                ("css selector", "a > b"),
+                ("accessibility id", "x"),
+                ("-android uiautomator", "new UiSelector().fly(true)"),
+                ("-android uiautomator", "new UiSelector().text("),
+                ("-android uiautomator", "drop()"),
+                ("-android uiautomator", "new UiSelector().childSelector(" * 99),
+            )
+        ]
         pairs += [(client.find("smell", "x"), ["invalid argument"]), (client.find("id", ""), [])]
     return unlike(pairs)
 
 
 def touches() -> str:
     """Clicks, and actions of two pointers, as the example of docs/TOUCH.md has them."""
-    lines = ("window 100 20\nadd root LinearLayout match match\nadd v1 View 50 match\nadd v1 View 50 match\nanswer v2 yes\n"
-             "answer v3 click\nframe")
+    lines = (
+        "window 100 20\nadd root LinearLayout match match\nadd v1 View 50 match\nadd v1 View 50 match\nanswer v2 yes\n"
+        "answer v3 click\nframe"
+    )
     with served() as client:
         client.begin(vindaesk__lines=lines)
 
@@ -185,7 +236,9 @@ def touches() -> str:
 
         pause: Dict[str, object] = {"type": "pause", "duration": 50000}
         up: Dict[str, object] = {"type": "pointerUp", "button": 0}
-        made: List[object] = [client.ask("POST", "/actions", actions=[finger("a", 10, pause, up), finger("b", 60, pause, pause, up)])]
+        made: List[object] = [
+            client.ask("POST", "/actions", actions=[finger("a", 10, pause, up), finger("b", 60, pause, pause, up)])
+        ]
         made.append(client.ask("POST", "/execute/sync", script="mobile: touches", args=[]))
         made.append(client.ask("POST", "/actions", actions=[finger("a", 10)]))
         made.append(client.ask("DELETE", "/actions"))
@@ -197,34 +250,76 @@ def touches() -> str:
         made.append(client.ask("POST", "/execute/sync", script="mobile: touches", args=[])[-2:])
         client.ask("POST", "/execute/sync", script="mobile: script", args=[{"script": "window 30 20\nframe"}])
         made.append(client.ask("POST", "/element/v3/click")["error"])
-        made += [client.ask("POST", "/actions", actions=it)["error"] for it in (
-            [finger("a", 10), finger("a", 10)], [{"type": "pointer", "id": "a", "actions": [{"type": "fly"}]}], 3,
-            [{"type": "key", "id": "k", "actions": [{"type": "keyDown", "value": "x"}]}],
-            [finger("a", 10, {"type": "pointerMove", "x": 0, "y": 0, "origin": {KEY: "v99"}})],
-            [{"type": "pointer", "id": "p%d" % it, "actions": [{"type": "pointerDown"}]} for it in range(33)])]
-    wanted = [None, ["v1 ask DOWN 0:10,5 no", "v2 touch DOWN 0:10,5 yes", "done yes",
-                     "v1 ask POINTER_DOWN(1) 0:10,5 1:60,5 no", "v3 touch DOWN 1:10,5 yes", "v2 touch MOVE 0:10,5 yes",
-                     "done yes", "v1 ask POINTER_UP(0) 0:10,5 1:60,5 no", "v3 touch MOVE 1:10,5 yes",
-                     "v2 touch UP 0:10,5 yes", "done yes", "v1 ask UP 1:60,5 no", "v3 touch UP 1:10,5 yes", "v3 click",
-                     "done yes"],
-              None, None, ["v2 touch UP 0:10,5 yes", "done yes"], ["done yes"] * 3, None, ["v3 click", "done yes"],
-              "element not interactable", "invalid argument", "invalid argument", "invalid argument", "unsupported operation",
-              "no such element", "invalid argument"]
+        made += [
+            client.ask("POST", "/actions", actions=it)["error"]
+            for it in (
+                [finger("a", 10), finger("a", 10)],
+                [{"type": "pointer", "id": "a", "actions": [{"type": "fly"}]}],
+                3,
+                [{"type": "key", "id": "k", "actions": [{"type": "keyDown", "value": "x"}]}],
+                [finger("a", 10, {"type": "pointerMove", "x": 0, "y": 0, "origin": {KEY: "v99"}})],
+                [{"type": "pointer", "id": "p%d" % it, "actions": [{"type": "pointerDown"}]} for it in range(33)],
+            )
+        ]
+    wanted = [
+        None,
+        [
+            "v1 ask DOWN 0:10,5 no",
+            "v2 touch DOWN 0:10,5 yes",
+            "done yes",
+            "v1 ask POINTER_DOWN(1) 0:10,5 1:60,5 no",
+            "v3 touch DOWN 1:10,5 yes",
+            "v2 touch MOVE 0:10,5 yes",
+            "done yes",
+            "v1 ask POINTER_UP(0) 0:10,5 1:60,5 no",
+            "v3 touch MOVE 1:10,5 yes",
+            "v2 touch UP 0:10,5 yes",
+            "done yes",
+            "v1 ask UP 1:60,5 no",
+            "v3 touch UP 1:10,5 yes",
+            "v3 click",
+            "done yes",
+        ],
+        None,
+        None,
+        ["v2 touch UP 0:10,5 yes", "done yes"],
+        ["done yes"] * 3,
+        None,
+        ["v3 click", "done yes"],
+        "element not interactable",
+        "invalid argument",
+        "invalid argument",
+        "invalid argument",
+        "unsupported operation",
+        "no such element",
+        "invalid argument",
+    ]
     return unlike(list(zip(made, wanted)))
 
 
 def clicks_that_others_take() -> str:
-    lines = ("window 50 50\nadd root FrameLayout match match\nadd v1 LinearLayout 20 20\nanswer v2 click\n"
-             "add v2 TextView match match\ntext v3 a\nframe")
+    lines = (
+        "window 50 50\nadd root FrameLayout match match\nadd v1 LinearLayout 20 20\nanswer v2 click\n"
+        "add v2 TextView match match\ntext v3 a\nframe"
+    )
     with served() as client:
         client.begin(vindaesk__lines=lines)
         # what is around a text takes the tap
         first = client.ask("POST", "/element/v3/click")
-        client.ask("POST", "/execute/sync", script="mobile: script",
-                   args=[{"script": "add v1 View 50 50\nanswer v4 yes\nframe"}])
+        client.ask(
+            "POST",
+            "/execute/sync",
+            script="mobile: script",
+            args=[{"script": "add v1 View 50 50\nanswer v4 yes\nframe"}],
+        )
         second = client.ask("POST", "/element/v3/click")
-        return unlike([(first, None), (second["error"], "element click intercepted"),
-                       (second["message"], "the tap on v3, at 10 10, was taken by v4")])
+        return unlike(
+            [
+                (first, None),
+                (second["error"], "element click intercepted"),
+                (second["message"], "the tap on v3, at 10 10, was taken by v4"),
+            ]
+        )
 
 
 def answers_as_webdriver() -> str:
@@ -235,27 +330,51 @@ def answers_as_webdriver() -> str:
         rows: List[Tuple[object, object]] = [
             (begun["capabilities"]["vindaesk:ignored"], ["appium:deviceName"]),
             (client.ask("GET", "/window/rect"), {"x": 0, "y": 0, "width": 320, "height": 240}),
-            (client.ask("GET", "/timeouts")["implicit"], 0), (client.ask("POST", "/timeouts", implicit=5), None),
-            (client.ask("GET", "/timeouts")["implicit"], 5), (client.ask("GET", "/element/v6/text"), "Reply"),
+            (client.ask("GET", "/timeouts")["implicit"], 0),
+            (client.ask("POST", "/timeouts", implicit=5), None),
+            (client.ask("GET", "/timeouts")["implicit"], 5),
+            (client.ask("GET", "/element/v6/text"), "Reply"),
             (client.ask("GET", "/element/v6/rect"), {"x": 164, "y": 176, "width": 140, "height": 48}),
             (client.ask("GET", "/element/v6/attribute/resource-id"), "@7f080002"),
-            (client.ask("GET", "/element/v6/attribute/nothing"), None), (client.ask("GET", "/element/v6/displayed"), True),
-            (client.ask("GET", "/source").startswith("<?xml version='1.0' encoding='UTF-8' standalone='yes' ?><hierarchy "), True),
+            (client.ask("GET", "/element/v6/attribute/nothing"), None),
+            (client.ask("GET", "/element/v6/displayed"), True),
+            (
+                client.ask("GET", "/source").startswith(
+                    "<?xml version='1.0' encoding='UTF-8' standalone='yes' ?><hierarchy "
+                ),
+                True,
+            ),
             (base64.b64decode(client.ask("GET", "/element/v6/screenshot"))[:8], b"\x89PNG\r\n\x1a\n"),
             (client.ask("POST", "/window/rect", width=400, height=300), {"x": 0, "y": 0, "width": 400, "height": 300}),
-            (client.ask("POST", "/execute/sync", script="mobile: line", args=[{"line": "bounds v1"}]), ["v1 0 0 400 300"]),
+            (
+                client.ask("POST", "/execute/sync", script="mobile: line", args=[{"line": "bounds v1"}]),
+                ["v1 0 0 400 300"],
+            ),
             (client.ask("POST", "/execute/sync", script="mobile: tree", args=[])[5]["text"], "Reply"),
         ]
-        rows += [(error_of(client.raw(method, own + path, body)), wanted) for method, path, body, wanted in (
-            ("POST", "/element", b'{"using": "id", "value": "x"}', (404, "no such element")),
-            ("GET", "/element/v99/text", None, (404, "no such element")), ("GET", "/element/../text", None, (404, "no such element")),
-            ("POST", "/element", b'{"using": "id"}', (400, "invalid argument")), ("POST", "/element", b"[1]", (400, "invalid argument")),
-            ("POST", "/url", b'{"url": "x"}', (500, "unsupported operation")), ("GET", "/alert/text", None, (404, "no such alert")),
-            ("PUT", "/element", b"{}", (501, "unknown method")), ("DELETE", "/element", None, (405, "unknown method")),
-            ("GET", "/nothing", None, (404, "unknown command")),
-            ("POST", "/execute/sync", b'{"script": "return 1", "args": []}', (500, "unsupported operation")),
-            ("POST", "/execute/sync", b'{"script": "mobile: line", "args": [{"line": "frama"}]}', (400, "invalid argument")),
-            ("POST", "/window/rect", b'{"width": 0, "height": 9}', (400, "invalid argument")))]
+        rows += [
+            (error_of(client.raw(method, own + path, body)), wanted)
+            for method, path, body, wanted in (
+                ("POST", "/element", b'{"using": "id", "value": "x"}', (404, "no such element")),
+                ("GET", "/element/v99/text", None, (404, "no such element")),
+                ("GET", "/element/../text", None, (404, "no such element")),
+                ("POST", "/element", b'{"using": "id"}', (400, "invalid argument")),
+                ("POST", "/element", b"[1]", (400, "invalid argument")),
+                ("POST", "/url", b'{"url": "x"}', (500, "unsupported operation")),
+                ("GET", "/alert/text", None, (404, "no such alert")),
+                ("PUT", "/element", b"{}", (501, "unknown method")),
+                ("DELETE", "/element", None, (405, "unknown method")),
+                ("GET", "/nothing", None, (404, "unknown command")),
+                ("POST", "/execute/sync", b'{"script": "return 1", "args": []}', (500, "unsupported operation")),
+                (
+                    "POST",
+                    "/execute/sync",
+                    b'{"script": "mobile: line", "args": [{"line": "frama"}]}',
+                    (400, "invalid argument"),
+                ),
+                ("POST", "/window/rect", b'{"width": 0, "height": 9}', (400, "invalid argument")),
+            )
+        ]
         client.ask("POST", "/execute/sync", script="mobile: line", args=[{"line": "remove v4"}])
         rows.append((client.ask("GET", "/element/v6/text")["error"], "stale element reference"))
         rows.append((client.ask("DELETE", ""), None))
@@ -278,19 +397,29 @@ def refuses_sessions() -> str:
             ({"vindaesk:script": "nothing.script"}, "there is no 'nothing.script' in the server's folder"),
             ({"vindaesk:script": "../README.md"}, "'../README.md' is not below the server's folder"),
             ({"vindaesk:script": "/etc/passwd"}, "'/etc/passwd' is not below the server's folder"),
-            ({"vindaesk:script": "refusals.script"}, "a line is refused"), ({"vindaesk:lines": "ad"}, "a line is refused 31 Syntax: ad"),
-            ({"platformName": "iOS"}, "the platform is Android, and not iOS"), ({"browserName": "chrome"}, "and not chrome"),
-            ({"vindaesk:skript": "x"}, "there is no capability vindaesk:skript"), ({"vindaesk:lines": 3}, "has to be a text"),
-            ({"appium:app": "card.script", "vindaesk:layout": "x"}, "card.script"), ({"appium:app": "x"}, "vindaesk:layout has to"),
-            ({"vindaesk:lines": "include ../README.md"}, "a line is refused"),
+            ({"vindaesk:script": "refusals.script"}, "a line is refused"),
+            ({"vindaesk:lines": "ad"}, "a line is refused 31 Syntax: ad"),
+            ({"platformName": "iOS"}, "the platform is Android, and not iOS"),
+            ({"browserName": "chrome"}, "and not chrome"),
+            ({"vindaesk:skript": "x"}, "there is no capability vindaesk:skript"),
+            ({"vindaesk:lines": 3}, "has to be a text"),
+            ({"appium:app": "card.script", "vindaesk:layout": "x"}, "card.script"),
+            ({"appium:app": "x"}, "vindaesk:layout has to"),
+            ({"vindaesk:lines": "include ../README.md"}, "a line is refused 31 Syntax: include ../README.md"),
         ]
         for capabilities, why in rows:
             found = client.ask("POST", "", capabilities={"alwaysMatch": capabilities})
             made.append((found.get("error"), why in found.get("message", "")) if "error" in found else found)
             wanted.append(("session not created", True))
-        last = [client.begin(vindaesk__lines="")["capabilities"]["platformName"], "sessionId" in Client(client.port).begin(),
-                Client(client.port).begin()["message"], client.raw("GET", "/status")[1]["ready"]]
-    return unlike([*zip(made, wanted), (last, ["Android", True, "there are 2 sessions, as many as this server takes", False])])
+        last = [
+            client.begin(vindaesk__lines="")["capabilities"]["platformName"],
+            "sessionId" in Client(client.port).begin(),
+            Client(client.port).begin()["message"],
+            client.raw("GET", "/status")[1]["ready"],
+        ]
+    return unlike(
+        [*zip(made, wanted), (last, ["Android", True, "there are 2 sessions, as many as this server takes", False])]
+    )
 
 
 def sent(port: int, text: bytes, seconds: float = SECONDS) -> bytes:
@@ -314,32 +443,80 @@ def survives_hostile_requests() -> str:
     with served() as client:
         client.begin(vindaesk__script="card.script")
         own = "/session" + client.session
-        made = [error_of(client.raw("POST", own + "/element", body)) for body in (
-            b"{", b"\xff\xfe", b'{"using": 3, "value": []}', b"[" * 100000, b'{"a":' * 100000, b"null", b"1e999", b'"x"')]
-        made += [error_of(client.raw(method, path)) for method, path in (
-            ("GET", "/session/" + "a/" * 5000), ("GET", "/session/%00/source"), ("GET", "/" + "x" * 60000), ("GET", "//"),
-            ("DELETE", "/session"), ("GET", own + "/element/" + "v9" * 9000 + "/text"))]
-        made += [error_of(client.raw("GET", "/status", headers=headers)) for headers in (
-            {"Origin": "http://example.com"}, {"Host": "example.com"}, {"Host": "localhost.example.com"})]
-        statuses = [sent(client.port, text).split(b" ")[1:2] for text in (
-            b"nonsense\r\n\r\n", b"GET /status HTTP/9.9\r\n\r\n", b"POST /session HTTP/1.1\r\nContent-Length: -1\r\n\r\n",
-            b"POST /session HTTP/1.1\r\nContent-Length: 99999999999999999999\r\n\r\n",
-            b"POST /session HTTP/1.1\r\nContent-Length: 17000000\r\n\r\n",
-            b"POST /session HTTP/1.1\r\nTransfer-Encoding: chunked\r\n\r\n", b"GET /%s HTTP/1.1\r\n\r\n" % (b"x" * 70000),
-            b"GET /status HTTP/1.1\r\n" + b"A: b\r\n" * 200 + b"\r\n")]
+        made = [
+            error_of(client.raw("POST", own + "/element", body))
+            for body in (
+                b"{",
+                b"\xff\xfe",
+                b'{"using": 3, "value": []}',
+                b"[" * 100000,
+                b'{"a":' * 100000,
+                b"null",
+                b"1e999",
+                b'"x"',
+            )
+        ]
+        made += [
+            error_of(client.raw(method, path))
+            for method, path in (
+                ("GET", "/session/" + "a/" * 5000),
+                ("GET", "/session/%00/source"),
+                ("GET", "/" + "x" * 60000),
+                ("GET", "//"),
+                ("DELETE", "/session"),
+                ("GET", own + "/element/" + "v9" * 9000 + "/text"),
+            )
+        ]
+        made += [
+            error_of(client.raw("GET", "/status", headers=headers))
+            for headers in (
+                {"Origin": "http://example.com"},
+                {"Host": "example.com"},
+                {"Host": "localhost.example.com"},
+            )
+        ]
+        statuses = [
+            sent(client.port, text).split(b" ")[1:2]
+            for text in (
+                b"nonsense\r\n\r\n",
+                b"GET /status HTTP/9.9\r\n\r\n",
+                b"POST /session HTTP/1.1\r\nContent-Length: -1\r\n\r\n",
+                b"POST /session HTTP/1.1\r\nContent-Length: 99999999999999999999\r\n\r\n",
+                b"POST /session HTTP/1.1\r\nContent-Length: 17000000\r\n\r\n",
+                b"POST /session HTTP/1.1\r\nTransfer-Encoding: chunked\r\n\r\n",
+                b"GET /%s HTTP/1.1\r\n\r\n" % (b"x" * 70000),
+                b"GET /status HTTP/1.1\r\n" + b"A: b\r\n" * 200 + b"\r\n",
+            )
+        ]
         after = client.ask("GET", "/element/v6/text")
     bad, gone = (400, "invalid argument"), (404, "invalid session id")
-    wanted = [bad] * 8 + [gone, gone, (404, "unknown command"), (404, "unknown command"), (404, "unknown command"),
-                          (404, "no such element"), (403, "forbidden"), (403, "forbidden"), (403, "forbidden")]
-    return unlike([*zip(made, wanted), (statuses, [[it] for it in (
-        b"400", b"505", b"400", b"413", b"413", b"411", b"414", b"431")]), (after, "Reply")])
+    wanted = [bad] * 8 + [
+        gone,
+        gone,
+        (404, "unknown command"),
+        (404, "unknown command"),
+        (404, "unknown command"),
+        (404, "no such element"),
+        (403, "forbidden"),
+        (403, "forbidden"),
+        (403, "forbidden"),
+    ]
+    return unlike(
+        [
+            *zip(made, wanted),
+            (statuses, [[it] for it in (b"400", b"505", b"400", b"413", b"413", b"411", b"414", b"431")]),
+            (after, "Reply"),
+        ]
+    )
 
 
 def ends_what_takes_too_long() -> str:
     """An expression that takes for ever, and clients that send a byte now and then."""
     bomb = "//*" + "[count(.//*[count(.//*[count(.//*[count(.//*[count(//*//*//*) > 0]) > 0]) > 0]) > 0]) > 0]"
     deep = "//*" * 12
-    lines = ["window 9 9", "add root FrameLayout match match"] + ["add v%d FrameLayout match match" % it for it in range(1, 32)]
+    lines = ["window 9 9", "add root FrameLayout match match"] + [
+        "add v%d FrameLayout match match" % it for it in range(1, 32)
+    ]
     lines += ["add v31 View match match"] * 300
     has_all = os.path.exists(LXML)
     with served(python=DEBIAN if has_all else PLAIN) as client:
@@ -354,7 +531,7 @@ def ends_what_takes_too_long() -> str:
 
 
 def limits_connections() -> str:
-    """Clients that begin requests and do not go on; one more is answered by an error, and by more once they are gone."""
+    """Clients that begin requests and do not go on; one more is answered by an error, until they are gone."""
     with served() as client:
         with contextlib.ExitStack() as open_ones:
             for _ in range(70):
@@ -397,10 +574,20 @@ def asks_for_a_token() -> str:
     with served("--host", "0.0.0.0") as client:
         token = client.token
         basic = base64.b64encode(b"any:" + token.encode()).decode()
-        wrong: List[Dict[str, str]] = [{}, {"Authorization": "Bearer x"}, {"Authorization": "Basic eA=="}, {"Authorization": "Basic ?"}]
+        wrong: List[Dict[str, str]] = [
+            {},
+            {"Authorization": "Bearer x"},
+            {"Authorization": "Basic eA=="},
+            {"Authorization": "Basic ?"},
+        ]
         made = [error_of(client.raw("GET", "/status", headers=headers)) for headers in wrong]
-        good = [client.raw("GET", "/status", headers=headers)[0] for headers in (
-            {"Authorization": "Bearer " + token}, {"Authorization": "Basic " + basic, "Host": "example.com"})]
+        good = [
+            client.raw("GET", "/status", headers=headers)[0]
+            for headers in (
+                {"Authorization": "Bearer " + token},
+                {"Authorization": "Basic " + basic, "Host": "example.com"},
+            )
+        ]
     return unlike([(made, [(401, "unauthorized")] * 4), (good, [200, 200]), (len(token) >= 32, True)])
 
 
@@ -417,8 +604,13 @@ def refuses_calls() -> str:
             ("--host", "256.0.0.1", "--port", "0"): "serve: 256.0.0.1:0 cannot be listened on: ",
         }
         for words, wanted in calls.items():
-            ended = subprocess.run([sys.executable, os.path.join(TOP, "tools", "serve"), *words], stdout=subprocess.PIPE,
-                                   stderr=subprocess.PIPE, cwd=TOP, timeout=SECONDS)
+            ended = subprocess.run(
+                [sys.executable, os.path.join(TOP, "tools", "serve"), *words],
+                stdout=subprocess.PIPE,
+                stderr=subprocess.PIPE,
+                cwd=TOP,
+                timeout=SECONDS,
+            )
             said = ended.stderr.decode()
             if ended.returncode != 2 or not said.startswith(wanted) or said.count("\n") != 1 or ended.stdout:
                 return "%s: status %d, %r" % (" ".join(words), ended.returncode, said)
@@ -428,7 +620,10 @@ def refuses_calls() -> str:
 def ends_sessions_whose_program_fails() -> str:
     """One that answers some lines and then nothing, and one that ends."""
     kept, found = dict(os.environ), []
-    for act in ("read a; read b; echo 'line 2: refused 31 Syntax'; exec sleep 60", "read a; read b; echo 'line 2: refused 31 Syntax'"):
+    for act in (
+        "read a; read b; echo 'line 2: refused 31 Syntax'; exec sleep 60",
+        "read a; read b; echo 'line 2: refused 31 Syntax'",
+    ):
         with place() as it:
             os.environ.update(it.stand_in(act))
             try:
@@ -439,8 +634,19 @@ def ends_sessions_whose_program_fails() -> str:
             finally:
                 os.environ.clear()
                 os.environ.update(kept)
-    return unlike([(found, [("timeout", "the program gave no answer within 1 seconds to: bounds"), True,
-                            ("unknown error", "the program ended before its input did"), True])])
+    return unlike(
+        [
+            (
+                found,
+                [
+                    ("timeout", "the program gave no answer within 1 seconds to: bounds"),
+                    True,
+                    ("unknown error", "the program ended before its input did"),
+                    True,
+                ],
+            )
+        ]
+    )
 
 
 def ends_sessions_that_are_not_used() -> str:
@@ -454,7 +660,22 @@ def ends_sessions_that_are_not_used() -> str:
 def checks() -> Checks:
     yield "the server: finds by XPath with lxml", partial(finds_by_xpath, DEBIAN, True)
     yield "the server: finds by XPath without lxml", partial(finds_by_xpath, PLAIN, False)
-    yield from named("the server", (
-        by_selenium, finds_by_others, touches, clicks_that_others_take, answers_as_webdriver, refuses_sessions,
-        survives_hostile_requests, ends_what_takes_too_long, limits_connections, drops_slow_clients, asks_for_a_token,
-        ends_sessions_that_are_not_used, ends_sessions_whose_program_fails, refuses_calls))
+    yield from named(
+        "the server",
+        (
+            by_selenium,
+            finds_by_others,
+            touches,
+            clicks_that_others_take,
+            answers_as_webdriver,
+            refuses_sessions,
+            survives_hostile_requests,
+            ends_what_takes_too_long,
+            limits_connections,
+            drops_slow_clients,
+            asks_for_a_token,
+            ends_sessions_that_are_not_used,
+            ends_sessions_whose_program_fails,
+            refuses_calls,
+        ),
+    )

@@ -1,5 +1,5 @@
-"""Sessions: what is found, gestures that fail midway, time limits, scripts of what was done, programs that take over, stacks
-of windows and walks of the focus."""
+"""Sessions: what is found, gestures that fail midway, time limits, scripts of what was done, programs that take over,
+stacks of windows and walks of the focus."""
 import contextlib
 import os
 import random
@@ -49,8 +49,10 @@ def test_find() -> None:
         s.set("v4", "visible", "gone")
         s.frame()
         assert s.find_all(text="Reply") == []
-        for text, why in (("Reply", "text 'Reply'; one that is not seen has"),
-                          ("Meeting moved to Frida", "; did you mean 'Meeting moved to Friday'?")):
+        for text, why in (
+            ("Reply", "text 'Reply'; one that is not seen has"),
+            ("Meeting moved to Frida", "; did you mean 'Meeting moved to Friday'?"),
+        ):
             try:
                 s.find(text=text)
             except NotFound as missing:
@@ -67,8 +69,10 @@ def test_taps() -> None:
 
 def test_overlay() -> None:
     with Session() as s:
-        s.script("window 50 50\nadd root FrameLayout match match\nadd v1 View 20 20\nanswer v2 click\nadd v1 View 50 50\n"
-                 "answer v3 yes\nframe")
+        s.script(
+            "window 50 50\nadd root FrameLayout match match\nadd v1 View 20 20\nanswer v2 click\nadd v1 View 50 50\n"
+            "answer v3 yes\nframe"
+        )
         try:
             s.tap("v2", check=True)
         except OtherView as other:
@@ -139,7 +143,11 @@ def test_record() -> None:
         with open(path, "rb") as file:
             written, status = run([PROGRAM, "run"], file.read(), folder)
         # besides the replies of the session's own questions
-        assert status == 0 and [it for it in written.decode().splitlines() if it in replies] and "page.xml" in os.listdir(folder)
+        assert (
+            status == 0
+            and [it for it in written.decode().splitlines() if it in replies]
+            and "page.xml" in os.listdir(folder)
+        )
         rest = iter(written.decode().splitlines())
         assert all(it in rest for it in replies)
         with open(path, encoding="utf-8") as text:
@@ -171,35 +179,78 @@ def test_full() -> None:
 # programs that take over
 
 KINDS = ("View", "TextView", "FrameLayout", "LinearLayout", "RelativeLayout", "ScrollView")
-EDITS = ("size {v} {n} {n}", "min {v} {n} {n}", "margins {v} {n} {n} {n} {n}", "padding {v} {n} {n} {n} {n}", "text {v} {n} a",
-         "gravity {v} self right|bottom", "gravity {v} kids center", "gravity {v} self left", "orient {v} vertical",
-         "direction {v} rtl", "weight {v} {n}", "weightsum {v} {n}", "bg {v} #ff0000{h}", "ink {v} #ff00{h}00",
-         "flag {v} clip no", "flag {v} split no", "flag {v} fill yes", "rule {v} below @{i}", "rule {v} right_of @{i}",
-         "rule {v} parent_right yes", "scroll {v} {n}", "visible {v} gone", "visible {v} visible", "visible {v} invisible",
-         "id {v} @{i}", "answer {v} click", "intercept {v} move", "disallow {v} yes", "res @7f00000{i} color #ff00ff{h}",
-         "hook {v} size {w} {n} {n}", "hook {v} bg {w} #ffff00{h}", "save", "restore", "remove {v}")
+EDITS = (
+    "size {v} {n} {n}",
+    "min {v} {n} {n}",
+    "margins {v} {n} {n} {n} {n}",
+    "padding {v} {n} {n} {n} {n}",
+    "text {v} {n} a",
+    "gravity {v} self right|bottom",
+    "gravity {v} kids center",
+    "gravity {v} self left",
+    "orient {v} vertical",
+    "direction {v} rtl",
+    "weight {v} {n}",
+    "weightsum {v} {n}",
+    "bg {v} #ff0000{h}",
+    "ink {v} #ff00{h}00",
+    "flag {v} clip no",
+    "flag {v} split no",
+    "flag {v} fill yes",
+    "rule {v} below @{i}",
+    "rule {v} right_of @{i}",
+    "rule {v} parent_right yes",
+    "scroll {v} {n}",
+    "visible {v} gone",
+    "visible {v} visible",
+    "visible {v} invisible",
+    "id {v} @{i}",
+    "answer {v} click",
+    "intercept {v} move",
+    "disallow {v} yes",
+    "res @7f00000{i} color #ff00ff{h}",
+    "hook {v} size {w} {n} {n}",
+    "hook {v} bg {w} #ffff00{h}",
+    "save",
+    "restore",
+    "remove {v}",
+)
 
 
 # why no program takes over where the lines that it gets are right
-KNOWN = ("", "a pointer is down, a hook is armed, or lines came after the last frame",
-         "it is not known what the hooks that fired have set")
+KNOWN = (
+    "",
+    "a pointer is down, a hook is armed, or lines came after the last frame",
+    "it is not known what the hooks that fired have set",
+)
 
 
 def random_line(draw: random.Random, most: int) -> str:
     """A line about some of the first views, which may be refused."""
     if draw.random() < 0.3:
         around = "root" if draw.random() < 0.1 else "v%d" % draw.randint(1, most)
-        return "add %s %s %s %s" % (around, draw.choice(KINDS), draw.choice(("match", "wrap", "20")), draw.choice(("30", "wrap")))
+        return "add %s %s %s %s" % (
+            around,
+            draw.choice(KINDS),
+            draw.choice(("match", "wrap", "20")),
+            draw.choice(("30", "wrap")),
+        )
     if draw.random() < 0.15:
         return draw.choice(("down 0 {x} {y}", "move 0 {x} {y}", "up 0", "cancel")).format(
-            x=draw.randint(0, 99), y=draw.randint(0, 99))
+            x=draw.randint(0, 99), y=draw.randint(0, 99)
+        )
     if draw.random() < 0.05:
         return "inflate page.xml into v%d" % draw.randint(1, most)
     form = draw.choice(EDITS)
     if form.startswith(("remove", "hook")) and draw.random() < 0.7:
         form = "bg {v} #ff0000{h}"
-    return form.format(v="v%d" % draw.randint(1, most), w="v%d" % draw.randint(1, most), n=draw.randint(0, 40),
-                       h="%02x" % draw.randint(0, 255), i=draw.randint(1, 5))
+    return form.format(
+        v="v%d" % draw.randint(1, most),
+        w="v%d" % draw.randint(1, most),
+        n=draw.randint(0, 40),
+        h="%02x" % draw.randint(0, 255),
+        i=draw.randint(1, 5),
+    )
 
 
 def answer(s: Session, line: str) -> object:
@@ -211,8 +262,8 @@ def answer(s: Session, line: str) -> object:
 
 
 def test_takes_over() -> None:
-    """Two sessions of the same random lines, in one of which a new program takes over wherever it can: each answer is the
-    same, so are all bounds and the picture."""
+    """Two sessions of the same random lines, in one of which a new program takes over wherever it can: each answer is
+    the same, so are all bounds and the picture."""
     taken = 0
     for seed in range(20):
         draw = random.Random(seed)
@@ -233,10 +284,12 @@ def test_takes_over() -> None:
 
 def test_takes_over_with_several_of_a_kind() -> None:
     with Session() as s:
-        s.script("window 100 100\nadd root RelativeLayout match match\nadd v1 View 20 20\nid v2 @1\nadd v1 View 10 10\n"
-                 "rule v3 below @1\nrule v3 right_of @1\nadd v1 LinearLayout 60 60\ngravity v4 kids center\n"
-                 "rule v4 parent_right yes\nrule v4 parent_bottom yes\nadd v4 View 80 5\nanswer v5 click\nbg v5 #ff0000ff\n"
-                 "gravity v4 self left\nflag v4 clip no\npadding v4 9 9 9 9\nflag v4 split no\nintercept v4 move\nframe")
+        s.script(
+            "window 100 100\nadd root RelativeLayout match match\nadd v1 View 20 20\nid v2 @1\nadd v1 View 10 10\n"
+            "rule v3 below @1\nrule v3 right_of @1\nadd v1 LinearLayout 60 60\ngravity v4 kids center\n"
+            "rule v4 parent_right yes\nrule v4 parent_bottom yes\nadd v4 View 80 5\nanswer v5 click\nbg v5 #ff0000ff\n"
+            "gravity v4 self left\nflag v4 clip no\npadding v4 9 9 9 9\nflag v4 split no\nintercept v4 move\nframe"
+        )
         ways = [s.down(0, 70, 70), s.move(0, 71, 70), s.cancel()]
         s.frame()
         assert s.renew() == ""
@@ -247,8 +300,10 @@ def test_takes_over_by_itself() -> None:
     with Session() as s:
         s._channel.limit = 20000
         s._due = 20000 // 16
-        s.script("window 50 40\nadd root ScrollView match match\nadd v1 LinearLayout match wrap\norient v2 vertical\n"
-                 "add v2 View match 100\nanswer v3 click\nid v1 @1\nframe")
+        s.script(
+            "window 50 40\nadd root ScrollView match match\nadd v1 LinearLayout match wrap\norient v2 vertical\n"
+            "add v2 View match 100\nanswer v3 click\nid v1 @1\nframe"
+        )
         s.save()
         for number in range(1500):
             s.drag("v3", 0, -3 if number % 2 else 3)
@@ -272,6 +327,7 @@ def test_says_why_none_takes_over() -> None:
 
 
 # stacks and the focus
+
 
 def dialog(stack: Stack) -> None:
     """Opens the app and the dialog of the example."""

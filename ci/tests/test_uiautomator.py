@@ -1,5 +1,5 @@
-"""The XML of `uiautomator dump`: the attributes and their order as AccessibilityNodeInfoDumper of Android writes them, and of
-each view what a session says of it."""
+"""The XML of `uiautomator dump`: the attributes and their order as AccessibilityNodeInfoDumper of Android writes them,
+and of each view what a session says of it."""
 import os
 import re
 import subprocess
@@ -11,8 +11,25 @@ from running import TOP
 from vindaesk.session import Node, Session
 
 # frameworks/uiautomator and frameworks/base/cmds/uiautomator: AccessibilityNodeInfoDumper.dumpNodeRec
-ORDER = ["index", "text", "resource-id", "class", "package", "content-desc", "checkable", "checked", "clickable", "enabled",
-         "focusable", "focused", "scrollable", "long-clickable", "password", "selected", "bounds"]
+ORDER = [
+    "index",
+    "text",
+    "resource-id",
+    "class",
+    "package",
+    "content-desc",
+    "checkable",
+    "checked",
+    "clickable",
+    "enabled",
+    "focusable",
+    "focused",
+    "scrollable",
+    "long-clickable",
+    "password",
+    "selected",
+    "bounds",
+]
 EXAMPLES = os.path.join(TOP, "examples")
 BOUNDS = re.compile(r"\[(-?\d+),(-?\d+)\]\[(-?\d+),(-?\d+)\]")
 
@@ -21,7 +38,9 @@ def dumped(script: str) -> ElementTree.Element:
     """The document that `tools/tree --uiautomator` writes of a script in examples/."""
     tool = [sys.executable, os.path.join(TOP, "tools", "tree"), "-", "--uiautomator"]
     written = subprocess.run(tool, input=script.encode(), stdout=subprocess.PIPE, cwd=EXAMPLES, check=True).stdout
-    assert written.startswith(b"<?xml version='1.0' encoding='UTF-8' standalone='yes' ?><hierarchy rotation=\"0\"><node ")
+    assert written.startswith(
+        b"<?xml version='1.0' encoding='UTF-8' standalone='yes' ?><hierarchy rotation=\"0\"><node "
+    )
     return ElementTree.fromstring(written)
 
 
@@ -69,15 +88,23 @@ def test_examples() -> None:
 
 
 def test_what_is_not_seen() -> None:
-    lines = ("window 100 100\nadd root FrameLayout match match\nadd v1 View 20 20\nvisible v2 invisible\nadd v1 LinearLayout 50 50\n"
-             "add v3 View 80 10\nadd v3 View 5 5\nmargins v3 90 0 0 0\nadd v1 FrameLayout 30 30\nvisible v6 gone\nadd v6 View 9 9\n"
-             "add v1 View 0 0\nadd v1 TextView 20 20\nmargins v9 -10 0 0 0\ntext v9 a\\n\"<&>\u2028\nid v9 @7f08000A\nanswer v9 click\n"
-             "add v1 View 9 9\nmargins v10 200 0 0 0\nframe\n")
+    lines = (
+        "window 100 100\nadd root FrameLayout match match\nadd v1 View 20 20\nvisible v2 invisible\n"
+        "add v1 LinearLayout 50 50\nadd v3 View 80 10\nadd v3 View 5 5\nmargins v3 90 0 0 0\nadd v1 FrameLayout 30 30\n"
+        "visible v6 gone\nadd v6 View 9 9\n"
+        "add v1 View 0 0\nadd v1 TextView 20 20\nmargins v9 -10 0 0 0\ntext v9 a\\n\"<&>\u2028\nid v9 @7f08000A\n"
+        "answer v9 click\n"
+        "add v1 View 9 9\nmargins v10 200 0 0 0\nframe\n"
+    )
     compare(lines)
     rows = [(it.get("class"), it.get("index"), it.get("bounds")) for _, it in nodes(dumped(lines))]
     # indices count the visible children, those of which nothing is seen too
-    assert rows == [("android.widget.FrameLayout", "0", "[0,0][100,100]"), ("android.widget.LinearLayout", "0", "[90,0][100,50]"),
-                    ("android.view.View", "0", "[90,0][100,10]"), ("android.widget.TextView", "2", "[0,0][10,20]")], rows
+    assert rows == [
+        ("android.widget.FrameLayout", "0", "[0,0][100,100]"),
+        ("android.widget.LinearLayout", "0", "[90,0][100,50]"),
+        ("android.view.View", "0", "[90,0][100,10]"),
+        ("android.widget.TextView", "2", "[0,0][10,20]"),
+    ], rows
 
 
 def test_texts() -> None:
@@ -93,7 +120,8 @@ def test_names() -> None:
     tool = [sys.executable, os.path.join(TOP, "tools", "tree"), "-", "--uiautomator"]
     lines = "window 9 9\nadd root View match match\nid v1 %s\nframe\n"
     for name, wanted_name in (("@id/reply", "vindaesk.inbox:id/reply"), ("@android:id/text1", "android:id/text1")):
-        written = subprocess.run(tool, input=(lines % name).encode(), stdout=subprocess.PIPE, check=True,
-                                 cwd=os.path.join(EXAMPLES, "inbox")).stdout
+        written = subprocess.run(
+            tool, input=(lines % name).encode(), stdout=subprocess.PIPE, check=True, cwd=os.path.join(EXAMPLES, "inbox")
+        ).stdout
         node = ElementTree.fromstring(written)[0]
         assert (node.get("resource-id"), node.get("package")) == (wanted_name, "vindaesk.inbox")

@@ -27,16 +27,37 @@ LEAST_TOKEN = 16
 def reader() -> argparse.ArgumentParser:
     """The arguments."""
     found = arguments.parser(__doc__)
-    found.add_argument("--port", metavar="N", type=arguments.count(0, 65535), default=PORT,
-                       help="the port, %d without it; 0 for a free one" % PORT)
-    found.add_argument("--host", metavar="ADDRESS", default=LOOPBACK[0], help="the address, %s without it" % LOOPBACK[0])
-    found.add_argument("--folder", metavar="DIR", default=".", help="where scripts and apps are; the current folder without it")
+    found.add_argument(
+        "--port",
+        metavar="N",
+        type=arguments.count(0, 65535),
+        default=PORT,
+        help="the port, %d without it; 0 for a free one" % PORT,
+    )
+    found.add_argument(
+        "--host", metavar="ADDRESS", default=LOOPBACK[0], help="the address, %s without it" % LOOPBACK[0]
+    )
+    found.add_argument(
+        "--folder", metavar="DIR", default=".", help="where scripts and apps are; the current folder without it"
+    )
     found.add_argument("--token", metavar="FILE", help="the file of a token, of %d characters at least" % LEAST_TOKEN)
-    found.add_argument("--sessions", metavar="N", type=arguments.count(1, 1000), default=16, help="sessions at once; 16")
-    found.add_argument("--idle", metavar="S", type=arguments.count(1, 1000000), default=3600,
-                       help="seconds without a request after which a session ends; 3600")
-    found.add_argument("--seconds", metavar="S", type=arguments.count(1, 100000), default=SECONDS,
-                       help="seconds that one answer of the program may take; %d" % SECONDS)
+    found.add_argument(
+        "--sessions", metavar="N", type=arguments.count(1, 1000), default=16, help="sessions at once; 16"
+    )
+    found.add_argument(
+        "--idle",
+        metavar="S",
+        type=arguments.count(1, 1000000),
+        default=3600,
+        help="seconds without a request after which a session ends; 3600",
+    )
+    found.add_argument(
+        "--seconds",
+        metavar="S",
+        type=arguments.count(1, 100000),
+        default=SECONDS,
+        help="seconds that one answer of the program may take; %d" % SECONDS,
+    )
     return found
 
 
@@ -67,8 +88,10 @@ def main(words: Optional[Sequence[str]] = None) -> int:
         raise Failure("%s:%d cannot be listened on: %s" % (given.host, given.port, error.strerror or error), NOT_RUN)
     try:
         host = "[%s]" % given.host if ":" in given.host else given.host
-        print("http://%s%s:%d" % ("any:%s@" % token if token and not given.token else "", host, server.server_address[1]),
-              flush=True)
+        print(
+            "http://%s%s:%d" % ("any:%s@" % token if token and not given.token else "", host, server.server_address[1]),
+            flush=True,
+        )
         server.serve_forever()
     finally:
         server.server_close()

@@ -1,1 +1,1 @@
-"""A server of the WebDriver protocol, by which Selenium and Appium's clients drive sessions. docs/SERVE.md has what it takes."""
+"""A server of WebDriver, by which Selenium and Appium's clients drive sessions. docs/SERVE.md has what it takes."""

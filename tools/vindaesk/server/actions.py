@@ -1,7 +1,7 @@
 """Actions of several pointers, tick by tick, as WebDriver has them, made events of touch.
 
-The rules of touch know no time. A move that lasts is one event for each 16 ms, as a screen of 60 Hz gives them; a pause is
-none. All of a request is read before its first event."""
+The rules of touch know no time. A move that lasts is one event for each 16 ms, as a screen of 60 Hz gives them; a pause
+is none. All of a request is read before its first event."""
 import math
 from dataclasses import dataclass, field
 from typing import Any, Callable, Dict, List, Tuple
@@ -33,8 +33,8 @@ class Action:
 
 @dataclass
 class Pointers:
-    """The pointers of a session: the number of each that is down and the place of each by its id, and those that are down, in
-    order."""
+    """The pointers of a session: the number of each that is down and the place of each by its id, and those that are
+    down, in order."""
 
     numbers: Dict[str, int] = field(default_factory=dict)
     places: Dict[str, Point] = field(default_factory=dict)
@@ -71,7 +71,9 @@ def sources_of(body: Any) -> Dict[str, List[Action]]:
             raise Problem("invalid argument", "each of 'actions' has an 'id' of its own and a 'type'")
         records = it.get("actions")
         if not isinstance(records, list) or len(records) > MOST_TICKS:
-            raise Problem("invalid argument", "the actions of '%s' have to be a list of at most %d" % (name, MOST_TICKS))
+            raise Problem(
+                "invalid argument", "the actions of '%s' have to be a list of at most %d" % (name, MOST_TICKS)
+            )
         found[name] = [action_of(record, kind == "pointer") for record in records]
         if kind != "pointer":
             found[name] = []

@@ -4,7 +4,10 @@ import os
 from dataclasses import dataclass
 from typing import TYPE_CHECKING, Any, Dict, List
 
+from ..common import files
 from ..common.failures import Failure
+from ..program.statuses import MAX_SCRIPT
+from ..scripts import script
 from ..session import LineRefused, Session
 from .errors import Problem
 
@@ -13,12 +16,29 @@ if TYPE_CHECKING:
 
 OWN = "vindaesk:"
 # capabilities that are read; those of `appium:` that have no effect are listed as `vindaesk:ignored`
-TEXTS = ("vindaesk:script", "vindaesk:lines", "appium:app", "vindaesk:layout", "vindaesk:config", "vindaesk:theme",
-         "appium:language", "appium:locale", "appium:orientation")
+TEXTS = (
+    "vindaesk:script",
+    "vindaesk:lines",
+    "appium:app",
+    "vindaesk:layout",
+    "vindaesk:config",
+    "vindaesk:theme",
+    "appium:language",
+    "appium:locale",
+    "appium:orientation",
+)
 ORIENTATIONS = ("PORTRAIT", "LANDSCAPE")
 BROWSERS = ("", "vindaesk")
-DROPPED = ("pageLoadStrategy", "acceptInsecureCerts", "unhandledPromptBehavior", "strictFileInteractability", "timeouts",
-           "setWindowRect", "proxy", "webSocketUrl")
+DROPPED = (
+    "pageLoadStrategy",
+    "acceptInsecureCerts",
+    "unhandledPromptBehavior",
+    "strictFileInteractability",
+    "timeouts",
+    "setWindowRect",
+    "proxy",
+    "webSocketUrl",
+)
 MOST_CHOICES = 16
 
 
@@ -73,7 +93,11 @@ def unfit(wanted: Dict[str, Any]) -> str:
         return "appium:orientation is PORTRAIT or LANDSCAPE"
     if sum(it in wanted for it in ("vindaesk:script", "vindaesk:lines", "appium:app")) > 1:
         return "vindaesk:script, vindaesk:lines and appium:app are three ways to begin: take one"
-    return "vindaesk:layout has to name a layout of the app" if "appium:app" in wanted and "vindaesk:layout" not in wanted else ""
+    return (
+        "vindaesk:layout has to name a layout of the app"
+        if "appium:app" in wanted and "vindaesk:layout" not in wanted
+        else ""
+    )
 
 
 def chosen(body: Any) -> Dict[str, Any]:
@@ -89,8 +113,13 @@ def returned(wanted: Dict[str, Any], session: Session) -> Dict[str, Any]:
     """What a client gets to know of a session."""
     known = {key: value for key, value in wanted.items() if key in TEXTS or key == "vindaesk:night"}
     known.pop("vindaesk:lines", None)
-    found: Dict[str, Any] = {"platformName": "Android", "browserName": "vindaesk", "appium:automationName": "vindaesk",
-                             "setWindowRect": True, **known}
+    found: Dict[str, Any] = {
+        "platformName": "Android",
+        "browserName": "vindaesk",
+        "appium:automationName": "vindaesk",
+        "setWindowRect": True,
+        **known,
+    }
     ignored = sorted(it for it in wanted if it not in known and (":" in it or it in DROPPED) and it not in TEXTS)
     if ignored:
         found["vindaesk:ignored"] = ignored
@@ -115,14 +144,19 @@ def opened(wanted: Dict[str, Any], place: Place, closing: contextlib.ExitStack) 
 
 def of_script(wanted: Dict[str, Any], place: Place, closing: contextlib.ExitStack) -> Session:
     """A session after the lines of a script, or an empty one."""
-    path, text = "", wanted.get("vindaesk:lines", "")
-    if "vindaesk:script" in wanted:
-        path = place.inside(wanted["vindaesk:script"], "vindaesk:script")
-        with open(path, encoding="utf-8", errors="surrogateescape") as file:
-            text = file.read()
+    path = place.inside(wanted["vindaesk:script"], "vindaesk:script") if "vindaesk:script" in wanted else ""
     made = closing.enter_context(Session(os.path.dirname(path) or place.folder, seconds=place.seconds))
-    made.script(text)
+    if path:
+        made.script(files.read(path, MAX_SCRIPT).decode("utf-8", "surrogateescape"))
+    else:
+        lines_of(made, wanted.get("vindaesk:lines", ""))
     return made
+
+
+def lines_of(session: Session, text: str) -> List[str]:
+    """Carries out lines of a client, in which nothing is included: that would show it files of others."""
+    lines = script.lines_in(text.encode("utf-8", "surrogateescape"))
+    return [reply for it in lines for reply in session.line(it.decode("utf-8", "surrogateescape"))]
 
 
 def of_app(wanted: Dict[str, Any], place: Place) -> "contextlib.AbstractContextManager[AppSession]":
@@ -132,7 +166,12 @@ def of_app(wanted: Dict[str, Any], place: Place) -> "contextlib.AbstractContextM
 
     locale = "-".join(filter(None, (wanted.get("appium:language", ""), wanted.get("appium:locale", ""))))
     return app(
-        place.inside(wanted["appium:app"], "appium:app"), wanted["vindaesk:layout"], locale=locale,
-        night=wanted.get("vindaesk:night", False), land=wanted.get("appium:orientation") == "LANDSCAPE",
-        config=wanted.get("vindaesk:config", ""), theme=wanted.get("vindaesk:theme", ""), seconds=place.seconds
+        place.inside(wanted["appium:app"], "appium:app"),
+        wanted["vindaesk:layout"],
+        locale=locale,
+        night=wanted.get("vindaesk:night", False),
+        land=wanted.get("appium:orientation") == "LANDSCAPE",
+        config=wanted.get("vindaesk:config", ""),
+        theme=wanted.get("vindaesk:theme", ""),
+        seconds=place.seconds,
     )

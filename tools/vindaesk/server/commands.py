@@ -1,23 +1,14 @@
 """The commands of WebDriver that the server takes: each with its method, its path, and what carries it out."""
-import json
 import re
-from typing import Any, Callable, Dict, List, NamedTuple, Optional, Tuple
+from typing import Any, Callable, Dict, List, NamedTuple, Tuple
 
 from ..session import LineRefused
-from ..views import placement
+from . import elements, mobile
 from .errors import Problem, number_in, text_in
-from .screen import KEY, Screen
+from .screen import Screen
 
 HANDLE = "window"
 MOST_SIDE = 4096
-# the scripts by which Selenium asks what other clients ask by paths; their first words have been these for years
-IS_DISPLAYED, GET_ATTRIBUTE = "/* isDisplayed */", "/* getAttribute */"
-TRUTHS = ("checkable", "checked", "clickable", "enabled", "focusable", "focused", "scrollable", "long-clickable", "password",
-          "selected")
-# other names of attributes, as Appium's clients ask for them
-ALIASES = {"className": "class", "resourceId": "resource-id", "contentDescription": "content-desc", "name": "resource-id",
-           "id": "resource-id", "value": "text", "longClickable": "long-clickable"}
-
 Act = Callable[..., Any]
 
 
@@ -29,97 +20,29 @@ class Command(NamedTuple):
     act: Act
 
 
-def find(screen: Screen, body: Any, inside: Optional[str] = None) -> Any:
-    using, value = text_in(body, "using"), text_in(body, "value")
-    found = screen.found(using, value, inside)
-    if not found:
-        raise Problem("no such element", "no element that is seen has %s %s; the frame has settled, so waiting changes nothing"
-                      % (using, json.dumps(value[:200], ensure_ascii=False)))
-    return found[0]
-
-
-def find_all(screen: Screen, body: Any, inside: Optional[str] = None) -> Any:
-    return screen.found(text_in(body, "using"), text_in(body, "value"), inside)
-
-
-def find_below(screen: Screen, body: Any, element: str) -> Any:
-    return find(screen, body, element)
-
-
-def find_all_below(screen: Screen, body: Any, element: str) -> Any:
-    return find_all(screen, body, element)
-
-
-def text(screen: Screen, body: Any, element: str) -> str:
-    return screen.node(element).text or ""
-
-
-def name(screen: Screen, body: Any, element: str) -> str:
-    return screen.element(element).tag
-
-
-def attribute(screen: Screen, body: Any, element: str, key: str) -> Optional[str]:
-    node = screen.node(element)
-    if key == "displayed":
-        return "true" if node.seen else "false"
-    found: Optional[str] = screen.element(element).get(ALIASES.get(key, key))
-    return found
-
-
-def plain_attribute(screen: Screen, body: Any, element: str, key: str) -> Optional[str]:
-    """As `attribute`, except that one that is false is None, as WebDriver has it."""
-    found = attribute(screen, body, element, key)
-    return None if key in TRUTHS and found == "false" else found
-
-
-def rect_of(box: Tuple[int, int, int, int]) -> Dict[str, int]:
-    return {"x": box[0], "y": box[1], "width": box[2] - box[0], "height": box[3] - box[1]}
-
-
-def rect(screen: Screen, body: Any, element: str) -> Dict[str, int]:
-    return rect_of(screen.box(element))
-
-
-def displayed(screen: Screen, body: Any, element: str) -> bool:
-    return screen.node(element).seen is not None
-
-
-def enabled(screen: Screen, body: Any, element: str) -> bool:
-    screen.node(element)
-    return True
-
-
-def selected(screen: Screen, body: Any, element: str) -> bool:
-    screen.node(element)
-    return False
-
-
-def click(screen: Screen, body: Any, element: str) -> None:
-    screen.click(element)
-
-
-def element_picture(screen: Screen, body: Any, element: str) -> str:
-    return screen.picture(screen.box(element))
-
-
 def picture(screen: Screen, body: Any) -> str:
+    """The picture of the last frame."""
     return screen.picture()
 
 
 def source(screen: Screen, body: Any) -> str:
+    """What is seen, as Appium's page source."""
     return screen.tree().source
 
 
 def actions(screen: Screen, body: Any) -> None:
+    """Carries out actions of pointers."""
     screen.perform(body)
 
 
 def release(screen: Screen, body: Any) -> None:
+    """Lifts all pointers."""
     screen.release()
 
 
 def window_rect(screen: Screen, body: Any) -> Dict[str, int]:
-    return rect_of((0, 0, *(screen.session.window_size or (0, 0))))
+    """The size of the window."""
+    return elements.rect_of((0, 0, *(screen.session.window_size or (0, 0))))
 
 
 def set_window_rect(screen: Screen, body: Any) -> Dict[str, int]:
@@ -133,19 +56,23 @@ def set_window_rect(screen: Screen, body: Any) -> Dict[str, int]:
 
 
 def handle(screen: Screen, body: Any) -> str:
+    """The name of the only window."""
     return HANDLE
 
 
 def handles(screen: Screen, body: Any) -> List[str]:
+    """The names of all windows."""
     return [HANDLE]
 
 
 def switch(screen: Screen, body: Any) -> None:
+    """Switches to the window where one is already."""
     if text_in(body, "handle") != HANDLE:
         raise Problem("no such window", "the only window is '%s'" % HANDLE)
 
 
 def timeouts(screen: Screen, body: Any) -> Dict[str, Any]:
+    """The timeouts."""
     return screen.timeouts
 
 
@@ -162,50 +89,9 @@ def set_timeouts(screen: Screen, body: Any) -> None:
 
 
 def capabilities(screen: Screen, body: Any) -> Dict[str, Any]:
+    """What the session has."""
     return screen.capabilities
 
-
-def execute(screen: Screen, body: Any) -> Any:
-    """`mobile: NAME`, and the two scripts by which Selenium asks of an element."""
-    script = text_in(body, "script")
-    given = body.get("args")
-    if not isinstance(given, list):
-        raise Problem("invalid argument", "'args' has to be a list")
-    element = given[0].get(KEY) if given and isinstance(given[0], dict) else None
-    if script.startswith(IS_DISPLAYED) and isinstance(element, str):
-        return displayed(screen, None, element)
-    if script.startswith(GET_ATTRIBUTE) and isinstance(element, str) and len(given) > 1 and isinstance(given[1], str):
-        return plain_attribute(screen, None, element, given[1])
-    if script not in MOBILE:
-        known = ", ".join(MOBILE)
-        raise Problem("unsupported operation", "no scripts are run; there are %s" % known)
-    return MOBILE[script](screen, given[0] if given and isinstance(given[0], dict) else {})
-
-
-def mobile_line(screen: Screen, given: Any) -> List[str]:
-    return screen.session.line(text_in(given, "line"))
-
-
-def mobile_script(screen: Screen, given: Any) -> List[str]:
-    return screen.session.script(text_in(given, "script", 16 << 20))
-
-
-def mobile_touches(screen: Screen, given: Any) -> List[str]:
-    return screen.way
-
-
-def mobile_tree(screen: Screen, given: Any) -> Any:
-    return [placement.record(it) for it in screen.session.placed()]
-
-
-def mobile_journal(screen: Screen, given: Any) -> str:
-    return screen.session.journal
-
-
-MOBILE: Dict[str, Callable[[Screen, Any], Any]] = {
-    "mobile: line": mobile_line, "mobile: script": mobile_script, "mobile: touches": mobile_touches,
-    "mobile: tree": mobile_tree, "mobile: journal": mobile_journal,
-}
 
 E = "/element/{element}"
 COMMANDS = (
@@ -217,35 +103,38 @@ COMMANDS = (
     Command("GET", "/window/handles", handles),
     Command("GET", "/window/rect", window_rect),
     Command("POST", "/window/rect", set_window_rect),
-    Command("POST", "/element", find),
-    Command("POST", "/elements", find_all),
-    Command("POST", E + "/element", find_below),
-    Command("POST", E + "/elements", find_all_below),
-    Command("GET", E + "/text", text),
-    Command("GET", E + "/name", name),
-    Command("GET", E + "/attribute/{key}", attribute),
-    Command("GET", E + "/property/{key}", plain_attribute),
-    Command("GET", E + "/rect", rect),
-    Command("GET", E + "/displayed", displayed),
-    Command("GET", E + "/enabled", enabled),
-    Command("GET", E + "/selected", selected),
-    Command("GET", E + "/screenshot", element_picture),
-    Command("POST", E + "/click", click),
+    Command("POST", "/element", elements.find),
+    Command("POST", "/elements", elements.find_all),
+    Command("POST", E + "/element", elements.find_below),
+    Command("POST", E + "/elements", elements.find_all_below),
+    Command("GET", E + "/text", elements.text),
+    Command("GET", E + "/name", elements.name),
+    Command("GET", E + "/attribute/{key}", elements.attribute),
+    Command("GET", E + "/property/{key}", elements.plain_attribute),
+    Command("GET", E + "/rect", elements.rect),
+    Command("GET", E + "/displayed", elements.displayed),
+    Command("GET", E + "/enabled", elements.enabled),
+    Command("GET", E + "/selected", elements.selected),
+    Command("GET", E + "/screenshot", elements.element_picture),
+    Command("POST", E + "/click", elements.click),
     Command("POST", "/actions", actions),
     Command("DELETE", "/actions", release),
     Command("GET", "/source", source),
     Command("GET", "/screenshot", picture),
-    Command("POST", "/execute/sync", execute),
+    Command("POST", "/execute/sync", mobile.execute),
 )
 # commands of WebDriver that have no meaning for a tree of views: their methods and paths
 UNSUPPORTED = re.compile(
     r"/(url|back|forward|refresh|title|frame|frame/parent|cookie.*|print|window/(new|maximize|minimize|fullscreen)|"
-    r"execute/async|element/active|element/[^/]+/(clear|value|css/.*|computedrole|computedlabel|shadow)|shadow/.*)")
+    r"execute/async|element/active|element/[^/]+/(clear|value|css/.*|computedrole|computedlabel|shadow)|shadow/.*)"
+)
 
 
 def pattern(path: str) -> "re.Pattern[str]":
     """A form of paths, in which {NAME} is any part."""
-    return re.compile("".join("([^/]+)" if it.startswith("{") else re.escape(it) for it in re.split(r"(\{\w+\})", path)))
+    return re.compile(
+        "".join("([^/]+)" if it.startswith("{") else re.escape(it) for it in re.split(r"(\{\w+\})", path))
+    )
 
 
 PATTERNS = [(it, pattern(it.path)) for it in COMMANDS]

@@ -2,12 +2,27 @@
 
 # https://www.w3.org/TR/webdriver2/#errors; the last two are those of HTTP alone
 STATUSES = {
-    "element click intercepted": 400, "element not interactable": 400, "invalid argument": 400,
-    "invalid element state": 400, "invalid selector": 400, "invalid session id": 404, "javascript error": 500,
-    "move target out of bounds": 500, "no such element": 404, "no such window": 404, "no such alert": 404,
-    "session not created": 500, "stale element reference": 404, "timeout": 500, "unable to capture screen": 500,
-    "unknown command": 404, "unknown error": 500, "unknown method": 405, "unsupported operation": 500,
-    "unauthorized": 401, "forbidden": 403,
+    "element click intercepted": 400,
+    "element not interactable": 400,
+    "invalid argument": 400,
+    "invalid element state": 400,
+    "invalid selector": 400,
+    "invalid session id": 404,
+    "javascript error": 500,
+    "move target out of bounds": 500,
+    "no such element": 404,
+    "no such window": 404,
+    "no such alert": 404,
+    "session not created": 500,
+    "stale element reference": 404,
+    "timeout": 500,
+    "unable to capture screen": 500,
+    "unknown command": 404,
+    "unknown error": 500,
+    "unknown method": 405,
+    "unsupported operation": 500,
+    "unauthorized": 401,
+    "forbidden": 403,
 }
 
 

@@ -15,8 +15,8 @@ from .xpath import Finder
 
 @dataclass(frozen=True)
 class Limits:
-    """How many sessions there may be, after how many seconds without a request one ends, how many bytes a request may have,
-    how many seconds it may take to arrive, and how many connections there may be."""
+    """How many sessions there may be, after how many seconds without a request one ends, how many bytes a request may
+    have, how many seconds it may take to arrive, and how many connections there may be."""
 
     sessions: int = 16
     idle: float = 3600.0
@@ -89,7 +89,9 @@ class Keeper:
         """Ends those sessions that were not used for too long."""
         now = time.monotonic()
         with self._lock:
-            old = [name for name, it in self._screens.items() if now - it.used > self.limits.idle and not it.lock.locked()]
+            old = [
+                name for name, it in self._screens.items() if now - it.used > self.limits.idle and not it.lock.locked()
+            ]
         for name in old:
             self.end(name)
 

@@ -29,9 +29,11 @@ class Tree(NamedTuple):
 
 def has_id(value: str) -> Test:
     """Whether an element has this id: all of it, or what follows the last `/`."""
+
     def test(it: Element) -> bool:
         own = it.get("resource-id", "")
         return bool(own) and value in (own, own.rpartition("/")[2], "@" + own.rpartition(":")[2])
+
     return test
 
 
@@ -52,7 +54,9 @@ def css(value: str) -> Test:
     found = CSS_CLASS.fullmatch(value)
     if found:
         return has_class(found[1].replace("\\", ""))
-    raise Problem("invalid selector", "of CSS there are #ID, [id=\"ID\"], CLASS and .CLASS, and no %s" % json.dumps(value))
+    raise Problem(
+        "invalid selector", "of CSS there are #ID, [id=\"ID\"], CLASS and .CLASS, and no %s" % json.dumps(value)
+    )
 
 
 STRATEGIES: Dict[str, Callable[[str], Test]] = {

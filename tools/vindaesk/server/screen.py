@@ -105,8 +105,11 @@ class Screen:
         self.end(way)
         taken_by = way.taken_by
         if taken_by and not self._are_one_in_other(taken_by, reference):
-            raise Problem("element click intercepted", "the tap on %s, at %d %d, was taken by %s" % (
-                reference, (left + right) // 2, (top + bottom) // 2, taken_by))
+            raise Problem(
+                "element click intercepted",
+                "the tap on %s, at %d %d, was taken by %s"
+                % (reference, (left + right) // 2, (top + bottom) // 2, taken_by),
+            )
 
     def _are_one_in_other(self, one: str, other: str) -> bool:
         return other in self._path(one) or one in self._path(other)

@@ -23,7 +23,10 @@ TEXTS: Dict[str, Callable[[str], Test]] = {
     "description": lambda value: lambda it: it.get("content-desc") == value,
 }
 TRUTHS = {
-    **{name: name for name in ("checkable", "checked", "clickable", "enabled", "focusable", "focused", "scrollable", "selected")},
+    **{
+        name: name
+        for name in ("checkable", "checked", "clickable", "enabled", "focusable", "focused", "scrollable", "selected")
+    },
     "longClickable": "long-clickable",
 }
 

@@ -29,7 +29,7 @@ class Finder:
         self._begun = b""
 
     def found(self, source: str, path: str, inside: int = -1) -> List[int]:
-        """The places in document order of the elements that an expression leads to from an element on, or from the root."""
+        """The places in document order of the elements that an expression leads to, from an element or the root on."""
         if len(path) > MOST:
             raise Problem("invalid selector", "an expression has %d characters at most" % MOST)
         with self._lock:

@@ -15,8 +15,10 @@ TEXT = r"""(?:"[^"]*"|'[^']*')"""
 HAS = r"\[\s*@[A-Za-z][\w-]*\s*(?:=\s*%s\s*)?\]" % TEXT
 STEP = r"//?(?:\*(?:%s)*|[A-Za-z_][\w.-]*(?:\[[1-9][0-9]{0,5}\])?(?:%s)*)" % (HAS, HAS)
 SIMPLE = re.compile(r"(?:%s)+" % STEP)
-WITHOUT_LXML = ("this needs all of XPath, for which the server needs lxml (Debian's python3-lxml); without it there are steps "
-                "as //NAME, /NAME, //*, with [N], [@A] and [@A='TEXT']")
+WITHOUT_LXML = (
+    "this needs all of XPath, for which the server needs lxml (Debian's python3-lxml); without it there are steps "
+    "as //NAME, /NAME, //*, with [N], [@A] and [@A='TEXT']"
+)
 
 
 class Plain:

@@ -10,8 +10,24 @@ from .stack import Stack, StackWindow
 if TYPE_CHECKING:
     from .app_session import AppSession, app
 
-__all__ = ["AppSession", "Bounds", "Failure", "Frame", "Inflated", "LineRefused", "NoAnswer", "NoRoom", "Node",
-           "NotFound", "OtherView", "Session", "Stack", "StackWindow", "Way", "app"]
+__all__ = [
+    "AppSession",
+    "Bounds",
+    "Failure",
+    "Frame",
+    "Inflated",
+    "LineRefused",
+    "NoAnswer",
+    "NoRoom",
+    "Node",
+    "NotFound",
+    "OtherView",
+    "Session",
+    "Stack",
+    "StackWindow",
+    "Way",
+    "app",
+]
 
 
 def __getattr__(name: str) -> Any:

@@ -57,10 +57,21 @@ def qualifiers_of(locale: str, night: bool, land: bool, density: int, more: str)
 
 @contextlib.contextmanager
 def app(
-    path: Union[str, Sequence[str]], layout: str, *, locale: str = "", night: bool = False, land: bool = False,
-    density: int = 0, config: str = "", theme: str = "", framework: Optional[str] = None, pixels: bool = False,
-    states: FrozenSet[str] = frozenset(), options: Options = Options(), maps: Tuple[str, ...] = (),
-    seconds: float = SECONDS
+    path: Union[str, Sequence[str]],
+    layout: str,
+    *,
+    locale: str = "",
+    night: bool = False,
+    land: bool = False,
+    density: int = 0,
+    config: str = "",
+    theme: str = "",
+    framework: Optional[str] = None,
+    pixels: bool = False,
+    states: FrozenSet[str] = frozenset(),
+    options: Options = Options(),
+    maps: Tuple[str, ...] = (),
+    seconds: float = SECONDS,
 ) -> Iterator[AppSession]:
     """A session over a layout of an app, for as long as it is used: an APK, several split ones, or a folder.
     `config` has further qualifiers of the device, as `v30`, which come after the others in the order of Android's

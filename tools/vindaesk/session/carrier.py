@@ -34,7 +34,7 @@ class Line(Protocol):
 
 
 class Carrier:
-    """The views after the lines that were carried out. `changes` grows with each line that may have changed something."""
+    """The views after the lines that were carried out. `changes` grows with each line that may have changed one."""
 
     def __init__(self, carries: Line, folder: str, ids: Ids):
         self._carries = carries
@@ -59,8 +59,8 @@ class Carrier:
         return [it.decode() for it in replies]
 
     def script(self, text: str) -> List[str]:
-        """Carries out the lines of a script, and of the files that it includes from the session's folder, and returns all
-        replies; the first line that is refused ends it."""
+        """Carries out the lines of a script, and of the files that it includes from the session's folder, and returns
+        all replies; the first line that is refused ends it."""
         whole = text.encode("utf-8", "surrogateescape")
         lines = script.Includer().lines(os.path.join(self._folder, "(session)"), whole, [])
         return [reply for line in lines for reply in self.line(line.text.decode("utf-8", "surrogateescape"))]

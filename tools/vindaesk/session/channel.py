@@ -32,8 +32,12 @@ class Channel:
         self._ids = ids
         self._seconds = seconds
         self._process = subprocess.Popen(
-            [process.path(), form], stdin=subprocess.PIPE, stdout=subprocess.PIPE, stderr=subprocess.DEVNULL,
-            cwd=folder, bufsize=0
+            [process.path(), form],
+            stdin=subprocess.PIPE,
+            stdout=subprocess.PIPE,
+            stderr=subprocess.DEVNULL,
+            cwd=folder,
+            bufsize=0,
         )
         assert self._process.stdin is not None and self._process.stdout is not None
         self._into, self._out = self._process.stdin.fileno(), self._process.stdout.fileno()
@@ -129,7 +133,11 @@ class Channel:
             raise ValueError("the session is closed")
         if self.sent + len(text) > self.limit:
             why = "the program reads %d bytes and has %d left, and this line takes %d: %s" % (
-                self.limit, self.left, len(text), self.shown(line))
+                self.limit,
+                self.left,
+                len(text),
+                self.shown(line),
+            )
             raise NoRoom("%s; no new program took over, since %s" % (why, self.why_full) if self.why_full else why)
 
     def _give_up(self) -> None:

@@ -11,8 +11,8 @@ PACKAGES = ("android.widget.", "android.view.")
 
 @dataclass(frozen=True)
 class By:
-    """What a view has to be; None where it may be anything. `id` is `@id/send`, `@7f080002` or only `send`; `cls` a class
-    with its package or without; `below` the name of a view around it, as `v3`."""
+    """What a view has to be; None where it may be anything. `id` is `@id/send`, `@7f080002` or only `send`; `cls` a
+    class with its package or without; `below` the name of a view around it, as `v3`."""
 
     text: Optional[str] = None
     text_contains: Optional[str] = None

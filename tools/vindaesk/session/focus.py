@@ -21,8 +21,9 @@ def next_view(copy: bytes, folder: str, side: str, view: str, seconds: float) ->
     written, status = process.ran(["focus", side, view], copy, folder, seconds)
     last = written.rstrip(b"\n").rpartition(b"\n")[2]
     if last.startswith(REFUSED) or not last.startswith(ANSWER):
-        raise Failure("there is no focus: " + last.decode()[len(ANSWER) :]) if last.startswith(REFUSED) else \
-            process.failed(status)
+        raise Failure("there is no focus: " + last.decode()[len(ANSWER) :]) if last.startswith(
+            REFUSED
+        ) else process.failed(status)
     word = last[len(ANSWER) :]
     return None if word == NONE else word.decode()
 

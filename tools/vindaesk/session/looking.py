@@ -37,8 +37,16 @@ class Looking(Carrier):
         lines = self._carried_out(b"bounds", self._carries.until_mark)
         return placement.all_placed(self._views.root, lines)
 
-    def find(self, *, text: Optional[str] = None, text_contains: Optional[str] = None, id: Optional[str] = None,
-             cls: Optional[str] = None, clickable: Optional[bool] = None, below: Optional[Viewed] = None) -> Node:
+    def find(
+        self,
+        *,
+        text: Optional[str] = None,
+        text_contains: Optional[str] = None,
+        id: Optional[str] = None,
+        cls: Optional[str] = None,
+        clickable: Optional[bool] = None,
+        below: Optional[Viewed] = None,
+    ) -> Node:
         """The first view in preorder of which something is seen and that is so; none is a NotFound."""
         by = By(text, text_contains, id, cls, clickable, self._number(below))
         nodes = self.tree()
@@ -47,9 +55,16 @@ class Looking(Carrier):
             raise finding.missing(nodes, by)
         return found[0]
 
-    def find_all(self, *, text: Optional[str] = None, text_contains: Optional[str] = None, id: Optional[str] = None,
-                 cls: Optional[str] = None, clickable: Optional[bool] = None,
-                 below: Optional[Viewed] = None) -> List[Node]:
+    def find_all(
+        self,
+        *,
+        text: Optional[str] = None,
+        text_contains: Optional[str] = None,
+        id: Optional[str] = None,
+        cls: Optional[str] = None,
+        clickable: Optional[bool] = None,
+        below: Optional[Viewed] = None,
+    ) -> List[Node]:
         """All of them in preorder, and none where there are none."""
         return finding.found(self.tree(), By(text, text_contains, id, cls, clickable, self._number(below)))
 
@@ -90,7 +105,9 @@ class Looking(Carrier):
     def picture(self) -> png.Picture:
         """The picture of the last frame."""
         width, height = self.window_size or (1, 1)
-        lines = [row for line in frames.asked(self.window_size) for row in self._carried_out(line, self._carries.until_mark)]
+        lines = [
+            row for line in frames.asked(self.window_size) for row in self._carried_out(line, self._carries.until_mark)
+        ]
         return png.Picture(width, height, [bytes.fromhex(row.decode()) for row in lines])
 
     def screenshot(self, path: str, scale: int = 1) -> None:

@@ -16,7 +16,9 @@ def write(path: str, journal: bytes, folder: str, inflated: Dict[str, bytes]) ->
     for name, digest in inflated.items():
         body = files.read(os.path.join(folder, name))
         if hashlib.sha256(body).digest() != digest:
-            raise Failure("%s has changed since views were made of it, so the script would answer otherwise" % name, NOT_RUN)
+            raise Failure(
+                "%s has changed since views were made of it, so the script would answer otherwise" % name, NOT_RUN
+            )
         place = os.path.join(into, name)
         if not os.path.exists(place):
             copies[place] = body

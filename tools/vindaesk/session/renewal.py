@@ -8,7 +8,7 @@ from .channel import Channel
 from .errors import LineRefused
 from .world import World
 
-# the new program is begun once less than this part of what it reads is left, and may itself have read as much as this part
+# the new program is begun once less than this part of what one reads is left, and may itself read this part for it
 RESERVE, SHARE = 16, 2
 # after how large a part of that it is tried again
 AGAIN = 16

@@ -40,8 +40,8 @@ class Bounds(NamedTuple):
 
 
 class Node(NamedTuple):
-    """A view of `tree`: its name, that of its parent, its depth, 1 for the root, what `tools/tree --json` has, whether it
-    answers touches with a click, and what of it is seen, None where nothing is."""
+    """A view of `tree`: its name, that of its parent, its depth, 1 for the root, what `tools/tree --json` has, whether
+    it answers touches with a click, and what of it is seen, None where nothing is."""
 
     name: str
     parent: Optional[str]
@@ -124,6 +124,18 @@ def node_of(it: Placed, seen: Optional[Box]) -> Node:
     view = it.view
     parent = "v%d" % view.parent.number if view.parent else None
     return Node(
-        "v%d" % view.number, parent, view.depth, view.kind, placement.name_of(view.id), view.text, it.bounds, it.window,
-        it.scroll, view.visibility, view.background, view.id_name, view.answer == "click", seen
+        "v%d" % view.number,
+        parent,
+        view.depth,
+        view.kind,
+        placement.name_of(view.id),
+        view.text,
+        it.bounds,
+        it.window,
+        it.scroll,
+        view.visibility,
+        view.background,
+        view.id_name,
+        view.answer == "click",
+        seen,
     )

@@ -79,7 +79,9 @@ class StackWindow(Editing):
             return None
         others = (it for it in self._stack.windows.values() if it is not self)
         if any(it.corner_of(name) == here for it in others):
-            raise ValueError("%s of two windows is at the same place, so that it is not known which took the tap" % name)
+            raise ValueError(
+                "%s of two windows is at the same place, so that it is not known which took the tap" % name
+            )
         return name
 
     def corner_of(self, name: str) -> Optional[Point]:

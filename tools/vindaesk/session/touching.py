@@ -69,12 +69,13 @@ class Touching(Looking):
         if steps < 1:
             raise ValueError("a drag has one step at least")
         x, y = self.middle(view)
-        return self.gesture([(x + right * step // steps, y + down * step // steps) for step in range(steps + 1)],
-                            first=pointer)
+        return self.gesture(
+            [(x + right * step // steps, y + down * step // steps) for step in range(steps + 1)], first=pointer
+        )
 
     def gesture(self, *paths: Sequence[Point], first: int = 0) -> Way:
-        """One pointer for each path of places in the window, numbered from the first: all go down, they move in turns from
-        place to place, and go up, the last one first."""
+        """One pointer for each path of places in the window, numbered from the first: all go down, they move in turns
+        from place to place, and go up, the last one first."""
         for x, y in (place for path in paths for place in path):
             if max(abs(x), abs(y)) > MAX_PLACE:
                 raise ValueError("a gesture to %d, %d leads out of the places that a pointer may have" % (x, y))

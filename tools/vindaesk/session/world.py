@@ -12,8 +12,12 @@ from .results import escaped
 
 # how many words after the view say what a line sets, besides its first one
 KEYS = {
-    **dict.fromkeys(b"size min margins padding orient direction weight weightsum text bg ink visible id answer intercept"
-                    .split(b" "), 0),
+    **dict.fromkeys(
+        b"size min margins padding orient direction weight weightsum text bg ink visible id answer intercept".split(
+            b" "
+        ),
+        0,
+    ),
     **dict.fromkeys((b"gravity", b"flag", b"rule"), 1),
 }
 # what is over with a gesture, and what the bounds of a frame have

@@ -1,7 +1,7 @@
 """A tree in the XML of `uiautomator dump`, which UI Automator's viewers, Appium's inspectors and crawlers read.
 
-As there, only views of which something is seen have an element, with the part that is seen in `bounds`, and `index` counts
-the visible children of a parent, those off the screen too. Children come in the order in which they are drawn.
+As there, only views of which something is seen have an element, with the part that is seen in `bounds`, and `index`
+counts the visible children of a parent, those off the screen too. Children come in the order in which they are drawn.
 """
 import enum
 import re
@@ -75,10 +75,22 @@ def facts_of(view: View, index: int, box: Box, origin: Origin) -> Dict[str, str]
     """The attributes of a view, in the order of `uiautomator dump`."""
     is_clicked = view.answer == "click"
     found = {
-        "index": str(index), "text": NO_XML.sub(".", view.text or ""), "resource-id": resource_id(view, origin),
-        "class": class_of(view.kind), "package": origin.package, "content-desc": "", "checkable": "", "checked": "",
-        "clickable": truth(is_clicked), "enabled": "true", "focusable": truth(is_clicked), "focused": "",
-        "scrollable": truth(view.kind == "ScrollView"), "long-clickable": "", "password": "", "selected": "",
+        "index": str(index),
+        "text": NO_XML.sub(".", view.text or ""),
+        "resource-id": resource_id(view, origin),
+        "class": class_of(view.kind),
+        "package": origin.package,
+        "content-desc": "",
+        "checkable": "",
+        "checked": "",
+        "clickable": truth(is_clicked),
+        "enabled": "true",
+        "focusable": truth(is_clicked),
+        "focused": "",
+        "scrollable": truth(view.kind == "ScrollView"),
+        "long-clickable": "",
+        "password": "",
+        "selected": "",
         "bounds": shown_box(box),
     }
     found.update(dict.fromkeys(ABSENT, "false"))
