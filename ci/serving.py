@@ -591,6 +591,27 @@ def asks_for_a_token() -> str:
     return unlike([(made, [(401, "unauthorized")] * 4), (good, [200, 200]), (len(token) >= 32, True)])
 
 
+def ends_at_once() -> str:
+    """An interrupt comes while a program gives no answer."""
+    kept = dict(os.environ)
+    with place() as it:
+        act = "read a; read b; echo 'line 2: refused 31 Syntax'; read a; read b; echo v1; echo 'line 4: refused 31 Syntax'; "
+        os.environ.update(it.stand_in(act + "exec sleep 55"))
+        try:
+            with served() as client:
+                # the first answer is that of the frame that a server looks for
+                client.begin(vindaesk__lines="window 9 9")
+                asked = {"target": client.ask, "args": ("GET", "/source"), "daemon": True}
+                threading.Thread(**asked).start()  # type: ignore[arg-type]
+                time.sleep(1)
+                begun = time.monotonic()
+        finally:
+            os.environ.clear()
+            os.environ.update(kept)
+    took = time.monotonic() - begun
+    return "" if took < 20 else "it took %.0f seconds" % took
+
+
 def refuses_calls() -> str:
     """Arguments with which no server begins: one sentence, and status 2."""
     with tempfile.NamedTemporaryFile() as token, socket.create_server(("127.0.0.1", 0)) as taken:
@@ -677,5 +698,6 @@ def checks() -> Checks:
             ends_sessions_that_are_not_used,
             ends_sessions_whose_program_fails,
             refuses_calls,
+            ends_at_once,
         ),
     )

@@ -1,4 +1,4 @@
-"""What there is to ask of elements: commands of WebDriver over a screen, the body of a request, and parts of its path."""
+"""What there is to ask of elements: commands of WebDriver over a screen, a request's body, and parts of its path."""
 import json
 from typing import Any, Dict, Optional, Tuple
 

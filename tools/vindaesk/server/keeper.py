@@ -96,7 +96,11 @@ class Keeper:
             self.end(name)
 
     def close(self) -> None:
-        """Ends all."""
+        """Ends all, also what is carried out."""
+        self.finder.close()
+        with self._lock:
+            running = [it.session for it in self._screens.values()]
+        for session in running:
+            session.kill()
         for name in self.names():
             self.end(name)
-        self.finder.close()

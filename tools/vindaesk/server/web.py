@@ -188,7 +188,7 @@ class Handler(BaseHTTPRequestHandler):
                 raise Problem("timeout", "the request did not arrive within %g seconds" % seconds, 408)
 
     def _check(self) -> None:
-        """Whether the client may ask. A page of a browser may not: it sends its origin, or another name of the machine."""
+        """Whether the client may ask. A page of a browser may not: it sends an origin or another name."""
         if self.headers.get("Origin") is not None:
             self.close_connection = True
             raise Problem("forbidden", "a page of a browser may not drive this server")

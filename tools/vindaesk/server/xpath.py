@@ -84,6 +84,9 @@ class Finder:
             self._process = None
 
     def close(self) -> None:
-        """Ends the process."""
+        """Ends the process, also while a thread waits for its answer."""
+        started = self._process
+        if started is not None:
+            started.kill()
         with self._lock:
             self._end()

@@ -73,6 +73,10 @@ class Channel:
             self._process.kill()
             self._process.wait()
 
+    def kill(self) -> None:
+        """Ends the program at once. Another thread may do so while one waits for an answer, which is a Failure then."""
+        self._process.kill()
+
     def single(self, line: bytes) -> List[bytes]:
         """Carries out a line that has one reply."""
         text = line + b"\n"

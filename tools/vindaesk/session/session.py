@@ -125,6 +125,10 @@ class Session(Editing):
         """Ends the program; a second call does nothing."""
         self._channel.close()
 
+    def kill(self) -> None:
+        """Ends the program at once. Another thread may do so while one waits for an answer, which is a Failure then."""
+        self._channel.kill()
+
     @property
     def is_open(self) -> bool:
         """Whether the program still takes lines."""
