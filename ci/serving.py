@@ -92,13 +92,13 @@ def served(*words: str, python: Optional[List[str]] = None, folder: str = "examp
         if started.poll() is not None:
             raise AssertionError("the server ended with %d" % started.returncode)
     finally:
-        started.send_signal(signal.SIGINT)
+        started.send_signal(signal.SIGTERM)
         try:
             said = started.communicate(timeout=SECONDS)[1]
         except subprocess.TimeoutExpired:
             started.kill()
             said = started.communicate()[1]
-    if (started.returncode, said) != (130, b"serve: interrupted\n"):
+    if (started.returncode, said) != (143, b"serve: ended by the signal SIGTERM\n"):
         raise AssertionError("status %d, and %r" % (started.returncode, said))
 
 

@@ -97,7 +97,8 @@ class Carrier:
             self.changes += 1
             self._settled()
             return
-        words = script.words_of(line)
+        # one that was carried out and begins so is a question, if no spaces are before it
+        words = [] if line.startswith(QUESTIONS) else script.words_of(line)
         if not words or words[0] in QUESTIONS:
             return
         self.changes += 1

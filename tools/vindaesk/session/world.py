@@ -4,7 +4,7 @@ A view is made by one line, and what was set of it last, and in what order, is a
 a session cannot know of its views, as which of two hooks fired first, is a reason why they cannot be made again. The
 new program is compared with the old one before it takes its place (renewal.py)."""
 from dataclasses import dataclass
-from typing import Dict, Iterator, List, Optional, Tuple
+from typing import Dict, Iterator, List, Optional, Tuple, Union
 
 from ..scripts import script
 from ..views.view_tree import Tree, View
@@ -26,7 +26,8 @@ CHILDLESS = ("View", "TextView")
 # how many more lines than twice the views are kept before those of views that are gone are dropped
 SPARE = 256
 
-Key = Tuple[int, bytes]
+# the number of a view, and the words that say what is set of it
+Key = Tuple[Union[int, bytes], ...]
 # a line with its place in time
 Timed = Tuple[int, bytes]
 
@@ -55,7 +56,7 @@ class World:
         self.window, self.dpi = b"", b""
         self.resources: Dict[bytes, List[Timed]] = {}
         self.made: List[Made] = []
-        self.sets: Dict[Key, Timed] = {}
+        self.sets: Dict[Key, Tuple[int, int, bytes]] = {}
         self.hooks: Dict[int, List[List[bytes]]] = {}
         # the last number of a view, and the time of the last line `inflate`
         self.last = 0
@@ -63,18 +64,20 @@ class World:
         # whether a frame has settled since lines changed something, and no pointer is down and no hook armed
         self.is_at_rest = False
         self.why = ""
-        self._named = b""
+        self._named = 0
 
     def before(self, words: List[bytes], line: bytes, reply: bytes) -> None:
         """A line was carried out that the tree does not know yet: keeps which view it names."""
-        is_about_view = words[0] in KEYS or words[0] in (b"remove", b"hook")
-        self._named = b"v%d" % self.tree.view(words[1]).number if is_about_view else b""
+        if words[0] in KEYS or words[0] in (b"remove", b"hook"):
+            self._named = self.tree.view(words[1]).number
 
     def after(self, words: List[bytes], line: bytes, reply: bytes) -> None:
         """The tree has followed that line."""
-        self.time += 1
         self.is_at_rest = False
         word = words[0]
+        if word in PASSING:
+            return
+        self.time += 1
         if word in KEYS:
             self._set(self._named, words, line)
         elif word in (b"add", b"inflate"):
@@ -91,7 +94,7 @@ class World:
             self._arm(words)
         elif word == b"frame":
             self._fire(int(reply.split(b" ")[1]))
-        elif word not in PASSING and word not in (b"save", b"restore"):
+        elif word not in (b"save", b"restore"):
             self.why = "what the line '%s' made is not known" % word.decode()
 
     def set_text(self, number: int, text: str) -> None:
@@ -101,11 +104,11 @@ class World:
         line = b"text v%d %s%s" % (number, escaped(text).encode(), end)
         if len(line) > script.MAX_LINE:
             self.why = "a saved state gave v%d a text of %d characters, which no line has" % (number, len(text))
-        self._set(b"v%d" % number, [b"text"], line)
+        self._set(number, [b"text"], line)
 
-    def _set(self, name: bytes, words: List[bytes], line: bytes) -> None:
-        key = b" ".join([words[0], *words[2 : 2 + KEYS[words[0]]]])
-        self.sets[int(name[1:]), key] = self.time, renamed(line, name)
+    def _set(self, number: int, words: List[bytes], line: bytes) -> None:
+        key: Key = (number, words[0])
+        self.sets[key + tuple(words[2 : 2 + KEYS[words[0]]])] = self.time, number, line
 
     def _make(self, words: List[bytes], line: bytes, reply: bytes) -> None:
         numbers = [int(it[1:]) for it in reply.split(b" ")[1:3]] if words[0] == b"inflate" else [int(reply[1:])] * 2
@@ -138,7 +141,7 @@ class World:
         edits = [it.split(b" ") for it in b" ".join(words[2:]).split(b" ; ")]
         for it in edits:
             it[1] = b"v%d" % self.tree.view(it[1]).number
-        self.hooks[int(self._named[1:])] = edits
+        self.hooks[self._named] = edits
 
     def _fire(self, count: int) -> None:
         """What hooks set is known where all fired, and no two of them set the same."""
@@ -151,7 +154,7 @@ class World:
         for edit in [it for edits in self.hooks.values() for it in edits]:
             if int(edit[1][1:]) in self.tree.views:
                 self.time += 1
-                self._set(edit[1], edit, b" ".join(edit))
+                self._set(int(edit[1][1:]), edit, b" ".join(edit))
         self.hooks = {}
 
     def _prune(self) -> None:
@@ -177,7 +180,8 @@ class World:
         # those of one time stay in their order
         yield from (line for _, line in sorted(timed, key=lambda it: it[0]))
         yield from fillers(live, self.made[-1].last + 1 if self.made else 1, self.last)
-        yield from (line for _, line in sorted(self.sets.values(), key=lambda it: it[0]))
+        for _, number, line in sorted(self.sets.values()):
+            yield renamed(line, b"v%d" % number)
         yield from (b"scroll v%d %d" % it for it in offsets.items())
 
     def _makings(self, live: List[View]) -> Iterator[List[bytes]]:
