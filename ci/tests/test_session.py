@@ -10,6 +10,7 @@ from typing import Iterator, List, Optional, Tuple
 from running import PROGRAM, TOP, run
 from tools import place
 from vindaesk.session import LineRefused, NoAnswer, NoRoom, NotFound, OtherView, Session, Stack, Way
+from vindaesk.session.focus import walk
 
 EXAMPLES = os.path.join(TOP, "examples")
 CARD = os.path.join(EXAMPLES, "card.script")
@@ -406,3 +407,13 @@ def test_focus() -> None:
         s.frame()
         assert s.focus("v2", "right", "right", "right", "down", "up", "left") == walk
         assert len(s._copy()) < 2000
+
+
+def test_focus_has_a_time_limit() -> None:
+    with program("exec sleep 30"):
+        try:
+            walk(b"", TOP, ["up"], "v1", 0.3)
+        except NoAnswer as late:
+            assert str(late).endswith("within 0.3 seconds to: focus up v1")
+        else:
+            raise AssertionError("answered")

@@ -1,10 +1,12 @@
 """Walks of the focus: which view gets it next, by `vindaesk focus` over a copy of what a session did."""
+import subprocess
 from typing import List, Optional, Sequence
 
 from ..common.failures import Failure
 from ..program import calls, process
 from ..scripts import script
 from .carrier import QUESTIONS
+from .errors import NoAnswer
 
 ANSWER, REFUSED = b"focus ", b"focus: refused "
 NONE = b"none"
@@ -18,12 +20,18 @@ def copy_of(journal: bytes) -> bytes:
 
 def next_view(copy: bytes, folder: str, side: str, view: str, seconds: float) -> Optional[str]:
     """The view that gets the focus next from one; None where none does."""
-    written, status = process.ran(["focus", side, view], copy, folder, seconds)
-    last = written.rstrip(b"\n").rpartition(b"\n")[2]
-    if last.startswith(REFUSED) or not last.startswith(ANSWER):
-        raise Failure("there is no focus: " + last.decode()[len(ANSWER) :]) if last.startswith(
-            REFUSED
-        ) else process.failed(status)
+    try:
+        ended = subprocess.run(
+            [process.path(), "focus", side, view], input=copy, stdout=subprocess.PIPE, stderr=subprocess.DEVNULL,
+            cwd=folder, timeout=seconds
+        )
+    except subprocess.TimeoutExpired:
+        raise NoAnswer("focus %s %s" % (side, view), seconds)
+    last = ended.stdout.rstrip(b"\n").rpartition(b"\n")[2]
+    if last.startswith(REFUSED):
+        raise Failure("there is no focus: " + last.decode()[len(ANSWER) :])
+    if not last.startswith(ANSWER):
+        raise process.failed(ended.returncode)
     word = last[len(ANSWER) :]
     return None if word == NONE else word.decode()
 
