@@ -76,7 +76,8 @@ def answer(state: Dict[str, Any], request: Dict[str, Any]) -> Dict[str, Any]:
         state["engine"] = engine(request["source"])
     try:
         return {"found": [it for it in state["engine"].found(request["path"], request["inside"]) if it >= 0]}
-    except (ValueError, SyntaxError, KeyError, RecursionError, MemoryError) as error:
+    except Exception as error:
+        # what a library makes of an expression that it does not take
         return {"error": str(error) or type(error).__name__}
 
 
