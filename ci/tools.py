@@ -351,7 +351,10 @@ def follows_views() -> str:
         whole = json.loads(found[1].decode())
         wanted = {"number": 3, "parent": 2, "depth": 3, "class": "TextView", "id": None, "id_name": None, "text": "é\n\\ z",
                   "bounds": [0, 0, 50, 100], "window": [0, -30, 50, 70], "scroll": None, "visibility": "invisible",
-                  "background": "#00000000"}
+                  "background": "#00000000", "answer": "off", "rules": {},
+                  "given": {"width": "match", "height": "wrap", "min_width": "0 px", "min_height": "100 px"},
+                  "source": {"element": "TextView", "places": [{"file": "standard input", "line": 6, "column": 1}],
+                             "attributes": {}, "added": False, "exact_bounds": True, "exact_picture": True}}
         if (whole["window"], whole["views"][2]) != ([100, 100], wanted):
             return "JSON: %s" % whole
         with open(os.path.join(TOP, "docs", "tree.schema.json")) as file:
@@ -372,12 +375,16 @@ def unfit(value: Any, schema: Any) -> str:
         value in schema.get("enum", [value]), value is None or size >= schema.get("minimum", size),
         not isinstance(value, list) or schema.get("minItems", 0) <= size <= schema.get("maxItems", size),
         not isinstance(value, str) or re.search(schema.get("pattern", ""), value) is not None,
-        not isinstance(value, dict) or set(schema["required"]) == set(schema["properties"]) == set(value),
+        not isinstance(value, dict) or "properties" not in schema
+        or set(schema["required"]) == set(schema["properties"]) == set(value),
+        not isinstance(value, dict) or set(value) <= set(schema.get("propertyNames", {"enum": value})["enum"]),
     ]
     if not all(fits):
         return "%r does not fit %r" % (value, schema)
     inner = [(it, schema["items"]) for it in value] if isinstance(value, list) else []
-    inner += [(value[it], schema["properties"][it]) for it in schema.get("properties", {})]
+    inner += [(value[it], schema["properties"][it]) for it in schema.get("properties", {}) if value is not None]
+    if isinstance(value, dict) and "properties" not in schema:
+        inner += [(it, schema["additionalProperties"]) for it in value.values()]
     return first(unfit(*it) for it in inner)
 
 

@@ -68,6 +68,7 @@ class Screen:
     ids: Dict[int, str] = field(default_factory=dict)
     records: List[Record] = field(default_factory=list)
     why: str = ""
+    resources: Optional[Resources] = None
 
     @property
     def sums(self) -> Sums:
@@ -136,6 +137,7 @@ class OpenApp:
         made = self.shared(request)
         window = window_of(request.device, request.density)
         found = Screen(writer.file_name(name, taken), name, window, request.density, made.theme_name)
+        found.resources = made.resources
         try:
             file = file_of(name, made.resources)
             found.file = file.path

@@ -23,8 +23,8 @@ MAX_ATTRIBUTES = 1024
 class Element:
     """An element. Its attributes have keys as `android:text`, `app:srcCompat`, `tools:text`, or `style` where they
     have no namespace. Lines and columns count from 1; a column is 0 in a compiled file, which has none. Of a source,
-    `bound` are the attributes with a value by data binding, `unbound` those without a default, and the text is kept
-    where it is asked for."""
+    `written` are the texts of its attributes, `bound` those with a value by data binding, `unbound` those without a default,
+    and the text is kept where it is asked for."""
 
     name: str
     line: int
@@ -32,6 +32,7 @@ class Element:
     attributes: Dict[str, Value] = field(default_factory=dict)
     repeated: List[str] = field(default_factory=list)
     children: List["Element"] = field(default_factory=list)
+    written: Dict[str, str] = field(default_factory=dict)
     bound: List[str] = field(default_factory=list)
     unbound: List[str] = field(default_factory=list)
     text: str = ""

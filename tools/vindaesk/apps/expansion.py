@@ -1,13 +1,15 @@
 """The elements of a layout as the views that the inflater makes of them: `include`, `merge`, `ViewStub`, `view`,
 `fragment`, `requestFocus`, `tag`, and the `layout` of data binding are put in place or passed over."""
+import re
 from dataclasses import dataclass, field
-from typing import Dict, List, NamedTuple, Optional, Tuple
+from typing import Dict, FrozenSet, List, NamedTuple, Optional, Tuple
 
 from ..common.failures import WRONG, Failure
 from ..common.messages import printable
 from ..resources.resources import File, Resources
 from ..resources.themes import Theme
 from ..resources.values import Value
+from ..views import facts
 from .app_files import AppFiles
 from .effects import effect_of
 from .element import Element
@@ -48,14 +50,20 @@ class View:
 
 
 class Place(NamedTuple):
-    """Where elements are expanded: the file, the files around it that include it, the theme, the view around, and
-    how deep they are."""
+    """Where elements are expanded: the file, the files around it that include it, the theme, the view around, how deep
+    they are, the elements that include the file, from the innermost, and the rules of lint that are passed over."""
 
     file: File
     chain: Tuple[str, ...]
     theme: Theme
     parent: Optional[View]
     depth: int = 0
+    includes: Tuple[facts.Place, ...] = ()
+    ignored: FrozenSet[str] = frozenset()
+
+    def within(self, element: Element) -> Tuple[facts.Place, ...]:
+        """The elements that include a file which an element names."""
+        return (facts.Place(self.file.path, element.line, element.column), *self.includes)
 
 
 class Options(NamedTuple):
@@ -109,6 +117,7 @@ class Expansion:
             raise Failure("%s: its elements are more than %d deep, with those that it includes" % (self.first, MAX_DEPTH), WRONG)
         keys = (*element.attributes, *element.unbound)
         made = Record(element.name, place.file.path, element.line, element.column, keys)
+        made.written, made.includes, made.ignored = element.written, place.includes, place.ignored
         for key in element.repeated:
             made.leave_out(key, "an attribute of this name came before", Effect.NONE)
         for key in element.bound:
@@ -139,7 +148,7 @@ class Expansion:
 
     def element(self, element: Element, place: Place, given: Dict[str, Value]) -> List[View]:
         """The views of an element."""
-        place = place._replace(depth=place.depth + 1)
+        place = place._replace(depth=place.depth + 1, ignored=place.ignored | ignored_by(element))
         if element.name in WITHOUT_VIEW:
             self.skip(element, place, WITHOUT_VIEW[element.name])
             return []
@@ -173,6 +182,7 @@ class Expansion:
         if self.views > MAX_VIEWS:
             raise Failure("%s: it has more than %d views, with those that it includes" % (self.first, MAX_VIEWS), WRONG)
         attributes = self.merged(element.attributes, given, record)
+        record.given = given
         if self.options.design:
             self.put_design(attributes, record)
         name = element.name
@@ -209,7 +219,7 @@ class Expansion:
                 continue
             record.use(key)
             for _ in range(count):
-                found += self.of_file(place._replace(file=file), {})
+                found += self.of_file(place._replace(file=file, includes=place.within(element)), {})
         return found
 
     def stub(self, element: Element, place: Place) -> List[View]:
@@ -229,7 +239,7 @@ class Expansion:
             elif key not in ("android:layout", "android:theme"):
                 record.no_effect(key, "the layout that takes its place does not have it")
         theme = self.themed(element.attributes, place, record)
-        return self.of_file(place._replace(file=file, theme=theme), given)
+        return self.of_file(place._replace(file=file, theme=theme, includes=place.within(element)), given)
 
     def merged(self, own: Dict[str, Value], given: Dict[str, Value], record: Record) -> Dict[str, Value]:
         """The attributes of an element with those of an `include` over them: where this has a width and a height, no
@@ -273,7 +283,7 @@ class Expansion:
             for key in given:
                 record.no_effect(key, "the layout has a merge as its root, so this does not count")
             given = {}
-        return self.of_file(place._replace(file=file, theme=theme), given)
+        return self.of_file(place._replace(file=file, theme=theme, includes=place.within(element)), given)
 
     @staticmethod
     def overrides(element: Element, record: Record) -> Dict[str, Value]:
@@ -294,3 +304,9 @@ class Expansion:
             elif key not in record.fates and not key.startswith("tools:"):
                 record.no_effect(key, "an include has no such attribute")
         return found
+
+
+def ignored_by(element: Element) -> FrozenSet[str]:
+    """The rules of lint that an element and what is in it are to be passed over by."""
+    value = element.attributes.get("tools:ignore")
+    return frozenset(it for it in re.split("[ ,]+", value.text or "") if it) if value else frozenset()

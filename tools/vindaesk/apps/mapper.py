@@ -73,6 +73,7 @@ class Mapper:
             rule, kind = self.rules["direct"], "FrameLayout"
         view.record.row = row.name
         draft = Draft(view, self.app, row.styles, parent)
+        view.record.values = draft.attributes
         if kind != row.kind:
             draft.place_differently("", "a %s with children: a FrameLayout here" % row.name)
         if why:

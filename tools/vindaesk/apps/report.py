@@ -2,7 +2,11 @@
 became of each of its attributes."""
 from dataclasses import dataclass, field
 from enum import Enum
-from typing import Dict, List, NamedTuple, Optional, Tuple
+from typing import Dict, FrozenSet, List, NamedTuple, Optional, Tuple
+
+from ..resources.values import Value
+from ..views.facts import Place
+from .styles import Attributes
 
 
 class Effect(Enum):
@@ -40,7 +44,9 @@ class Record:
     """The row of an element: its name, its file, and its line and column there, 0 where the file has none; the keys
     of its attributes; the class that it became, its view's number and those of views that were added for it; the row
     of the table by which it was mapped; of a ConstraintLayout the window for which it is
-    solved, in pixels."""
+    solved, in pixels. For lint: the texts of its attributes in a source, what an `include` gives over them, the values that
+    it has by them and by styles, the elements that include its file, from the innermost, and the rules that
+    `tools:ignore` names."""
 
     element: str
     file: str
@@ -56,6 +62,11 @@ class Record:
     fates: Dict[str, Fate] = field(default_factory=dict)
     reasons: Dict[str, str] = field(default_factory=dict)
     notes: List[Note] = field(default_factory=list)
+    written: Dict[str, str] = field(default_factory=dict)
+    given: Dict[str, Value] = field(default_factory=dict)
+    values: Optional[Attributes] = None
+    includes: Tuple[Place, ...] = ()
+    ignored: FrozenSet[str] = frozenset()
 
     def use(self, key: str) -> None:
         """The output has the attribute, or was made by it."""

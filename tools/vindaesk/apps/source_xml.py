@@ -113,6 +113,7 @@ class Reader:
         for name, text in zip(pairs[::2], pairs[1::2]):
             address, _, plain = name.rpartition(BETWEEN)
             key = key_of(address, plain)
+            element.written.setdefault(key, text)
             if self.keeps_text:
                 element.put(key, Value(Type.STRING, 0, text))
                 continue

@@ -1,6 +1,9 @@
 """The attributes that docs/FORMATS.md lists: the number that each has in a resource map, and which forms of text its
 value may have in a source. ci/apps.py compares them with that page."""
-from typing import Dict, NamedTuple, Tuple
+import functools
+import itertools
+import operator
+from typing import Dict, NamedTuple, Optional, Tuple
 
 from .documents import ANDROID
 
@@ -125,3 +128,14 @@ def form_of(namespace: str, name: str) -> Form:
 def id_of(namespace: str, name: str) -> int:
     """The number of an attribute in a resource map, or 0."""
     return KNOWN[name].id if namespace == ANDROID and name in KNOWN else 0
+
+
+def flags_text(word: int, known: Dict[str, int]) -> Optional[str]:
+    """The fewest words without a bit in common that make a word of flags, where there are such."""
+    within = [name for name, bits in known.items() if bits & word == bits]
+    for count in range(5):
+        for names in itertools.combinations(within, count):
+            bits = [known[name] for name in names]
+            if sum(bits) == word == functools.reduce(operator.or_, bits, 0):
+                return "|".join(names)
+    return None

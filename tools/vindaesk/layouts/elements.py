@@ -7,11 +7,14 @@ from .documents import ANDROID, DIMENSION, NULL, REFERENCE, End, Node, Start, Va
 
 
 class Element(NamedTuple):
-    """An element: the place of the one around it, the last part of its name, and its attributes of Android."""
+    """An element: the place of the one around it, the last part of its name, its attributes of Android, its whole name, and
+    its line in the source."""
 
     parent: Optional[int]
     name: str
     attributes: Dict[str, Value]
+    whole: str = ""
+    line: int = 0
 
 
 def elements_in(nodes: List[Node]) -> List[Element]:
@@ -23,7 +26,7 @@ def elements_in(nodes: List[Node]) -> List[Element]:
             around = open_ones[-1] if open_ones else None
             open_ones.append(len(elements))
             known = {it.name: it.value for it in node.attributes if it.namespace == ANDROID}
-            elements.append(Element(around, node.name.rpartition(".")[2], known))
+            elements.append(Element(around, node.name.rpartition(".")[2], known, node.name, node.line))
         elif isinstance(node, End):
             open_ones.pop()
     return elements

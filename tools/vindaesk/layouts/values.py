@@ -1,15 +1,12 @@
 """The values of attributes as texts of a source, and back. docs/FORMATS.md has what the types and the words mean."""
-import functools
-import itertools
 import math
-import operator
 import re
 import struct
 from typing import Dict, Iterator, Optional
 
 from ..scripts.grammar import guess, listed
 from . import dimensions
-from .attributes import Form
+from .attributes import Form, flags_text
 from .documents import (
     BOOLEAN, COLOURS, DIMENSION, FLOAT, FRACTION, HEXADECIMAL, NULL, REFERENCE, STRING, THEME, Value, WHOLE,
 )
@@ -231,16 +228,6 @@ def escaped(text: str) -> str:
     made = text.replace("\\", "\\\\").replace("\n", "\\n").replace("\t", "\\t")
     made = UNSAID.sub(lambda it: "\\u%04x" % ord(it[0]), made)
     return "\\" + made if made[:1] in ("@", "?", "#") else made
-
-
-def flags_text(word: int, known: Dict[str, int]) -> Optional[str]:
-    """The fewest words without a bit in common that make a word of flags, where there are such."""
-    for count in range(5):
-        for names in itertools.combinations(known, count):
-            bits = [known[name] for name in names]
-            if sum(bits) == word == functools.reduce(operator.or_, bits, 0):
-                return "|".join(names)
-    return None
 
 
 def reference_text(value: Value, names: Names, creates: bool) -> str:

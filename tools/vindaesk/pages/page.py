@@ -64,20 +64,15 @@ def picture_record(picture: Picture, body: bytes) -> Record:
     return {"width": picture.width, "height": picture.height, "url": url}
 
 
-def view_record(it: Placed) -> Record:
-    """A view as the page has it."""
-    spaces = {name: it.view.given.get(name, "") for name in view_tree.SPACES}
-    of_app = {"app": placement.mark(it.view).strip()} if it.view.of_app else {}
-    return {**placement.record(it), "answer": it.view.answer, **spaces, **of_app}
-
-
 class Recording:
     """What there is to show of a script, put together as answers come: at most a number of frames."""
 
     def __init__(self, made: Script, most: int):
-        self.tree = view_tree.Tree(made.folder, made.ids)
+        self.tree = view_tree.Tree(made.folder, made.ids, made.written)
         self.most = most
         self.pictures, self.views = Pool(), Pool()
+        # what made the views, by their numbers
+        self.sources: Dict[int, Optional[Record]] = {}
         self.steps: List[Record] = []
         self.events: List[Record] = []
         self.more = 0
@@ -121,7 +116,11 @@ class Recording:
         body = png.written(picture)
         places = []
         for it in self.placed:
-            record = view_record(it)
+            record = placement.state_record(it)
+            if it.view.of_app:
+                record["app"] = placement.mark(it.view).strip()
+            if it.view.number not in self.sources:
+                self.sources[it.view.number] = placement.source_record(it.view.source)
             places.append(self.views.place(json.dumps(record).encode(), record))
         place = self.pictures.place(hashlib.sha256(body).digest(), picture_record(picture, body))
         self.steps.append({"line": self.line, "picture": place, "views": places, "events": self.events})
@@ -144,5 +143,5 @@ def recorded(made: Script, refused: Refused, most: int) -> Recording:
 def page(title: str, found: Recording) -> bytes:
     """The whole page."""
     data: Record = {"title": title, "steps": found.steps, "pictures": found.pictures.rows, "views": found.views.rows,
-                    "more": found.more}
+                    "sources": found.sources, "more": found.more}
     return embedding.page(TEMPLATE, title, data)

@@ -9,10 +9,14 @@ from ..scripts import replies
 from ..scripts.replies import Part, Refused
 from ..scripts.script import Script, Window
 from . import view_tree
+from .facts import Place, Source
 from .view_tree import View
 
 # the version of the form of docs/tree.schema.json
-JSON_VERSION = 1
+JSON_VERSION = 2
+
+# the longest text of a line or a message
+MAX_TEXT = 1 << 30
 
 Box = Tuple[int, int, int, int]
 
@@ -67,7 +71,7 @@ def views_of(made: Script, refused: Refused) -> List[Placed]:
 
 def views_after(parts: List[Part], made: Script, refused: Refused) -> List[Placed]:
     """The same of a script in these parts."""
-    tree = view_tree.Tree(made.folder, made.ids)
+    tree = view_tree.Tree(made.folder, made.ids, made.written)
     for part, answer in replies.answers([*parts, Part([b"bounds"])], made.folder):
         if part.first:
             refused.add_all(part, answer)
@@ -88,9 +92,10 @@ def id_of(view: View) -> Optional[str]:
     return view.id_name or name_of(view.id)
 
 
-def title(view: View) -> str:
-    """Number, class, id and text of a view, as messages have them."""
-    text = json.dumps(view.text, ensure_ascii=False) if view.text else None
+def title(view: View, most: int = MAX_TEXT) -> str:
+    """Number, class, id and text of a view, as messages have them; a text of more characters than some is cut."""
+    whole = view.text or ""
+    text = json.dumps(whole if len(whole) <= most else whole[:most] + " ..", ensure_ascii=False) if whole else None
     return " ".join(filter(None, ["v%d" % view.number, view.kind, id_of(view), text]))
 
 
@@ -133,6 +138,11 @@ def view_at(views: List[Placed], box: Box) -> Optional[View]:
 
 def record(it: Placed) -> Dict[str, object]:
     """A view as JSON has it."""
+    return {**state_record(it), "source": source_record(it.view.source)}
+
+
+def state_record(it: Placed) -> Dict[str, object]:
+    """The same without what made the view, which stays as it is."""
     view = it.view
     return {
         "number": view.number,
@@ -147,7 +157,27 @@ def record(it: Placed) -> Dict[str, object]:
         "scroll": it.scroll,
         "visibility": view.visibility,
         "background": view.background,
+        "answer": view.answer,
+        "given": view.given,
+        "rules": view.rules,
     }
+
+
+def place_record(it: Place) -> Dict[str, object]:
+    """A place as JSON has it."""
+    return {"file": it.file, "line": it.line, "column": it.column or None}
+
+
+def source_record(it: Optional[Source]) -> Optional[Dict[str, object]]:
+    """What made a view as JSON has it."""
+    if it is None:
+        return None
+    found = {
+        name: {"written": at.written, "resolved": at.resolved, "resources": at.resources, "origin": at.origin}
+        for name, at in it.attributes.items()
+    }
+    return {"element": it.element, "places": [place_record(at) for at in it.places], "attributes": found,
+            "added": it.is_added, "exact_bounds": it.has_exact_bounds, "exact_picture": it.has_exact_picture}
 
 
 def as_json(window: Window, views: List[Placed]) -> str:

@@ -1,6 +1,7 @@
 """The views of a script, line by line: what lines make of them that the reply of `bounds` does not say."""
+import os
 import re
-from typing import Dict, Iterator, List, Optional, Sequence, Set, Tuple
+from typing import Dict, FrozenSet, Iterator, List, Optional, Sequence, Set, Tuple
 
 from ..common.failures import Failure
 from ..layouts import app_elements, documents, elements
@@ -10,6 +11,9 @@ from ..layouts.elements import Element
 from ..scripts import names, script
 from ..scripts.names import Ids
 from ..scripts.replies import Answer, Part
+from ..scripts.script import Line
+from . import facts
+from .facts import Origin, Settings, Source
 
 TEXT_LINE = re.compile(rb" *text +[^ ]+ (.*)", re.DOTALL)
 TEXT_RESOURCE = re.compile(rb" *res +[^ ]+ +text (.*)", re.DOTALL)
@@ -17,17 +21,16 @@ VISIBILITIES = ["visible", "invisible", "gone"]
 CLEAR = "#00000000"
 # lines whose reply says what they made
 REPLYING = (b"add", b"inflate", b"frame")
-# what is kept of a view as lines and attributes give it, in their own units
-SPACES = ("margins", "padding")
-GIVING = {"layout_margin": "margins", "padding": "padding"}
+# a comment after which a view is made that rules of lint pass over
+IGNORE = re.compile(rb"# *tools:ignore[ =]+([^\r]*)\r?")
 
 # a view's number and the word of a line that sets something of it
 Fact = Tuple[int, str]
 
 
 class View:
-    """A view. A text is None where its class shows none, a background where a hook may have set it. `given` has its
-    margins and its padding as lines and attributes give them, None where a hook may have set them."""
+    """A view. A text is None where its class shows none, a background where a hook may have set it. `given` has what lines
+    and attributes set of it, and `rules` for each verb `yes` or the id of a sibling (facts.py)."""
 
     def __init__(self, number: int, parent: Optional["View"], kind: str):
         self.number = number
@@ -42,9 +45,19 @@ class View:
         self.visibility = VISIBILITIES[0]
         self.background: Optional[str] = CLEAR
         self.answer = "off"
-        self.given: Dict[str, Optional[str]] = {}
+        self.given: Settings = {}
+        self.rules: Dict[str, str] = {}
+        self.origin: Optional[Origin] = None
+        self.known_source: Optional[Source] = None
         # the element of an app's source that it was made of
         self.of_app: Optional[AppElement] = None
+
+    @property
+    def source(self) -> Optional[Source]:
+        """The element or the line that made it; nothing where lines have no places."""
+        if self.known_source is None and self.origin:
+            self.known_source = facts.source_of(self.origin, self.kind)
+        return self.known_source
 
     def is_touched(self) -> bool:
         """Whether it answers touches itself."""
@@ -90,17 +103,23 @@ class Armed:
 
 
 class Tree:
-    """The views after some lines of a script."""
+    """The views after some lines of a script. `written` are these lines as they were written, where views are to have
+    the places of theirs."""
 
-    def __init__(self, folder: str, ids: Ids = names.NONE):
+    def __init__(self, folder: str, ids: Ids = names.NONE, written: Sequence[Line] = ()):
         self.folder = folder
         self.ids = ids
+        self.written = written
+        self.before = {(it.file, it.number): it.text for it in written if it.text.startswith(b"#")}
+        self.beside = os.path.dirname(written[0].file) if written and written[0].file != "-" else ""
+        self.line: Optional[Line] = None
         self.views: Dict[int, View] = {}
         self.root: Optional[View] = None
         self.named: Dict[int, Dict[int, View]] = {}
         # what lines `res` have set
         self.colours: Dict[int, int] = {}
         self.texts: Dict[int, str] = {}
+        self.lengths: Dict[int, str] = {}
         self.armed = Armed()
 
     def view(self, name: bytes) -> View:
@@ -115,6 +134,7 @@ class Tree:
     def put(self, number: int, parent: Optional[View], kind: str) -> View:
         """A new view, the last child of its parent, or the root."""
         made = self.views[number] = View(number, parent, kind)
+        made.origin = Origin(self.line) if self.line else None
         if parent:
             parent.children[number] = made
         else:
@@ -135,7 +155,17 @@ class Tree:
     def add(self, words: List[bytes], line: bytes, reply: bytes) -> None:
         """`add root C W H` or `add V C W H`."""
         parent = None if words[1] == b"root" else self.view(words[1])
-        self.put(int(reply[1:]), parent, words[2].decode())
+        made = self.put(int(reply[1:]), parent, words[2].decode())
+        made.given.update(facts.of_line(["size", "", *(it.decode() for it in words[3:])]))
+        if made.origin:
+            made.origin = made.origin._replace(ignored=self.ignored())
+
+    def ignored(self) -> FrozenSet[str]:
+        """The rules of lint that a comment right before the present line names."""
+        line = self.line
+        before = self.before.get((line.file, line.number - 1)) if line else None
+        found = IGNORE.fullmatch(before) if before else None
+        return frozenset(it for it in re.split("[ ,]+", found[1].decode("utf-8", "replace")) if it) if found else frozenset()
 
     def inflate(self, words: List[bytes], line: bytes, reply: bytes) -> None:
         """`inflate NAME` or `inflate NAME into V`."""
@@ -148,8 +178,13 @@ class Tree:
         of_app = app_elements.of_layout(self.folder, name)
         for number, element in enumerate(read, first):
             parent = place if element.parent is None else self.views[first + element.parent]
-            self.dress(self.put(number, parent, element.name), element)
-            self.views[number].of_app = of_app.get(number - first + 1)
+            view = self.put(number, parent, element.name)
+            self.dress(view, element)
+            view.of_app = of_app.get(number - first + 1)
+            if view.origin:
+                view.origin = view.origin._replace(
+                    file=os.path.join(self.beside, name), element=element, of_app=view.of_app, resolved=self.resolved(element),
+                    names=self.ids.listed)
 
     def dress(self, view: View, element: Element) -> None:
         """Gives a new view what the attributes of its element say."""
@@ -164,10 +199,21 @@ class Tree:
             view.text = self.words(found["text"])
         if "clickable" in found and found["clickable"].word and view.kind != "ScrollView":
             view.answer = "click"
-        for start, name in GIVING.items():
-            values = ["%s %s" % (it, elements.length(found[it])) for it in found if it.startswith(start)]
-            if values:
-                view.given[name] = ", ".join(values)
+        if "textColor" in found and view.text is not None:
+            view.given["ink"] = "#%08x" % self.colour(found["textColor"])
+        view.given.update(facts.settings_of(found))
+        view.rules.update(facts.rules_of(found))
+
+    def resolved(self, element: Element) -> Dict[int, str]:
+        """The values of the resources that an element names, as sources have them, by their ids."""
+        named = {it.word for it in element.attributes.values() if it.kind == documents.REFERENCE and it.word}
+        return {it: text for it in named for text in [self.resource(it)] if text is not None}
+
+    def resource(self, number: int) -> Optional[str]:
+        """The value of a resource as sources have it."""
+        if number in self.colours:
+            return "#%08x" % self.colours[number]
+        return self.texts.get(number, self.lengths.get(number))
 
     def colour(self, value: Value) -> int:
         """The colour that a value is, or names."""
@@ -205,35 +251,46 @@ class Tree:
 
     def bg(self, words: List[bytes], line: bytes, reply: bytes) -> None:
         """`bg V C`."""
-        self.view(words[1]).put(*value_of(words))
+        self.view(words[1]).background = words[2].decode().lower()
 
     def visible(self, words: List[bytes], line: bytes, reply: bytes) -> None:
         """`visible V S`."""
         self.view(words[1]).visibility = words[2].decode()
 
     def res(self, words: List[bytes], line: bytes, reply: bytes) -> None:
-        """`res @HEX color C`, `res @HEX text T` or `res @HEX dimen N U`, of which the last says nothing here."""
+        """`res @HEX color C`, `res @HEX text T` or `res @HEX dimen N U`."""
         number = int(words[1][1:], 16)
+        self.colours.pop(number, None)
+        self.texts.pop(number, None)
+        self.lengths.pop(number, None)
         if words[2] == b"color":
             self.colours[number] = int(words[3][1:], 16)
         elif words[2] == b"text":
             self.texts[number] = text_of(TEXT_RESOURCE, line)
+        else:
+            self.lengths[number] = (words[3] + words[4]).decode()
 
     def answer(self, words: List[bytes], line: bytes, reply: bytes) -> None:
         """`answer V A`."""
         self.view(words[1]).answer = words[2].decode()
 
-    def space(self, words: List[bytes], line: bytes, reply: bytes) -> None:
-        """`margins V L T R B` or `padding V L T R B`."""
-        self.view(words[1]).put(*value_of(words))
+    def setting(self, words: List[bytes], line: bytes, reply: bytes) -> None:
+        """A line that sets something of a view, as `margins V L T R B`."""
+        self.view(words[1]).given.update(facts.of_line([it.decode() for it in words]))
+
+    def rule(self, words: List[bytes], line: bytes, reply: bytes) -> None:
+        """`rule V VERB X`."""
+        rules, verb, value = self.view(words[1]).rules, words[2].decode(), words[3].decode().lower()
+        rules.pop(verb, None)
+        if value not in ("no", "@0"):
+            rules[verb] = value
 
     def hook(self, words: List[bytes], line: bytes, reply: bytes) -> None:
-        """`hook V E ; E ..`, of whose edits `bg`, `margins` and `padding` count here."""
+        """`hook V E ; E ..`."""
         found: Dict[Fact, str] = {}
         for edit in b" ".join(words[2:]).split(b" ; "):
             parts = edit.split(b" ")
-            if parts[0] in (b"bg", b"margins", b"padding"):
-                name, value = value_of(parts)
+            for name, value in values_of(parts).items():
                 found[self.view(parts[1]).number, name] = value
         self.armed.hooks[self.view(words[1]).number] = found
 
@@ -251,22 +308,24 @@ class Tree:
         for place, line in enumerate(part.lines):
             words = script.words_of(line)
             if words and place not in answer.refusals and words[0] in LINES:
+                self.line = self.written[part.first + place - 1] if self.written and part.first else None
                 LINES[words[0]](self, words, line, answer.replies[-1] if words[0] in REPLYING else b"")
 
 
 LINES = {
     word.encode(): getattr(Tree, word)
-    for word in ("add", "inflate", "remove", "id", "text", "bg", "visible", "answer", "res", "hook", "frame")
+    for word in ("add", "inflate", "remove", "id", "text", "bg", "visible", "answer", "res", "rule", "hook", "frame")
 }
-LINES.update({word.encode(): Tree.space for word in SPACES})
+SETTING = ("size", "min", "margins", "padding", "gravity", "orient", "direction", "weight", "weightsum", "ink", "flag",
+           "intercept")
+LINES.update({word.encode(): Tree.setting for word in SETTING})
 
 
-def value_of(words: List[bytes]) -> Tuple[str, str]:
-    """What a line `bg`, `margins` or `padding` sets, and to what."""
-    name = words[0].decode()
-    if name == "bg":
-        return name, words[2].decode().lower()
-    return name, b" ".join(words[2:6]).decode() + " px"
+def values_of(words: List[bytes]) -> Dict[str, str]:
+    """What an edit of a hook sets, and to what."""
+    if words[0] == b"bg":
+        return {"bg": words[2].decode().lower()}
+    return {name: value for name, value in facts.of_line([it.decode() for it in words]).items() if value is not None}
 
 
 def text_of(form: "re.Pattern[bytes]", line: bytes) -> str:
