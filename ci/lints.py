@@ -1,6 +1,7 @@
 """Tries tools/lint, over scripts with and without faults."""
 import os
-from typing import List, Tuple
+import re
+from typing import Dict, List, Tuple
 
 from running import Checks, named
 from tools import EXAMPLES, first, place, unlike
@@ -19,17 +20,16 @@ add v1 View 60 60
 answer v5 yes
 margins v5 10 30 0 0
 id v5 @7f050001
-add v1 View 0 4
 add v1 TextView 4 wrap
-text v7 ab
+text v6 ab
 frame
 """
-FOUND = """v2 TextView "This text is cut off": text-cut: it is 10 px high, and its text needs 16 (160 dpi, 320 dp)
-v3 View: outside: 40 px beyond the right of v1, which is 320 by 200 px (160 dpi, 320 dp)
-v4 View: overlap: 50 by 50 px under its sibling v5 View @7f050001 (160 dpi, 320 dp)
-v6 View: no-size: 0 by 4 px (160 dpi, 320 dp)
-v7 TextView "ab": text-cut: it is 4 px wide, and one character needs 6 (160 dpi, 320 dp)
-"""
+ONLY = ("--only", "text-cut,outside,overlap,touch-target,no-size")
+FOUND = """%s:3:1: warning text-cut: v2 TextView "This text is cut off": it is 10 dp high, and its text needs 16 (160 dpi, 320 dp)
+%s:5:1: warning outside: v3 View: 40 dp beyond the right of v1, which is 320 by 200 dp (160 dpi, 320 dp)
+%s:8:1: warning overlap: v4 View: 50 by 50 dp of it are under its sibling v5 View @7f050001 (160 dpi, 320 dp)
+%s:15:1: warning text-cut: v6 TextView "ab": it is 4 dp wide, and one character needs 6 (160 dpi, 320 dp)
+""".replace("%s", "standard input")
 # nothing is wrong here: what is higher than a `ScrollView`, what is not seen, texts as high as their room, and siblings
 # that touch only
 RIGHT = """window 100 100
@@ -77,10 +77,10 @@ def no_id(view, page):
 
 def finds() -> str:
     with place() as it:
-        why = unlike(it.call("lint", "-", given=FAULTS), 1, FOUND.encode(), "")
-        why = why or unlike(it.call("lint", "-", given=RIGHT), 0, b"", "")
-        return why or unlike(it.call("lint", "-", given=RIGHT, *["--dpi", "160,320"]), 1, b'v6 View: touch-target: '
-                             b"25 by 25 dp, below 48 by 48 (320 dpi, 100 dp)\n", "")
+        why = unlike(it.call("lint", "-", *ONLY, given=FAULTS), 1, FOUND.encode(), "")
+        why = why or unlike(it.call("lint", "-", *ONLY, given=RIGHT), 0, b"", "")
+        return why or unlike(it.call("lint", "-", *ONLY, "--density", "160,320", given=RIGHT), 1, b"standard input:13:1: warning "
+                             b"touch-target: v6 View: 25 by 25 dp, below 48 by 48 (320 dpi, 100 dp)\n", "")
 
 
 def measures_texts() -> str:
@@ -88,22 +88,25 @@ def measures_texts() -> str:
         for name, lines in NARROW.items():
             text = "window 100 100\nadd root FrameLayout match match\n" + lines + "frame\n"
             status, out, said = it.call("lint", "-", "--only", "text-cut", given=text)
-            if (status, out.count(b"text-cut: it is "), said) != (1, 1, ""):
+            if (status, out.count(b"text-cut: v"), said) != (1, 1, ""):
                 return "%s: status %d, %r, '%s'" % (name, status, out, said)
         hooked = FAULTS.replace("frame\n", "frame\nhook v1 size v2 60 10\n")
         return unlike(it.call("lint", "-", "--only", "text-cut", given=hooked), 0, b"", "")
 
 
-def screens() -> str:
+def lays_out_a_matrix() -> str:
+    """A finding has the configurations in which it holds, once where it is the same in dp."""
     with place() as it:
         with open(os.path.join(EXAMPLES, "margins.xml"), "rb") as file:
             it.put("margins.xml", file.read())
         it.put("a.script", "dpi 240\nwindow 300 150\ninflate margins.xml\nframe\n")
-        where = [b"240 dpi, 200 dp", b"160 dpi, 200 dp", b"320 dpi, 64 dp"]
-        calls: List[List[str]] = [[], ["--dpi", "160"], ["--dpi", "320", "--width", "64"]]
-        for place_of, words in zip(where, calls):
-            status, out, said = it.call("lint", "a.script", *words)
-            if (status, said) != (1, "") or not all(b"(%s)" % place_of in line for line in out.splitlines()):
+        calls: Dict[bytes, List[str]] = {
+            b"240 dpi, 200 dp": [], b"160 dpi, 200 dp": ["--density", "160"], b"320 dpi, 64 dp": ["--dpi", "320", "--width", "64"],
+            b"240 dpi, 200 dp, rtl": ["--rtl"],
+        }
+        for where, words in calls.items():
+            status, out, said = it.call("lint", "a.script", "--only", "no-label,touch-target,off-window,outside", *words)
+            if (status, said) != (1, "") or not any(b"(%s)" % where in line for line in out.splitlines()):
                 return "%s: status %d, %r, '%s'" % (words, status, out, said)
         text = "window 4000 10\nadd root View 1 1\nframe\n"
         why = unlike(it.call("lint", "-", "--dpi", "320", given=text), 2, b"", "a window of 8000 by 20 pixels, at 320")
@@ -113,22 +116,47 @@ def screens() -> str:
         return why or unlike(found, 1, b"", "standard input:3:1: 31 Syntax: no line begins with 'x'\n")
 
 
+def takes_apps() -> str:
+    """Straight from an app, its source, and a layout in this: at night a text is light, and from right to left the view
+    is at the other side."""
+    with place() as it:
+        trips = os.path.join(EXAMPLES, "trips", "trips.apk")
+        words = ("--layout", "settings", "--density", "480,320", "--width", "320,411", "--night", "--rtl", "--only", "touch-target")
+        status, out, said = it.call("lint", trips, *words)
+        wanted = ["%d dpi, %d dp%s%s" % (dpi, width, night, rtl) for dpi in (480, 320) for width in (320, 411)
+                  for night in ("", ", night") for rtl in ("", ", rtl")]
+        lines = out.decode().splitlines()
+        if (status, said) != (1, "") or not all(line.endswith("(%s)" % "; ".join(wanted)) for line in lines) or not lines:
+            return "status %d, %r, '%s'" % (status, out, said)
+        if not all(line.startswith(trips + "!/res/layout/settings.xml:") for line in lines):
+            return "%s" % lines
+        source = os.path.join(EXAMPLES, "trips")
+        of_source = it.call("lint", source, *words)[1].decode().splitlines()
+        of_file = it.call("lint", os.path.join(source, "res", "layout", "settings.xml"), *words[2:])[1].decode().splitlines()
+        starts = [re.match(r".*/res/layout/settings\.xml:\d+:\d+: warning", line) for line in of_source]
+        if not all(starts) or len(of_source) != len(lines) or len(of_file) != len(lines):
+            return "of a source: %s; of a file: %s" % (of_source, of_file)
+        return unlike(it.call("lint", trips, "--layout", "setting"), 2, b"", "did you mean 'settings'?")
+
+
 def own_rules() -> str:
     with place() as it:
         it.put("own.py", OWN)
         it.put("broken.py", "def (")
         it.put("failing.py", OWN.replace('yield "it has no id"', "yield 1 // 0"))
         it.put("a.script", FAULTS)
-        out = b"v3 View: no-id: it has no id (160 dpi, 320 dp)\nv4 View: no-id: it has no id (160 dpi, 320 dp)\n"
+        line = b"a.script:%d:1: warning no-id: v%d View: it has no id (160 dpi, 320 dp)\n"
+        out = line % (5, 3) + line % (8, 4)
         calls: List[Tuple[Tuple[str, ...], int, bytes, str]] = [
             (("--rules", "own.py", "--only", "no-id"), 1, out, ""),
-            (("--rules", "own.py", "--skip", "no-id,outside,no-size,overlap,text-cut"), 0, b"", ""),
+            (("--rules", "own.py", "--only", "no-id", "--skip", "no-id"), 0, b"", ""),
             (("--rules", "broken.py"), 2, b"", "the rules of broken.py cannot be loaded: SyntaxError"),
-            (("--rules", "failing.py"), 2, b"", "the rule no-id failed at v3: ZeroDivisionError"),
+            (("--rules", "failing.py", "--only", "no-id"), 2, b"", "the rule no-id failed at v3: ZeroDivisionError"),
             (("--rules", "no.py"), 2, b"", "there is no file no.py"),
-            (("--only", "other"), 2, b"", "there is no rule 'other'; the rules are outside, no-size"),
+            (("--only", "other"), 2, b"", "there is no rule 'other'; the rules are outside, off-window"),
             (("--dpi", "160,x"), 2, b"", "'x' is no number from 40 to 1000"),
             (("--width", ""), 2, b"", "'' is no number from 1 to 16384"),
+            (("--night", "--only", "outside"), 1, b"", "a script has no night of its own"),
         ]
         return first(unlike(it.call("lint", "a.script", *words), status, out, said) for words, status, out, said in calls)
 
@@ -137,7 +165,7 @@ def wrong_scripts() -> str:
     with place() as it:
         os.mkdir(os.path.join(it.folder, "folder"))
         why = unlike(it.call("lint", "no.script"), 2, b"", "no.script cannot be read")
-        why = why or unlike(it.call("lint", "folder"), 2, b"", "folder cannot be read: Is a directory")
+        why = why or unlike(it.call("lint", "folder"), 2, b"", "folder has no script, no compiled layout and no app")
         why = why or unlike(it.call("lint", "-"), 1, b"", "there are no bounds: the script opens no window\n")
         refused = it.call("lint", "-", given="ad x\nwindow 9 9\nadd root View 1 1\nframe\n")
         why = why or unlike(refused, 1, b"", "lint: standard input:1:1: 31 Syntax: no line begins with 'ad'; did you mean 'add'?\n")
@@ -148,4 +176,6 @@ def wrong_scripts() -> str:
 
 
 def checks() -> Checks:
-    yield from named("the lint", (finds, measures_texts, screens, own_rules, wrong_scripts))
+    yield from named("the lint", (
+        finds, measures_texts, lays_out_a_matrix, takes_apps, own_rules, wrong_scripts,
+    ))

@@ -9,7 +9,10 @@ from ..apps.app import Screen
 from ..common import files
 from ..common.failures import WRONG, Failure
 from ..layouts.app_elements import REPORT
-from ..lint import linter, rules
+from ..lint import formats, linter, rules
+from ..lint.matrix import Configuration
+from ..lint.registry import Severity
+from ..lint.app_subjects import ScreenSubject
 from ..pages import page
 from ..pictures import frames, png
 from ..scripts import names, script
@@ -18,7 +21,6 @@ from ..scripts.replies import Refused
 from ..scripts.resource_names import Names
 from ..scripts.script import Script
 from ..views import placement
-from ..views.screens import Screen as Device
 
 
 @contextlib.contextmanager
@@ -67,9 +69,6 @@ def tree_lines(screen: Screen) -> List[str]:
 
 def lint_lines(screen: Screen) -> List[str]:
     """What is wrong with a layout, a line each."""
-    with script_of(screen) as made:
-        refused = Refused(made)
-        found = linter.found_on(made, [Device(None, None)], refused, dict(rules.RULES))
-    check(screen, refused)
-    in_order = sorted(found, key=lambda it: it.number)
-    return ["%s%s: %s: %s%s" % (it.place, it.name, it.rule, it.sentence, it.mark) for it in in_order]
+    wanted = {name: it for name, it in rules.RULES.items() if it.severity >= Severity.WARNING}
+    found = linter.found_in(ScreenSubject(screen), [Configuration()], wanted)
+    return [formats.line_of(it) for it in found]

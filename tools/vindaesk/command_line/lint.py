@@ -1,41 +1,67 @@
-"""What is wrong with the layout that a script leaves: views outside of their parents or without a size, texts that are
-cut off, and touches that are hard to place.
+"""What is wrong with layouts: texts that are cut off or hard to read, touches that are hard to place, views outside of
+their parents, constraints without effect, and what Android's lint finds in sources.
 
-A finding is a line: the view's number, class, id and text, the rule, the numbers, and the screens on which it is found.
-With --dpi or --width the script is run once for each density and width: lines `dpi` and `window` say what the screen
-has, and the height of windows stays the same in dp. --rules adds rules of your own; docs/LINT.md shows how to write
-one.
-Layout files are taken from the folder of the script.
+PATH is a script; a layout, compiled or as a source; an app as tools/app takes it, of which --layout names layouts; or a
+folder of scripts. A finding is a line FILE:LINE:COLUMN: severity rule: sentence, with the configurations in which it
+holds in parentheses. --density, --width, --night and --rtl lay all out in each combination.
 
-The status is 0 where nothing is found, and 1 where something is or a line of the script is refused; refused lines are
-reported on standard error. It is 1 too where there is no window, no frame, no root, or the last frame has not settled.
+--list prints the rules. --rules adds rules of your own; docs/LINT.md shows how to write one. `tools:ignore` in a source
+has a rule passed over at an element and in it, and so has a comment `# tools:ignore RULE` before a line of a script.
+
+The status is 0 where nothing is found, and 1 where something is, or a line of a script is refused, or something has no
+layout that can be looked at; refused lines are reported on standard error.
 """
 import argparse
-from typing import Dict, Optional, Sequence
+import os
+from typing import Dict, List, Optional, Sequence
 
-from ..common import failures, messages
-from ..lint import linter, rules
-from ..lint.rules import Rule
-from ..scripts.replies import Refused
+from ..common import failures, files, messages
+from ..lint import baseline, formats, linter, registry, rules
+from ..lint.matrix import RTL, Configuration, all_of
+from ..lint.registry import Rule, Severity
 from ..views import screens
-from ..views.screens import Screen
-from . import arguments
+from . import arguments, lint_work
+from .lint_paths import Apps
+from .lint_work import Work
 from .uses import Purpose, Use
 
-USE = Use(Purpose.CHECK, "vindaesk lint card.script --dpi 160,320", "what is wrong with a layout, on several screens")
+USE = Use(Purpose.CHECK, "vindaesk lint card.script --density 160,320", "what is wrong with layouts, in several configurations")
+SEVERITIES = {it.word: it for it in Severity}
+
+
+def add_matrix(found: argparse.ArgumentParser) -> None:
+    """The arguments that say in which configurations all is laid out."""
+    found.add_argument("--density", "--dpi", metavar="N,..", type=arguments.counts(screens.LEAST_DPI, screens.MOST_DPI),
+                       default=[None], help="dots an inch, 40 to 1000")
+    found.add_argument("--width", metavar="N,..", type=arguments.counts(1, 16384), default=[None],
+                       help="widths of the window in dp")
+    found.add_argument("--night", action="store_true", help="apps also at night")
+    found.add_argument("--rtl", action="store_true", help="also from right to left")
 
 
 def reader() -> argparse.ArgumentParser:
     """The arguments."""
     found = arguments.parser(__doc__)
-    arguments.add_script(found)
-    found.add_argument("--dpi", metavar="N,..", type=arguments.counts(screens.LEAST_DPI, screens.MOST_DPI),
-                       default=[None], help="dots an inch, 40 to 1000")
-    found.add_argument("--width", metavar="N,..", type=arguments.counts(1, 16384), default=[None],
-                       help="widths of the window in dp")
+    found.add_argument("paths", metavar="PATH", nargs="*", help="a script, a layout, an app or a folder; - for standard input")
+    found.add_argument("--layout", metavar="NAME,..", type=arguments.names, default=[], help="these layouts of apps alone")
+    add_matrix(found)
+    found.add_argument("--config", metavar="NAME,..", type=arguments.names, default=[],
+                       help="a script in these configurations; an app on devices with these qualifiers")
+    found.add_argument("--framework", metavar="APK", help="Android's own resources for apps")
+    found.add_argument("--theme", metavar="NAME", default="", help="the theme of apps; without it that of the manifest")
+    found.add_argument("--ids", metavar="FILE", help="the list of ids by names; ids.txt beside the script without it")
+    found.add_argument("--expanded", action="store_true", help="prints a script as the program is given it, and ends")
+    found.add_argument("--format", choices=list(formats.FORMATS), default="text", help="how findings are written")
+    found.add_argument("--severity", choices=list(SEVERITIES), default=Severity.WARNING.word,
+                       help="the least severity of findings; warning without it")
+    found.add_argument("--baseline", metavar="FILE", help="findings that are known, and not reported")
+    found.add_argument("--write-baseline", metavar="FILE", help="writes all that is found as such a file")
     found.add_argument("--rules", metavar="FILE.py", action="append", default=[], help="rules of your own")
-    found.add_argument("--only", metavar="RULE,..", type=arguments.names, help="these rules alone")
+    found.add_argument("--only", metavar="RULE,..", type=arguments.names, help="these rules alone; Android's ids too")
     found.add_argument("--skip", metavar="RULE,..", type=arguments.names, default=[], help="all rules but these")
+    found.add_argument("--jobs", metavar="N", type=arguments.count(1, 512), default=os.cpu_count() or 1,
+                       help="of many layouts, how many at once; as many as there are processors")
+    found.add_argument("--list", action="store_true", help="prints the rules and ends")
     return found
 
 
@@ -43,24 +69,51 @@ def chosen(given: argparse.Namespace, parser: argparse.ArgumentParser) -> Dict[s
     """The rules that are wanted."""
     for path in given.rules:
         linter.load(path)
-    for name in [*(given.only or []), *given.skip]:
-        if name not in rules.RULES:
-            parser.error("there is no rule '%s'; the rules are %s" % (name, ", ".join(rules.RULES)))
-    wanted = [name for name in rules.RULES if name in (given.only or rules.RULES) and name not in given.skip]
-    return {name: rules.RULES[name] for name in wanted}
+    for name in registry.unknown([*(given.only or []), *given.skip]):
+        parser.error("there is no rule '%s'; the rules are %s" % (name, ", ".join(rules.RULES)))
+    least = SEVERITIES[given.severity]
+    found = {}
+    for name, it in rules.RULES.items():
+        is_wanted = it.is_among(given.only) if given.only else it.severity >= least
+        if is_wanted and not it.is_among(given.skip):
+            found[name] = it
+    return found
+
+
+def configurations(given: argparse.Namespace) -> List[Configuration]:
+    """The configurations in which all is laid out."""
+    nights, directions = [False, True] if given.night else [False], ["", RTL] if given.rtl else [""]
+    return all_of(given.density, given.width, nights, directions, [""])
+
+
+def listed(found: Dict[str, Rule]) -> str:
+    """The rules, a line each."""
+    lines = []
+    for name, it in found.items():
+        android = " (%s)" % ", ".join(it.android) if it.android else ""
+        lines.append("%-19s %-8s %s%s\n" % (name, it.severity.word, it.says, android))
+    return "".join(lines)
 
 
 def main(words: Optional[Sequence[str]] = None) -> int:
     parser = reader()
     given = parser.parse_args(words)
+    arguments.write_any_text()
     wanted = chosen(given, parser)
-    made = arguments.single(given)
-    if arguments.show_expanded(given, made):
+    if given.list:
+        files.write("-", listed(rules.RULES).encode())
         return 0
-    refused = Refused(made)
-    all_screens = [Screen(dpi, width) for dpi in given.dpi for width in given.width]
-    found = linter.found_on(made, all_screens, refused, wanted)
-    for it, where in sorted(found.items(), key=lambda pair: pair[0].number):
-        line = "%s%s: %s: %s%s (%s)" % (it.place, it.name, it.rule, it.sentence, it.mark, "; ".join(where))
-        print(messages.printable(line))
-    return refused.end() or (failures.WRONG if found else 0)
+    if not given.paths:
+        parser.error("the following arguments are required: PATH")
+    known = baseline.read(given.baseline) if given.baseline else {}
+    work = Work(given, configurations(given), wanted, Apps(given.framework or ""))
+    found, status = lint_work.done(work, given.jobs)
+    if given.write_baseline:
+        files.replace(given.write_baseline, baseline.written(found).encode())
+        return status
+    new, gone = baseline.without(found, known)
+    if gone:
+        what = "%d finding%s of %s %s there no more" % (gone, "s"[gone == 1 :], given.baseline, "is" if gone == 1 else "are")
+        messages.say(what + "; --write-baseline writes it anew")
+    files.write("-", formats.FORMATS[given.format](new, wanted).encode("utf-8", "replace"))
+    return status or (failures.WRONG if new else 0)

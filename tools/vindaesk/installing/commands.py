@@ -19,7 +19,7 @@ class Kind(enum.Enum):
 
 # the kinds of the values that help texts name; NAME.ending is a file too, and what ends with `,..` a list of texts
 KINDS = {
-    **dict.fromkeys(("SCRIPT", "FILE", "FILE,..", "NAME", "APP", "APK"), Kind.FILE),
+    **dict.fromkeys(("SCRIPT", "FILE", "FILE,..", "NAME", "APP", "APK", "PATH"), Kind.FILE),
     **dict.fromkeys(("DIR", "PREFIX"), Kind.FOLDER),
     **dict.fromkeys(("N", "S", "I/N", "WxH", "TEXT", "ID", "SIDE", "V", "WORD", "CASE"), Kind.TEXT),
     **dict.fromkeys(("LAYOUT", "QUALIFIERS", "ADDRESS"), Kind.TEXT),

@@ -1,4 +1,4 @@
-"""Rules over what a script lays out, and refused lines: `from vindaesk.lint import rule`."""
-from .rules import rule
+"""Rules over what is laid out, and refused lines: `from vindaesk.lint import Severity, rule`."""
+from .registry import Severity, rule
 
-__all__ = ["rule"]
+__all__ = ["Severity", "rule"]

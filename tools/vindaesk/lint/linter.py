@@ -1,71 +1,85 @@
-"""What is wrong with the layout that a script leaves, on several screens."""
+"""What rules find in a subject, in each configuration."""
 import importlib.machinery
 import os
 import types
-from typing import Dict, Iterable, List, NamedTuple, Tuple
+from typing import Dict, FrozenSet, Iterable, Iterator, List, Sequence, Tuple
 
-from ..common import progress
 from ..common.failures import Failure, NOT_RUN
-from ..layouts.app_elements import BOUNDS
-from ..scripts import script
 from ..scripts.replies import Refused
 from ..scripts.script import Script
-from ..views import placement, screens, text_sizes
-from ..views.screens import PLAIN_DPI, Screen
-from . import rules
-from .rules import Page, Rule
+from ..views.facts import Place
+from ..views.screens import Screen
+from . import cycles, findings, registry, subjects
+from .findings import Finding
+from .matrix import Configuration
+from .page import Page
+from .registry import Rule
+from .seen import Seen
+from .subjects import Subject
+
+# what is added where bounds may be others on a device
+NOT_EXACT = "; its bounds are not exact"
 
 NOT_EXACT = " (its bounds are not exact)"
 
 
-class Finding(NamedTuple):
-    """What a rule says of a view: the view's number, its name, the rule, the sentence; of a view of an app's layout the
-    place of its element, and whether its bounds are exact."""
-
-    number: int
-    name: str
-    rule: str
-    sentence: str
-    place: str = ""
-    mark: str = ""
+def said_by(rule: Rule, it: Seen, page: Page) -> Iterator[str]:
+    """The sentences of a rule at a view."""
+    try:
+        yield from map(str, rule.function(it, page))
+    except Exception as error:
+        if isinstance(error, Failure):
+            raise
+        why = "the rule %s failed at v%d: %s: %s" % (rule.name, it.view.number, type(error).__name__, error)
+        raise Failure(why, NOT_RUN)
 
 
 def laid_out(made: Script, screen: Screen, refused: Refused) -> Tuple[Page, str]:
     """What a script leaves on a screen, and the screen in words."""
-    parts, dpi = screens.parts_on(made.lines, screen)
-    views = placement.views_after(parts, made, refused)
-    width, _ = script.last_window([line for part in parts for line in part.lines]) or (0, 0)
-    shown = Page(rules.seen_in(views), text_sizes.needs(parts, made.folder, views), dpi)
-    return shown, "%d dpi, %g dp" % (dpi, round(width * PLAIN_DPI / dpi, 1))
+    found = subjects.run_of(made, Configuration(screen.dpi, screen.width), refused)
+    if found.page is None:
+        raise Failure("there is no tree: %s" % refused.first())
+    return found.page, found.name
 
 
-def findings_of(shown: Page, chosen: Dict[str, Rule]) -> List[Finding]:
-    """What rules find, by the views in preorder."""
-    found = []
-    for it in shown.views.values():
+def places_of(it: Seen, file: str) -> Tuple[Place, ...]:
+    """Where a view is written; the file alone where it has no element."""
+    return it.source.places if it.source else (Place(file, 1),)
+
+
+def findings_of(page: Page, chosen: Dict[str, Rule], file: str = "-") -> Iterator[Finding]:
+    """What rules find on a page, by the views in preorder. `file` is where views are that have no element."""
+    for it in page.views.values():
+        ignored: FrozenSet[str] = it.source.ignored if it.source else frozenset()
         for name, rule in chosen.items():
-            try:
-                sentences = list(rule(it, shown))
-            except Exception as error:
-                why = "the rule %s failed at v%d: %s: %s" % (name, it.view.number, type(error).__name__, error)
-                raise Failure(why, NOT_RUN)
-            of_app = it.view.of_app
-            more = ("%s: " % of_app.place, NOT_EXACT if of_app.reasons(BOUNDS) else "") if of_app else ("", "")
-            found += [Finding(it.view.number, it.name(), name, str(sentence), *more) for sentence in sentences]
-    return found
+            if registry.passed_over(ignored, rule):
+                continue
+            note = NOT_EXACT if rule.by_bounds and it.source and not it.source.has_exact_bounds else ""
+            for sentence in said_by(rule, it, page):
+                yield Finding(name, rule.severity, it.view.number, it.name(), findings.stable_name(it.view), sentence + note,
+                              places_of(it, file), [])
 
 
-def found_on(
-    made: Script, wanted: Iterable[Screen], refused: Refused, chosen: Dict[str, Rule]
-) -> Dict[Finding, List[str]]:
-    """What rules find, each with the screens on which they do. Refused lines are reported on the way."""
-    found: Dict[Finding, List[str]] = {}
-    screens_of = list(wanted)
-    for screen in progress.counted(screens_of, len(screens_of), "screens"):
-        shown, name = laid_out(made, screen, refused)
-        for finding in findings_of(shown, chosen):
-            found.setdefault(finding, []).append(name)
-    return found
+def add(known: Dict[Tuple[object, ...], Finding], found: Iterable[Finding], configuration: str) -> None:
+    """Adds findings of a configuration; those that were found in another one have one more."""
+    for it in found:
+        kept = known.setdefault((it.rule, it.places, it.number, it.sentence), it)
+        if configuration not in kept.configurations:
+            kept.configurations.append(configuration)
+
+
+def found_in(subject: Subject, configurations: Sequence[Configuration], chosen: Dict[str, Rule]) -> List[Finding]:
+    """What rules find in a subject, by its views in preorder, each with the configurations in which it holds."""
+    known: Dict[Tuple[object, ...], Finding] = {}
+    for wanted in configurations:
+        with subject.laid_out(wanted) as laid:
+            for it in laid.page.placed if laid.page else ():
+                it.view.known_source = laid.sources.get(it.view.number, it.view.known_source)
+            if cycles.NAME in chosen:
+                add(known, cycles.found_in(laid, subject), laid.name)
+            if laid.page:
+                add(known, findings_of(laid.page, chosen, subject.file), laid.name)
+    return sorted(known.values(), key=lambda it: it.number)
 
 
 def load(path: str) -> None:

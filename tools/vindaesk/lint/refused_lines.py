@@ -1,5 +1,4 @@
 """Which lines of a script are refused: where, and why. Of a layout file, which element and attribute of it."""
-import os
 from typing import Iterator, NamedTuple
 
 from ..common.messages import printable
@@ -7,6 +6,8 @@ from ..layouts import faults
 from ..scripts import reasons, replies, script
 from ..scripts.replies import Answer, Part, Refusal
 from ..scripts.script import Script
+from ..views.facts import Place
+from . import github
 
 # how many lines are run together
 TOGETHER = 1024
@@ -68,18 +69,9 @@ def plain(found: Finding) -> str:
     return printable("%s:%d:%d: %s: %s" % found)
 
 
-def escaped(text: str, more: str = "") -> str:
-    """A text of a command of GitHub's, in which some characters have a meaning."""
-    for it in "%\r\n" + more:
-        text = text.replace(it, "%%%02X" % ord(it))
-    return text
-
-
-def github(found: Finding) -> str:
+def as_command(found: Finding) -> str:
     """A finding as GitHub's runners take it, which show it beside the line."""
-    path = escaped(os.path.normpath(found.file), ":,")
-    head = "file=%s,line=%d,col=%d,title=%s" % (path, found.line, found.column, escaped(found.title, ":,"))
-    return "::error %s::%s" % (head, escaped(printable(found.why)))
+    return github.command("error", Place(found.file, found.line, found.column), found.title, found.why)
 
 
-FORMATS = {"plain": plain, "github": github}
+FORMATS = {"plain": plain, "github": as_command}

@@ -1,0 +1,104 @@
+"""The work of a call of lint: each unit by itself, side by side where there are many."""
+import argparse
+import contextlib
+import io
+import math
+import sys
+from typing import Dict, Generator, List, NamedTuple, Sequence, Tuple, Union
+
+from ..common import failures, files, messages, progress
+from ..common.failures import Failure
+from ..lint import linter
+from ..lint.findings import Finding
+from ..lint.matrix import Configuration
+from ..lint.registry import Rule
+from . import lint_paths
+from .lint_paths import Apps, Unit
+
+
+class Outcome(NamedTuple):
+    """How a unit ended: what was found, the status, and what was said on standard error."""
+
+    found: List[Finding]
+    status: int
+    said: str = ""
+
+
+class Work(NamedTuple):
+    """What all units share: the call, the configurations and the rules."""
+
+    given: argparse.Namespace
+    configurations: Sequence[Configuration]
+    rules: Dict[str, Rule]
+    apps: Apps
+
+    def look_at(self, unit: Union[Unit, Failure]) -> Outcome:
+        """Looks at a unit. What cannot be looked at stops nothing else."""
+        found: List[Finding] = []
+        status = 0
+        try:
+            if isinstance(unit, Failure):
+                raise unit
+            for it in lint_paths.subjects(unit, self.given, self.apps):
+                found += linter.found_in(it, self.configurations, self.rules)
+                status = status or it.status()
+        except Failure as failure:
+            if failure.status not in (failures.WRONG, failures.NOT_RUN):
+                raise
+            messages.say(in_words(unit, str(failure)))
+            status = failure.status
+        return Outcome(found, status)
+
+    def in_silence(self, unit: Union[Unit, Failure]) -> Outcome:
+        """The same, with what is said kept."""
+        before, sys.stderr = sys.stderr, io.StringIO()
+        try:
+            outcome = self.look_at(unit)
+            return outcome._replace(said=sys.stderr.getvalue())
+        except Failure as failure:
+            messages.say(in_words(unit, str(failure)))
+            return Outcome([], failure.status, sys.stderr.getvalue())
+        finally:
+            sys.stderr = before
+
+
+def in_words(unit: Union[Unit, Failure], why: str) -> str:
+    """Why a unit cannot be looked at, with its path before it."""
+    path = files.named(unit.path) if isinstance(unit, Unit) else ""
+    return why if why.startswith(path) else "%s: %s" % (path, why)
+
+
+def outcomes(work: Work, units: Sequence[Union[Unit, Failure]], jobs: int) -> Generator[Outcome, None, None]:
+    """How units end, in their order."""
+    if min(jobs, len(units)) < 2:
+        yield from map(work.look_at, units)
+        return
+    # loaded where there are many, since that takes as long as a small script
+    from ..common.pool import Lost, Pool
+
+    work.apps.close()
+    waiting: Dict[int, Outcome] = {}
+    ended = 0
+    pool = Pool(lambda at: work.in_silence(units[at]), min(jobs, len(units)), math.inf)
+    with contextlib.closing(pool.results(range(len(units)))) as results:
+        for place, it in results:
+            is_lost = isinstance(it, Lost)
+            waiting[place] = Outcome([], failures.WRONG, in_words(units[place], it.why) + "\n") if is_lost else it
+            while ended in waiting:
+                yield waiting.pop(ended)
+                ended += 1
+
+
+def done(work: Work, jobs: int) -> Tuple[List[Finding], int]:
+    """All that is found, and the status: that of the only unit, else 1 where one has another than 0."""
+    units = list(lint_paths.units(work.given, work.apps))
+    found: List[Finding] = []
+    statuses = []
+    for it in progress.counted(outcomes(work, units, jobs), len(units), "layouts"):
+        if it.said:
+            progress.clear()
+            sys.stderr.write(it.said)
+        found += it.found
+        statuses.append(it.status)
+    work.apps.close()
+    return found, statuses[0] if len(statuses) == 1 else failures.WRONG if any(statuses) else 0

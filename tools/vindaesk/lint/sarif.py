@@ -1,0 +1,80 @@
+"""Findings as SARIF 2.1.0 (OASIS), the form that code hosts and editors read. Section numbers are those of the standard."""
+import hashlib
+import json
+import os
+from typing import Dict, List, Sequence
+from urllib.parse import quote
+
+from ..common.places import version
+from ..views.facts import Place
+from . import baseline
+from .findings import Finding
+from .registry import Rule, Severity
+
+SCHEMA = "https://docs.oasis-open.org/sarif/sarif/v2.1.0/errata01/os/schemas/sarif-schema-2.1.0.json"
+# 3.27.10
+LEVELS = {Severity.ERROR: "error", Severity.WARNING: "warning", Severity.NOTE: "note"}
+# 3.27.17: the name says the version of how it is made
+FINGERPRINT = "vindaesk/v1"
+
+Record = Dict[str, object]
+
+
+def uri(path: str) -> str:
+    """A path as a relative reference, or as a URI where it is absolute (3.4.3)."""
+    plain = quote(os.path.normpath(path).replace(os.sep, "/"), safe="/!@")
+    return "file://" + plain if os.path.isabs(path) else plain
+
+
+def location(it: Place) -> Record:
+    """A place in a file (3.28, 3.29, 3.30)."""
+    physical: Record = {"artifactLocation": {"uri": uri(it.file)}}
+    if it.line:
+        physical["region"] = {"startLine": it.line, **({"startColumn": it.column} if it.column else {})}
+    return {"physicalLocation": physical}
+
+
+def fingerprint(it: Finding) -> str:
+    """A word that is the same for the same finding in another run."""
+    return hashlib.sha256("\0".join(baseline.key_of(it)).encode("utf-8", "surrogatepass")).hexdigest()[:32]
+
+
+def related(it: Place, number: int) -> Record:
+    """A place that includes the file of a finding."""
+    made = location(it)
+    made.update(id=number, message={"text": "it includes the file"})
+    return made
+
+
+def result(it: Finding, index: int) -> Record:
+    """A finding (3.27)."""
+    where = location(it.place)
+    where["logicalLocations"] = [{"name": it.name, "fullyQualifiedName": it.stable_name, "kind": "element"}]
+    made: Record = {
+        "ruleId": it.rule, "ruleIndex": index, "level": LEVELS[it.severity], "message": {"text": it.message},
+        "locations": [where],
+        "partialFingerprints": {FINGERPRINT: fingerprint(it)},
+        "properties": {"configurations": it.configurations},
+    }
+    if it.places[1:]:
+        made["relatedLocations"] = [related(place, number) for number, place in enumerate(it.places[1:], 1)]
+    return made
+
+
+def rule(it: Rule) -> Record:
+    """A rule (3.49)."""
+    made: Record = {"id": it.name, "shortDescription": {"text": it.says},
+                    "defaultConfiguration": {"level": LEVELS[it.severity]}}
+    if it.android:
+        made["properties"] = {"android": list(it.android)}
+    return made
+
+
+def written(found: Sequence[Finding], rules: Dict[str, Rule]) -> str:
+    """The whole log (3.13)."""
+    places = {name: number for number, name in enumerate(rules)}
+    results: List[Record] = [result(it, places[it.rule]) for it in found]
+    driver: Record = {"name": "vindaesk-lint", "version": version().rpartition(" ")[2],
+                      "rules": [rule(it) for it in rules.values()]}
+    run: Record = {"tool": {"driver": driver}, "columnKind": "unicodeCodePoints", "results": results}
+    return json.dumps({"$schema": SCHEMA, "version": "2.1.0", "runs": [run]}, indent=1, ensure_ascii=False) + "\n"
