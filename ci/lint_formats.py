@@ -9,7 +9,8 @@ import sarif_form
 from lints import FAULTS
 from running import TOP, Checks, Skipped, named
 from tools import EXAMPLES, Place, first, place, unlike
-from vindaesk.lint import formats, github, rules
+from vindaesk.lint import findings, formats, github, rules
+from vindaesk.views.view_tree import View
 
 ONLY = ("--only", "text-cut,outside,overlap")
 FRAMEWORK = "/usr/share/android-framework-res/framework-res.apk"
@@ -102,6 +103,14 @@ def writes_junit() -> str:
     return "" if (cases, counts) == (wanted, ["3", "2", "0"]) else "%s, %s" % (cases, counts)
 
 
+def name_of(number: int) -> str:
+    """The name that a baseline has for a view of some number."""
+    root, other = View(1, None, "FrameLayout"), View(2, None, "TextView")
+    view = View(number, root, "View")
+    root.children = {2: other, number: view}
+    return findings.stable_name(view)
+
+
 def keeps_a_baseline() -> str:
     """What is in it is not reported, wherever its line is now; what is new is, and what is gone is said."""
     with place() as it:
@@ -121,7 +130,8 @@ def keeps_a_baseline() -> str:
                 it.put(name, text)
             said = "is no baseline" if text else "no.json cannot be read"
             why = why or unlike(it.call("lint", "a.script", "--baseline", name), 2, b"", said)
-        return why
+        names = [name_of(number) for number in (3, 8)]
+        return why or ("" if names == ["FrameLayout View[1]"] * 2 else "%s" % names)
 
 
 def passes_over() -> str:
@@ -190,10 +200,13 @@ def goes_on() -> str:
     with place() as it:
         it.put("a.script", FAULTS)
         it.put("b.script", "frame\n")
-        status, out, said = it.call("lint", "no.script", "b.script", "a.script", *ONLY)
-        why = "" if (status, out.count(b"\n")) == (1, 4) else "status %d, %r" % (status, out)
-        return why or first("'%s' is missing" % word if word not in said else "" for word in (
-            "no.script cannot be read", "b.script", "the script opens no window"))
+        why = ""
+        for jobs in ("1", "2"):
+            status, out, said = it.call("lint", "no.script", "b.script", "a.script", *ONLY, "--jobs", jobs)
+            why = why or ("" if (status, out.count(b"\n")) == (1, 4) else "status %d, %r" % (status, out))
+            why = why or first("'%s' is missing" % word if word not in said else "" for word in (
+                "no.script cannot be read", "b.script", "the script opens no window"))
+        return why
 
 
 def page_has_all() -> str:

@@ -118,9 +118,10 @@ TRIED: Dict[str, Tried] = {
     "left-right": Tried(source(SIZES.join(("View ", 'android:layout_marginLeft="8dp" '))), (4, 5),
                         "android:layout_marginLeft: use layout_marginStart", ("marginLeft", "marginStart")),
     "not-mirrored": Tried(
-        FRAME + "add v1 View 20 20\ngravity v2 self left\nframe\n", (3, 1),
-        "0 dp from the left in one direction and 0 in the other, where its mirror image would be at 300: "
-        "gravity left: use start", ("self left", "self start")),
+        source('View android:layout_width="20dp" android:layout_height="20dp" android:layout_gravity="start" '
+               'android:layout_marginLeft="8dp" '), (4, 5),
+        "8 dp from the left in one direction and 340 in the other, where its mirror image would be at 332: "
+        "android:layout_marginLeft: use layout_marginStart", ("marginLeft", "marginStart")),
     "one-sided-padding": Tried(source(SIZES.join(("View ", 'android:paddingStart="8dp" '))), (4, 5),
                                "it has android:paddingStart, and no android:paddingEnd",
                                ("android:paddingStart=", 'android:paddingEnd="8dp" android:paddingStart=')),
