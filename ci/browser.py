@@ -55,8 +55,8 @@ def records() -> str:
         views = [data["views"][place] for place in steps[1]["views"]]
         made = [
             [step["line"] for step in steps], [[event["line"] for event in step["events"]] for step in steps],
-            len({step["picture"] for step in steps}), views[3]["text"], views[3]["answer"], views[1]["padding"],
-            views[1]["margins"], views[1]["id"], steps[2]["events"][0]["words"], steps[1]["events"][2]["replies"][-1]
+            len({step["picture"] for step in steps}), views[3]["text"], views[3]["answer"], views[1]["given"]["padding"],
+            views[1]["given"]["margins"], views[1]["id"], steps[2]["events"][0]["words"], steps[1]["events"][2]["replies"][-1]
         ]
         wanted = [[4, 15, 21], [[], [17, 18, 19], [22]], 2, "</script><b>&é", "click", "1 2 3 4 px", "4 0 0 0 px",
                   "@7f080001", ["down", "3", "10", "10"], "done yes"]

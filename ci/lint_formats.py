@@ -94,11 +94,12 @@ def writes_commands() -> str:
 def writes_junit() -> str:
     """A test that fails for each rule with findings, and one that passes for each without."""
     with place() as it:
-        it.put(NAME, FAULTS.replace("This text", "\x01<&>"))
-        out = it.call("lint", NAME, "--only", "text-cut,outside,no-size", "--format", "junit")[1]
+        it.put("a\x01<&>.script", FAULTS.replace("This text", "\x01<&>"))
+        out = it.call("lint", "a\x01<&>.script", "--only", "text-cut,outside,no-size", "--format", "junit")[1]
     suite = ElementTree.fromstring(out.decode())
     cases = {case.get("classname"): [case.get("name"), *(it.tag for it in case)] for case in suite}
-    wanted = {"text-cut": [NAME, "failure"], "outside": [NAME, "failure"], "no-size": ["nothing is found"]}
+    name = "a\ufffd<&>.script"
+    wanted = {"text-cut": [name, "failure"], "outside": [name, "failure"], "no-size": ["nothing is found"]}
     counts = [suite.get(name) for name in ("tests", "failures", "errors")]
     return "" if (cases, counts) == (wanted, ["3", "2", "0"]) else "%s, %s" % (cases, counts)
 
