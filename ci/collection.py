@@ -10,7 +10,7 @@ from running import TOP, Check, Checks
 MODULES = (
     "examples", "pictures", "pages", "names", "promises", "layers", "broken", "limits", "tables", "launcher", "commands", "gate", "itself",
     "tools", "golden", "hostile", "plugin", "grammar", "apps", "apps_report", "app_goldens", "fuzz_apps", "resources",
-    "fuzz_resources", "driving", "facts", "serving", "lints", "lint_rules", "lint_formats", "browser",
+    "fuzz_resources", "driving", "facts", "serving", "lints", "lint_rules", "lint_formats", "browser", "previews",
     "farms", "installed", "packages", "shells", "release_checks", "package", "house", "words", "spelling", "stored",
 )
 # those that are run only where they are asked for

@@ -17,7 +17,8 @@ PACKAGE = os.path.join(TOP, "tools", "vindaesk")
 # from the lowest; those of one row do not use each other
 LAYERS = (
     ("common",), ("provenance",), ("program",), ("scripts",), ("layouts", "resources"), ("pictures",), ("views",),
-    ("apps",), ("building", "installing", "lint", "pages", "session", "testing"), ("server",), ("command_line",),
+    ("apps",), ("building", "installing", "lint", "pages", "session", "testing"), ("language", "preview", "server"),
+    ("command_line",),
 )
 
 

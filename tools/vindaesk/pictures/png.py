@@ -42,9 +42,9 @@ def scanlines(picture: Picture, scale: int) -> Iterator[bytes]:
             yield same
 
 
-def written(picture: Picture, scale: int = 1) -> bytes:
-    """A picture as a file, each of its pixels as a square of `scale` by `scale`."""
-    packer = zlib.compressobj(9)
+def written(picture: Picture, scale: int = 1, level: int = 9) -> bytes:
+    """A picture as a file, each of its pixels as a square of `scale` by `scale`; the level is that of zlib."""
+    packer = zlib.compressobj(level)
     body = b"".join(packer.compress(line) for line in scanlines(picture, scale)) + packer.flush()
     head = struct.pack(">IIBBBBB", picture.width * scale, picture.height * scale, 8, 2, 0, 0, 0)
     return SIGNATURE + chunk(b"IHDR", head) + chunk(b"IDAT", body) + chunk(b"IEND", b"")

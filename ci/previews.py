@@ -1,0 +1,474 @@
+"""Tries tools/preview: over HTTP as a page does, and in Chromium."""
+import contextlib
+import http.client
+import json
+import os
+import re
+import shutil
+import signal
+import socket
+import struct
+import subprocess
+import time
+from typing import Any, Callable, Dict, Iterator, List, Optional, Tuple
+
+import chromium
+from running import SECONDS, TOP, Checks, Skipped, named
+from tools import EXAMPLES, RED, Place, place
+from vindaesk.pictures import png
+
+# from a saved file to the picture of 200 views, in seconds, and how many times that is tried: others share the machine
+MOST = 0.150
+TRIES = 8
+TOUCHED = """window 160 120
+add root FrameLayout match match
+bg v1 #ffeceff1
+add v1 ScrollView match match
+id v2 @7f080001
+add v2 LinearLayout match wrap
+orient v3 vertical
+add v3 TextView match 60
+text v4 Send
+answer v4 click
+add v3 View match 200
+frame
+"""
+SOURCE = """<?xml version="1.0" encoding="utf-8"?>
+<!-- é -->
+<LinearLayout xmlns:android="http://schemas.android.com/apk/res/android"
+    android:layout_width = "match_parent" android:layout_height='match_parent'\tandroid:orientation="vertical">
+    <TextView android:id="@+id/send" android:layout_width="wrap_content"
+        android:layout_height="wrap_content" android:text="A &amp; &lt;b&gt;"\r
+        android:padding="8dp"/>
+</LinearLayout>
+"""
+
+
+def of_views(count: int, text: str = "item") -> str:
+    """A script of a number of views."""
+    lines = ["window 360 640", "add root LinearLayout match match", "orient v1 vertical"]
+    for number in range(2, count + 1):
+        lines += ["add v1 TextView match wrap", "text v%d %s %d" % (number, text, number), "bg v%d #ff%06x" % (number, number * 7919)]
+    return "\n".join([*lines, "frame", ""])
+
+
+class Page:
+    """A preview that runs, and what a page asks it."""
+
+    def __init__(self, started: "subprocess.Popen[bytes]"):
+        self.started = started
+        assert started.stdout is not None
+        self.address = started.stdout.readline().decode().strip()
+        found = re.fullmatch(r"http://127\.0\.0\.1:([0-9]+)/([\w-]{20,})/", self.address)
+        if not found:
+            raise AssertionError("it prints '%s'" % self.address)
+        self.port, self.key = int(found[1]), found[2]
+        self.events: Optional[http.client.HTTPResponse] = None
+        # the name of the configuration that came first
+        self.first = ""
+
+    def ask(self, method: str, path: str, body: bytes = b"", **headers: str) -> Tuple[int, bytes]:
+        """Status and body of an answer; in the names of headers `_` is a dash."""
+        connection = http.client.HTTPConnection("127.0.0.1", self.port, timeout=SECONDS)
+        try:
+            sent = {name.replace("_", "-"): value for name, value in headers.items()}
+            connection.request(method, path, body or None, sent)
+            answer = connection.getresponse()
+            return answer.status, answer.read()
+        finally:
+            connection.close()
+
+    def read(self, path: str) -> bytes:
+        """What is at an address after the key."""
+        status, body = self.ask("GET", "/%s/%s" % (self.key, path))
+        if status != 200:
+            raise AssertionError("%s: status %d, %r" % (path, status, body))
+        return body
+
+    def post(self, path: str, value: object) -> Tuple[int, Any]:
+        """Status and answer to JSON that is sent."""
+        status, body = self.ask("POST", "/%s/%s" % (self.key, path), json.dumps(value).encode(), Content_Type="application/json")
+        return status, json.loads(body.decode())
+
+    def next(self) -> Any:
+        """The next message of the preview."""
+        if self.events is None:
+            connection = http.client.HTTPConnection("127.0.0.1", self.port, timeout=SECONDS)
+            connection.request("GET", "/%s/events" % self.key)
+            self.events = connection.getresponse()
+        while True:
+            line = self.events.readline()
+            if not line:
+                raise AssertionError("the messages end")
+            if line.startswith(b"data: "):
+                return json.loads(line[len("data: ") :].decode())
+
+    def until(self, right: Callable[[Any], bool]) -> Any:
+        """The first message for which something is true."""
+        until = time.monotonic() + SECONDS
+        while time.monotonic() < until:
+            found = self.next()
+            if right(found):
+                return found
+        raise AssertionError("no such message comes")
+
+    def row(self, right: Callable[[Any], bool], name: str = "") -> Any:
+        """A configuration by its name, or the first one, once something is true of it."""
+        def row_of(found: Any) -> Any:
+            return next((it for it in found["configurations"] if it["name"] == name or not name), None)
+
+        found = row_of(self.until(lambda it: bool(row_of(it)) and right(row_of(it))))
+        self.first = self.first or found["name"]
+        return found
+
+    def state(self, name: str) -> Any:
+        """All of a configuration."""
+        return json.loads(self.read("state?configuration=" + name).decode())
+
+    def picture(self, digest: str) -> png.Picture:
+        """A picture by its digest."""
+        return png.parsed(self.read("picture/%s.png" % digest))
+
+
+@contextlib.contextmanager
+def previewed(it: Place, *words: str) -> Iterator[Page]:
+    """A preview, for as long as it is used."""
+    with it.start("tools/preview", *words, stderr=subprocess.DEVNULL) as started:
+        try:
+            yield Page(started)
+        finally:
+            started.send_signal(signal.SIGINT)
+            started.wait(SECONDS)
+
+
+def pictures_are_those_of_other_tools() -> str:
+    """The picture of a script is that of screenshot, and that of an app that of app."""
+    with place() as it:
+        it.copy(os.path.join(EXAMPLES, "screen.script"))
+        it.copy(os.path.join(EXAMPLES, "trips", "trips.apk"))
+        shutil.copytree(os.path.join(EXAMPLES, "trips", "res"), os.path.join(it.folder, "app", "res"))
+        it.copy(os.path.join(EXAMPLES, "card.script"))
+        with open(os.path.join(EXAMPLES, "screen.png"), "rb") as file:
+            wanted = png.parsed(file.read())
+        with previewed(it, "screen.script") as page:
+            if page.picture(page.row(lambda row: row["picture"])["picture"]) != wanted:
+                return "the picture of a script is another one than the stored"
+        for words, name in ((("trips.apk", "home"), "phone"), (("app/res/layout/home.xml",), "phone"), (("app", "home"), "night")):
+            device = {"phone": "w360dp-h640dp", "night": "w360dp-h640dp-night"}[name]
+            app = words[0] if words[0] == "trips.apk" else "app"
+            it.call("app", app, "home", "--config", device, "--picture", "a.png")
+            with previewed(it, *words) as page:
+                row = page.row(lambda row: row["picture"] or row["messages"], name)
+                if row["messages"] or page.picture(row["picture"]) != png.parsed(it.read("a.png")):
+                    return "%s: %s" % (words, row["messages"] or "another picture than that of app")
+    return ""
+
+
+def configurations() -> str:
+    """The windows of each configuration, the direction, the density, and colours of the night."""
+    with place() as it:
+        it.put("a.xml", SOURCE.replace('android:padding="8dp"', 'android:background="@color/back"'))
+        it.put("ids.txt", "app:color/back = 0x7f050001\n")
+        it.put("resources.lines", "res @7f050001 color #ff0000ff\n")
+        it.put("resources-night.lines", "res @7f050001 color #ff00ff00\n")
+        with previewed(it, "a.xml") as page:
+            rows = page.until(lambda found: len(found["configurations"]) == 6)["configurations"]
+            states = {row["name"]: page.state(row["name"]) for row in rows}
+    windows = {name: state["window"] for name, state in states.items()}
+    wanted = {"phone": [360, 640], "tablet": [800, 1280], "landscape": [640, 360], "right-to-left": [360, 640],
+              "night": [360, 640], "200-percent": [720, 1280]}
+    if windows != wanted:
+        return "windows: %s" % windows
+    texts = {name: state["views"][1]["window"] for name, state in states.items()}
+    backs = {name: state["views"][1]["background"] for name, state in states.items()}
+    if (texts["phone"], texts["right-to-left"], backs["night"], backs["phone"]) != (
+            [0, 0, 42, 8], [318, 0, 360, 8], "#ff00ff00", "#ff0000ff"):
+        return "bounds %s, backgrounds %s" % (texts, backs)
+    return ""
+
+
+def changes_come_in_time() -> str:
+    """From a saved file to the picture of 200 views, of tries the quickest, since others use the machine too."""
+    with place() as it:
+        it.put("a.script", of_views(200))
+        with previewed(it, "a.script") as page:
+            old = page.row(lambda row: row["picture"] and row["findings"] is not None)["picture"]
+            times = []
+            for number in range(TRIES):
+                page.until(lambda found: all(row["findings"] is not None or row["messages"] for row in found["configurations"]))
+                text = of_views(200, "changed %d" % number)
+                begun = time.monotonic()
+                it.put("a.script", text)
+                row = page.row(lambda row: row["picture"] not in (None, old) and not row["messages"])
+                page.read("picture/%s.png" % row["picture"])
+                times.append(time.monotonic() - begun)
+                old = row["picture"]
+                if min(times) <= MOST:
+                    return ""
+    return "the quickest change took %d ms" % (1000 * min(times))
+
+
+def broken_files_keep_the_picture() -> str:
+    """While a file is broken the last good picture stays, with the place of the fault; then the new one comes."""
+    with place() as it:
+        it.put("a.script", TOUCHED)
+        it.put("b.xml", SOURCE)
+        for name, bad, good, said in (
+            ("a.script", TOUCHED.replace("add v1 Scr", "ad v1 Scr"), TOUCHED.replace("ffeceff1", "ff00ff00"),
+             "a.script:4:1: 31 Syntax: no line begins with 'ad'; did you mean 'add'?"),
+            ("b.xml", SOURCE.replace("8dp", "8dq"), SOURCE.replace("8dp", "9dp"),
+             "b.xml:5:5: android:padding: '8dq' does not fit: it is a number with a unit as 16dp or a resource as @7f050001"),
+            ("b.xml", SOURCE[:-12], SOURCE, "b.xml:8:1: this is no XML: unclosed token"),
+        ):
+            with previewed(it, name) as page:
+                old = page.row(lambda row: row["picture"] and not row["messages"])["picture"]
+                it.put(name, bad)
+                row = page.row(lambda row: row["messages"])
+                if row["messages"][0] != said or not row["old"] or row["picture"] != old:
+                    return "of a broken file: %s" % row
+                if not page.state(row["name"])["views"]:
+                    return "the views of the last good file are not there"
+                os.unlink(os.path.join(it.folder, name))
+                row = page.row(lambda row: "No such file" in "".join(row["messages"]))
+                if row["picture"] != old:
+                    return "of a missing file: %s" % row
+                it.put(name, good)
+                row = page.row(lambda row: not row["messages"])
+                if row["old"] or row["picture"] == old:
+                    return "after that: %s" % row
+    return ""
+
+
+def touches_are_answered() -> str:
+    """Lines are carried out by the program after the script, and each has the reply that the program gives."""
+    with place() as it:
+        it.put("a.script", TOUCHED)
+        lines = ["down 0 80 30", "up 0", "frame", "down 3 80 100", "move 3 80 40", "up 3", "frame", "up 3"]
+        with previewed(it, "a.script") as page:
+            page.row(lambda row: row["picture"])
+            status, found = page.post("touch", {"configuration": "as-it-is", "lines": lines})
+            events = found.get("events", [])
+            again = page.post("touch", {"configuration": "as-it-is", "lines": ["frame"]})[1]
+            page.post("reset", {})
+            anew = page.post("touch", {"configuration": "as-it-is", "lines": ["frame"]})[1]
+            moved = page.picture(found["picture"])
+        whole = TOUCHED + "\n".join(lines[:-1]) + "\n"
+        written = it.start("vindaesk", "run").communicate(whole.encode(), SECONDS)[0].decode()
+        it.call("screenshot", "-", "a.png", given=whole)
+        wanted = png.parsed(it.read("a.png"))
+    replies = [reply for event in events[:-1] for reply in event["replies"]]
+    if status != 200 or replies != written.splitlines()[-len(replies) :]:
+        return "status %d: %s" % (status, replies)
+    if [event["taken"] for event in events[:3]] != [4, 4, None] or not events[-1]["refused"]:
+        return "views that took them: %s" % [(event["taken"], event["refused"]) for event in events]
+    # a drag of 60 pixels, less the 8 that Android takes for a touch that stays in its place
+    offsets = [it["views"][1]["scroll"] for it in (found, again, anew)]
+    if offsets != [52, 52, 0]:
+        return "offsets of what scrolls: %s" % offsets
+    return "" if moved == wanted else "the picture after touches is another one than that of screenshot"
+
+
+def writes_back() -> str:
+    """A value is written into its place, and no other byte changes."""
+    with place() as it:
+        shutil.copytree(os.path.join(EXAMPLES, "trips", "res"), os.path.join(it.folder, "app", "res"))
+        home = "app/res/layout/search.xml"
+        app_text = it.read(home).decode()
+        old_name = re.search(r'android:layout_height="([^"]*)"', app_text)
+        assert old_name is not None
+        for name, text, view, key, new, wanted in (
+            ("a.script", TOUCHED, 4, "text", "Ö \\n b", TOUCHED.replace("text v4 Send", "text v4 Ö \\n b")),
+            ("b.script", TOUCHED.replace("\n", "\r\n"), 4, "add", "TextView match 50",
+             TOUCHED.replace("\n", "\r\n").replace("match 60", "match 50")),
+            ("c.xml", SOURCE, 2, "android:text", "\"'<&>", SOURCE.replace("A &amp; &lt;b&gt;", "&quot;'&lt;&amp;>")),
+            ("d.xml", SOURCE, 1, "android:layout_height", "wrap_content",
+             SOURCE.replace("='match_parent'", "='wrap_content'")),
+            ("e.xml", SOURCE.replace("\n", "\r\n"), 2, "android:padding", "9dp", SOURCE.replace("\n", "\r\n").replace("8dp", "9dp")),
+            (home, app_text, 2, "android:layout_height", "300dp",
+             app_text[: old_name.start(1)] + "300dp" + app_text[old_name.end(1) :]),
+        ):
+            it.put(name, text)
+            os.chmod(os.path.join(it.folder, name), 0o640)
+            with previewed(it, name, "--write") as page:
+                page.row(lambda row: row["picture"])
+                asked = value_of(page, view, key)
+                status, found = page.post("edit", {**asked, "text": new})
+                if status != 200 or it.read(name).decode() != wanted:
+                    return "%s: status %d, %s, %r" % (name, status, found, it.read(name))
+                page.row(lambda row: row["picture"] and not row["messages"])
+                if os.stat(os.path.join(it.folder, name)).st_mode & 0o777 != 0o640:
+                    return "the rights of the file are others"
+    return ""
+
+
+def value_of(page: Page, view: int, name: str) -> Dict[str, Any]:
+    """The request that writes a value of a view of the first configuration, less the new text."""
+    first = page.state(page.first)
+    values = next(it for it in first["views"] if it["number"] == view)["values"]
+    number = next(place for place, it in enumerate(values) if it["name"] == name)
+    return {"configuration": first["name"], "view": view, "place": number, "old": values[number]["value"]}
+
+
+def refuses_to_write() -> str:
+    """Nothing is written without --write, into a file that changed meanwhile, or what does not fit."""
+    with place() as it:
+        it.put("a.xml", SOURCE)
+        it.put("a.script", TOUCHED)
+        with previewed(it, "a.xml") as page:
+            page.row(lambda row: row["picture"])
+            found = page.post("edit", {**value_of(page, 2, "android:padding"), "text": "9dp"})
+            if found != (409, {"error": "nothing is written without --write"}):
+                return "without --write: %s" % (found,)
+        for name, view, key, text, said in (
+            ("a.xml", 2, "android:padding", "9dq", "android:padding: '9dq' does not fit"),
+            ("a.script", 4, "text", "a\nb", "a line of a script has no line feed"),
+            ("a.script", 3, "orient", "verticl", "'verticl' does not fit; did you mean 'vertical'?"),
+            ("a.script", 1, "bg", "@color/x", "@color/x has no id"),
+            ("a.xml", 2, "android:text", "\ud800", "half of a character"),
+        ):
+            before = it.read(name)
+            with previewed(it, name, "--write") as page:
+                page.row(lambda row: row["picture"])
+                status, found = page.post("edit", {**value_of(page, view, key), "text": text})
+                if status != 409 or said not in found["error"] or it.read(name) != before:
+                    return "%r: status %d, %s" % (text, status, found)
+        with previewed(it, "a.xml", "--write") as page:
+            page.row(lambda row: row["picture"])
+            asked = value_of(page, 2, "android:padding")
+            other = page.post("edit", {**asked, "old": "7dp", "text": "9dp"})
+            it.put("a.xml", SOURCE + "\n")
+            found = page.post("edit", {**asked, "text": "9dp"})
+            if other[0] != 409 or found[0] != 409 or it.read("a.xml") != (SOURCE + "\n").encode():
+                return "of a file that changed: %s, %s" % (other, found)
+    return ""
+
+
+def hostile_requests() -> str:
+    """Requests by other names, without the key, of other pages, and broken ones are refused."""
+    with place() as it:
+        it.put("a.script", TOUCHED)
+        with previewed(it, "a.script", "--write") as page:
+            page.row(lambda row: row["picture"])
+            good = "/%s/" % page.key
+            touch, json_type = b'{"configuration": "as-it-is", "lines": ["frame"]}', {"Content_Type": "application/json"}
+            for wanted, method, path, body, headers in (
+                (403, "GET", good, b"", {"Host": "evil.example:%d" % page.port}),
+                (403, "GET", good, b"", {"Host": "127.0.0.1"}),
+                (200, "GET", good, b"", {"Host": "localhost:%d" % page.port}),
+                (403, "GET", "/", b"", {}),
+                (403, "GET", "/" + page.key, b"", {}),
+                (403, "GET", "/%s/" % ("x" * len(page.key)), b"", {}),
+                (403, "GET", "//%s/" % page.address[:-2], b"", {}),
+                (404, "GET", good + "../../etc/passwd", b"", {}),
+                (404, "GET", good + "touch", b"", {}),
+                (404, "GET", good + "picture/../a.png", b"", {}),
+                (409, "GET", good + "state?configuration=no", b"", {}),
+                (400, "GET", good + "state?configuration=as-it-is&frame=-1", b"", {}),
+                (404, "POST", good + "state", b"{}", json_type),
+                (501, "PUT", good + "edit", b"{}", json_type),
+                (501, "OPTIONS", good + "edit", b"", {}),
+                (403, "POST", good + "touch", touch, {**json_type, "Origin": "http://evil.example"}),
+                (403, "POST", good + "touch", touch, {**json_type, "Origin": "null"}),
+                (403, "POST", good + "touch", touch, {**json_type, "Sec_Fetch_Site": "cross-site"}),
+                (415, "POST", good + "touch", touch, {"Content_Type": "text/plain"}),
+                (400, "POST", good + "touch", b"[" * 20000, json_type),
+                (400, "POST", good + "touch", b"\xff", json_type),
+                (400, "POST", good + "touch", b'{"configuration": "as-it-is", "lines": ["restore 00"]}', json_type),
+                (400, "POST", good + "touch", b'{"configuration": "as-it-is", "lines": ["frame\\nframe"]}', json_type),
+                (400, "POST", good + "touch", b'{"configuration": 3, "lines": ["frame"]}', json_type),
+                (413, "POST", good + "touch", b" " * 70000, json_type),
+                (400, "POST", good + "edit", b'{"view": true}', json_type),
+                (409, "POST", good + "edit", b'{"configuration": "as-it-is", "view": 99, "place": 0, "old": "", "text": ""}', json_type),
+                (200, "POST", good + "touch", touch, {**json_type, "Origin": "http://127.0.0.1:%d" % page.port}),
+            ):
+                status, answer = page.ask(method, path, body, **headers)
+                if status != wanted:
+                    return "%s %s %r %s: status %d in place of %d, %r" % (method, path, body[:60], headers, status, wanted, answer[:200])
+            why = raw(page) or bound_elsewhere(page.port)
+            return why or ("" if it.read("a.script") == TOUCHED.encode() else "the file changed")
+
+
+def raw(page: Page) -> str:
+    """How bytes that are no request end the preview, or a connection that stays open and says nothing."""
+    opened = []
+    for text in (b"", b"\0" * 100, b"GET " + b"x" * 70000, b"GET / HTTP/1.1\r\nHost: a\r\nHost: b\r\n\r\n", b"POST /%s/edit HTTP/1.1\r\n"
+                 b"Host: 127.0.0.1:%d\r\nContent-Type: application/json\r\nContent-Length: 99\r\n\r\n{" % (page.key.encode(), page.port)):
+        connection = socket.create_connection(("127.0.0.1", page.port), SECONDS)
+        with contextlib.suppress(OSError):
+            connection.sendall(text)
+        opened.append(connection)
+    status, _ = page.ask("GET", "/%s/" % page.key)
+    for connection in opened:
+        connection.setsockopt(socket.SOL_SOCKET, socket.SO_LINGER, struct.pack("ii", 1, 0))
+        connection.close()
+    return "" if status == 200 else "after broken requests: status %d" % status
+
+
+def bound_elsewhere(port: int) -> str:
+    """By which address of this machine, other than the one of loopback, the port can be reached."""
+    with open("/proc/net/tcp", encoding="ascii") as file:
+        rows = [line.split()[1] for line in file.readlines()[1:] if line.split()[3] == "0A"]
+    found = [it for it in rows if int(it.split(":")[1], 16) == port]
+    return "" if found == ["0100007F:%04X" % port] else "it listens at %s" % found
+
+
+def ends_cleanly() -> str:
+    """Ctrl-C ends it with the status 0 and without a word, and its live program; SIGTERM by that signal."""
+    with place() as it:
+        it.put("a.script", TOUCHED)
+        for number, wanted, said in ((signal.SIGINT, 0, b""), (signal.SIGTERM, 143, b"preview: ended by the signal SIGTERM\n")):
+            started = it.start("tools/preview", "a.script")
+            page = Page(started)
+            page.until(lambda found: len(found["configurations"]) == 7)
+            page.row(lambda row: row["findings"] is not None, "200-percent")
+            page.post("touch", {"configuration": "as-it-is", "lines": ["frame"]})
+            children = children_of(started.pid)
+            begun = time.monotonic()
+            started.send_signal(number)
+            _, errors = started.communicate(timeout=SECONDS)
+            took = time.monotonic() - begun
+            left = [child for child in children if os.path.exists("/proc/%d" % child)]
+            if (started.returncode, errors, left, len(children)) != (wanted, said, [], 1) or took > 5:
+                return "status %d, it says %r after %.1f s, and of %s there are %s" % (
+                    started.returncode, errors, took, children, left)
+    return ""
+
+
+def children_of(process: int) -> List[int]:
+    """The processes that a process has started."""
+    found = []
+    for task in os.listdir("/proc/%d/task" % process):
+        with open("/proc/%d/task/%s/children" % (process, task), encoding="ascii") as file:
+            found += [int(it) for it in file.read().split()]
+    return found
+
+
+def wrong_calls() -> str:
+    with place() as it:
+        it.put("a.script", TOUCHED)
+        started = it.start("tools/preview", "--help")
+        out, _ = started.communicate(timeout=SECONDS)
+        if started.returncode or not out.startswith(b"usage: preview "):
+            return "--help: status %d, %r" % (started.returncode, out)
+        for words, status, said in (
+            (("no.script",), 2, "preview: no.script cannot be read: No such file or directory\n"),
+            ((".",), 2, "of an app one layout is shown: name it after ."),
+            (("a.script", "home"), 2, "a.script is no app, so that no layout of it has the name 'home'"),
+            (("a.script", "--port", "70000"), 2, "'70000' is no number from 0 to 65535"),
+        ):
+            found = it.call("preview", *words)
+            if found[0] != status or said not in found[2] or found[1]:
+                return "%s: %s" % (words, found)
+        with socket.create_server(("127.0.0.1", 0)) as taken:
+            port = "%d" % taken.getsockname()[1]
+            found = it.call("preview", "a.script", "--port", port)
+            if found[0] != 2 or "the port %s cannot be used: Address already in use" % port not in found[2]:
+                return "of a port that is taken: %s" % (found,)
+    return ""
+
+
+def checks() -> Checks:
+    yield from named("the preview", (
+        pictures_are_those_of_other_tools, configurations, changes_come_in_time, broken_files_keep_the_picture,
+        touches_are_answered, writes_back, refuses_to_write, hostile_requests, ends_cleanly, wrong_calls,
+    ))

@@ -1,0 +1,90 @@
+"""Writes a value back into the text of its file, and changes nothing else in it."""
+import os
+import shutil
+import tempfile
+
+from ..common import files
+from ..common.failures import NOT_RUN, WRONG, Failure
+from ..layouts import attributes, values
+from ..layouts.documents import ANDROID
+from ..layouts.values import Unfit
+from ..scripts import grammar
+from ..scripts.names import Ids
+from ..scripts.resource_names import Names
+from . import spots
+from .spots import Spot
+
+PREFIX = "android:"
+# a value that begins so names something, which only the app knows
+NAMING = ("@", "?")
+ESCAPES = {"&": "&amp;", "<": "&lt;", "\n": "&#10;", "\t": "&#9;", "\r": "&#13;"}
+QUOTES = {'"': "&quot;", "'": "&apos;"}
+
+
+def check_attribute(spot: Spot, text: str) -> None:
+    """A value that an attribute cannot have is a failure."""
+    name = spot.name[len(PREFIX) :]
+    if not spot.name.startswith(PREFIX) or text.strip().startswith(NAMING) or name not in attributes.KNOWN:
+        return
+    try:
+        values.read(text, attributes.form_of(ANDROID, name), Names())
+    except Unfit as unfit:
+        raise Failure("%s: %s" % (spot.name, unfit), WRONG)
+
+
+def check_line(line: bytes, ids: Ids) -> None:
+    """A line that has no form is a failure."""
+    if b"\n" in line or b"\r" in line:
+        raise Failure("a line of a script has no line feed; \\n in a text means one", WRONG)
+    found = ids.expanded(line)
+    if found.unknown:
+        raise Failure(found.unknown[0].why, WRONG)
+    reading = grammar.read(found.text.decode())
+    misfit = reading.misfit or grammar.out_of_bounds(reading)
+    if misfit:
+        raise Failure(misfit.why, WRONG)
+
+
+def escaped(spot: Spot, text: str) -> bytes:
+    """A text as the source of an attribute has it."""
+    return "".join(QUOTES[it] if it == spot.quote else ESCAPES.get(it, it) for it in text).encode()
+
+
+def edited(body: bytes, spot: Spot, text: str, ids: Ids) -> bytes:
+    """A file with another text in the place of a value."""
+    try:
+        text.encode()
+    except UnicodeEncodeError:
+        raise Failure("the text has half of a character", WRONG)
+    if spot.quote:
+        check_attribute(spot, text)
+        return body[: spot.start] + escaped(spot, text) + body[spot.end :]
+    begin = body.rfind(b"\n", 0, spot.start) + 1
+    check_line(body[begin : spot.start] + text.encode(), ids)
+    return body[: spot.start] + text.encode() + body[spot.end :]
+
+
+def write(spot: Spot, text: str, known: str, ids: Ids) -> None:
+    """Writes a value. The file has to be the one of this digest still."""
+    body = files.read(spot.file)
+    if spots.digest(body) != known:
+        raise Failure("%s changed meanwhile; nothing is written" % spot.file, NOT_RUN)
+    replace(spot.file, edited(body, spot, text, ids))
+
+
+def replace(path: str, body: bytes) -> None:
+    """Puts a text in the place of a file's, whose rights stay; it is never half written."""
+    path = os.path.realpath(path)
+    place = None
+    try:
+        handle, place = tempfile.mkstemp(prefix=".", dir=os.path.dirname(path))
+        with open(handle, "wb") as file:
+            file.write(body)
+        shutil.copymode(path, place)
+        os.replace(place, path)
+        place = None
+    except OSError as error:
+        raise Failure("%s cannot be written: %s" % (path, error.strerror), NOT_RUN)
+    finally:
+        if place is not None:
+            os.unlink(place)

@@ -1,0 +1,282 @@
+"""The state of a preview: what each configuration shows, kept up to date by a thread as files change."""
+import threading
+from dataclasses import dataclass, field, replace
+from typing import Dict, List, Optional, Tuple
+
+from ..common.failures import WRONG, Failure
+from ..common.messages import printable
+from ..session import LineRefused
+from ..testing.configurations import Configuration
+from ..views import placement
+from ..views.placement import Placed
+from . import drawing, edits, findings, spots, watcher
+from .drawing import Drawn
+from .spots import Spots
+from .subjects import Layout, Subject
+from .touches import Live
+
+# how many pictures are kept, for pages that still show one
+PICTURES = 64
+
+Record = Dict[str, object]
+
+
+@dataclass
+class Shown:
+    """What a configuration shows: the layout and what was drawn of it when it was good last; the values in its files;
+    what lint finds, None until it was asked; and what is wrong now."""
+
+    version: int = 0
+    # the version in which it was drawn
+    drawn_in: int = 0
+    layout: Optional[Layout] = None
+    drawn: Drawn = field(default_factory=Drawn)
+    spots: Spots = field(default_factory=Spots)
+    findings: Optional[List[Record]] = None
+    messages: List[str] = field(default_factory=list)
+    is_old: bool = False
+
+
+def view_record(it: Placed, shown: Shown) -> Record:
+    """A view as the page has it."""
+    place = shown.layout.places.get(it.view.number) if shown.layout else None
+    of_view = shown.spots.of_views.get(it.view.number, [])
+    values = [{"name": spot.name, "value": spot.text, "file": spot.file, "line": spot.line} for spot in of_view]
+    element = {"name": place.element, "file": place.file, "line": place.line, "column": place.column,
+               "notes": list(place.notes)} if place else None
+    return {**placement.record(it), "answer": it.view.answer, "padding": it.view.given.get("padding", ""),
+            "margins": it.view.given.get("margins", ""), "element": element, "values": values}
+
+
+def spots_of(layout: Layout, drawn: Drawn) -> Spots:
+    """The values of views in the files of a layout."""
+    if layout.places:
+        places = {number: (it.file, it.line, it.column) for number, it in layout.places.items()}
+        return spots.of_places(places)
+    return spots.of_script(layout.script, drawn.views, drawn.added)
+
+
+class Preview:
+    """All configurations of a subject."""
+
+    def __init__(self, subject: Subject, can_write: bool = False):
+        self.subject, self.can_write = subject, can_write
+        self.shown: Dict[str, Shown] = {}
+        self.pictures: Dict[str, bytes] = {}
+        self.version = 0
+        self.first = ""
+        self.changed = threading.Condition()
+        # what has to be carried out one after another: reading, and what the live program is asked
+        self.reading, self.asking = threading.Lock(), threading.Lock()
+        self.live: Optional[Live] = None
+        # of which layout, up to which of its frames, the live program is
+        self.live_of: Tuple[Optional[Layout], int] = (None, 0)
+        self.ended, self.stale = threading.Event(), threading.Event()
+        self.threads = [threading.Thread(target=it, daemon=True) for it in (self.watch, self.draw)]
+
+    # threads
+
+    def start(self) -> None:
+        """Begins to follow the files."""
+        for it in self.threads:
+            it.start()
+
+    def end(self) -> None:
+        """Ends the threads and the live program."""
+        self.ended.set()
+        self.stale.set()
+        for it in self.threads:
+            it.join(5)
+        self.drop_live()
+        self.subject.close()
+        with self.changed:
+            self.changed.notify_all()
+
+    def watch(self) -> None:
+        """Follows the files."""
+        self.stale.set()
+        watcher.follow(self.subject.files, self.stale.set, self.ended)
+
+    def draw(self) -> None:
+        """Draws all configurations each time that files changed: first the one that is looked at."""
+        while not self.ended.is_set():
+            self.stale.wait()
+            self.stale.clear()
+            if not self.ended.is_set():
+                self.draw_all()
+
+    def draw_all(self) -> None:
+        """Draws all configurations, as long as no file changes again."""
+        why = ""
+        with self.reading:
+            try:
+                self.subject.load()
+            except Failure as failure:
+                why = str(failure)
+        for wanted in self.ordered():
+            if self.stale.is_set():
+                return
+            self.put(wanted.name, self.made(wanted, why))
+        for wanted in self.ordered():
+            if self.stale.is_set():
+                return
+            self.find(wanted.name)
+
+    def ordered(self) -> List[Configuration]:
+        """The configurations, the one that is looked at first."""
+        return sorted(self.subject.configurations, key=lambda it: it.name != self.first)
+
+    def made(self, wanted: Configuration, why: str, frame: int = 0) -> Shown:
+        """What a configuration shows now; why it cannot be read, if it cannot."""
+        shown = Shown(messages=why.splitlines())
+        try:
+            if why:
+                return shown
+            with self.reading:
+                layout = self.subject.layout(wanted)
+            layout = replace(layout, script=drawing.up_to(layout.script, frame))
+            shown.layout, shown.drawn = layout, drawing.drawn(layout.script)
+            shown.spots = spots_of(layout, shown.drawn)
+            shown.messages = ["%s:%d:%d: %s: %s" % it for it in shown.drawn.refused]
+            shown.messages += [shown.drawn.why] if shown.drawn.why else []
+        except Failure as failure:
+            shown.messages = str(failure).splitlines()
+        return shown
+
+    def put(self, name: str, new: Shown) -> None:
+        """Shows what a configuration makes; the last good picture stays, where that is not good."""
+        old = self.shown.get(name)
+        is_good = new.layout is not None and new.drawn.is_good
+        if not is_good and old is not None and old.layout is not None and old.drawn.is_good:
+            new = replace(old, messages=new.messages, is_old=True)
+        with self.changed:
+            self.version += 1
+            new.version = self.version
+            new.drawn_in = new.drawn_in or self.version
+            if new.drawn.picture:
+                self.keep(new.drawn.picture, new.drawn.digest)
+            self.shown[name] = new
+            self.changed.notify_all()
+
+    def find(self, name: str) -> None:
+        """Has lint look at a configuration that was drawn."""
+        shown = self.shown[name]
+        if shown.layout is None or shown.findings is not None or not shown.drawn.is_good:
+            return
+        try:
+            found = findings.findings_of(shown.layout.script)
+        except Failure as failure:
+            found = []
+            shown.messages.append(str(failure))
+        with self.changed:
+            self.version += 1
+            shown.version = self.version
+            shown.findings = found
+            self.changed.notify_all()
+
+    # what a page asks
+
+    def keep(self, picture: bytes, digest: str) -> None:
+        """Keeps a picture for pages that ask for it."""
+        self.pictures.pop(digest, None)
+        self.pictures[digest] = picture
+        for old in list(self.pictures)[:-PICTURES]:
+            if all(it.drawn.digest != old for it in self.shown.values()):
+                del self.pictures[old]
+
+    def summary(self) -> Record:
+        """All configurations in short."""
+        with self.changed:
+            rows = [self.row(it) for it in self.subject.configurations if it.name in self.shown]
+            return {"version": self.version, "title": self.subject.title(), "write": self.can_write,
+                    "configurations": rows}
+
+    def row(self, wanted: Configuration) -> Record:
+        """A configuration in short."""
+        it = self.shown[wanted.name]
+        return {"name": wanted.name, "version": it.version, "picture": it.drawn.digest or None,
+                "window": it.drawn.window, "messages": [printable(text) for text in it.messages], "old": it.is_old,
+                "findings": None if it.findings is None else len(it.findings)}
+
+    def state(self, name: str, frame: int = 0) -> Record:
+        """All of a configuration, after its last frame or another one."""
+        self.first = name
+        shown = self.of(name)
+        frames = len(drawing.frame_lines(shown.layout.script.lines)) if shown.layout else 0
+        if 0 < frame < frames and shown.layout:
+            shown = self.at_frame(shown, frame)
+        return {**self.row_of(name, shown), "views": [view_record(it, shown) for it in shown.drawn.views],
+                "found": shown.findings or [], "frames": frames, "frame": frame if 0 < frame < frames else frames}
+
+    def row_of(self, name: str, shown: Shown) -> Record:
+        """The short form of what is shown in a configuration."""
+        return {"name": name, "version": shown.version, "picture": shown.drawn.digest or None,
+                "drawn": shown.drawn_in, "window": shown.drawn.window,
+                "messages": [printable(text) for text in shown.messages], "old": shown.is_old, "write": self.can_write}
+
+    def at_frame(self, shown: Shown, frame: int) -> Shown:
+        """What a configuration shows after one of its frames."""
+        assert shown.layout is not None
+        layout = replace(shown.layout, script=drawing.up_to(shown.layout.script, frame))
+        drawn = drawing.drawn(layout.script)
+        with self.changed:
+            self.keep(drawn.picture, drawn.digest)
+        return replace(shown, layout=layout, drawn=drawn, findings=[])
+
+    def of(self, name: str) -> Shown:
+        """What a configuration shows."""
+        with self.changed:
+            if name not in self.shown:
+                raise Failure("there is no configuration '%s'" % name, WRONG)
+            return self.shown[name]
+
+    def wait(self, version: int, seconds: float) -> bool:
+        """Waits until there is something newer than a version; whether there is."""
+        with self.changed:
+            return self.changed.wait_for(lambda: self.version > version or self.ended.is_set(), seconds)
+
+    def drop_live(self) -> None:
+        """Ends the live program."""
+        with self.asking:
+            if self.live:
+                self.live.close()
+            self.live = None
+
+    def touch(self, name: str, lines: List[str], frame: int = 0) -> Record:
+        """Sends lines to the program that is kept running after a configuration's script, and says what it replies."""
+        shown = self.of(name)
+        if shown.layout is None:
+            raise Failure("there is nothing to touch yet", WRONG)
+        with self.asking:
+            if self.live is None or self.live_of[0] is not shown.layout or self.live_of[1] != frame:
+                if self.live:
+                    self.live.close()
+                self.live, self.live_of = Live(drawing.up_to(shown.layout.script, frame)), (shown.layout, frame)
+            return self.answered(self.live, lines, shown)
+
+    def answered(self, live: Live, lines: List[str], shown: Shown) -> Record:
+        """What the live program replies to lines, and what it shows then."""
+        try:
+            events = [live.sent(line) for line in lines]
+            body, digest = live.picture()
+            views = [view_record(it, shown) for it in live.views()]
+        except LineRefused as refused:
+            raise Failure(str(refused), WRONG)
+        except BaseException:
+            live.close()
+            self.live = None
+            raise
+        with self.changed:
+            self.keep(body, digest)
+        return {"events": events, "picture": digest, "views": views, "version": shown.version}
+
+    def edit(self, name: str, view: int, place: int, old: str, text: str) -> None:
+        """Writes one of a view's values back: the one of a place in its list, which had this text."""
+        if not self.can_write:
+            raise Failure("nothing is written without --write", WRONG)
+        shown = self.of(name)
+        of_view = shown.spots.of_views.get(view, [])
+        if not 0 <= place < len(of_view) or of_view[place].text != old or shown.layout is None:
+            raise Failure("the view has no such value any more; nothing is written", WRONG)
+        spot = of_view[place]
+        edits.write(spot, text, shown.spots.digests[spot.file], shown.layout.script.ids)
