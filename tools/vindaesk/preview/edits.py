@@ -6,13 +6,13 @@ import tempfile
 from ..common import files
 from ..common.failures import NOT_RUN, WRONG, Failure
 from ..layouts import attributes, values
+from ..layouts.attribute_places import Spot
 from ..layouts.documents import ANDROID
 from ..layouts.values import Unfit
 from ..scripts import grammar
 from ..scripts.names import Ids
 from ..scripts.resource_names import Names
 from . import spots
-from .spots import Spot
 
 PREFIX = "android:"
 # a value that begins so names something, which only the app knows

@@ -3,18 +3,16 @@ import hashlib
 import os
 import re
 from dataclasses import dataclass, field
-from typing import Dict, Iterator, List, Optional, Tuple
-from xml.parsers import expat
+from typing import Dict, Iterator, List, Tuple
 
 from ..common.failures import Failure
 from ..common import files
-from ..layouts import source_reader
+from ..layouts import attribute_places, source_reader
+from ..layouts.attribute_places import Spot
 from ..scripts import script
 from ..scripts.script import Script
 from ..views.placement import Placed
 
-TAG = re.compile(rb"<[^\s/>]+")
-ATTRIBUTE = re.compile(rb"\s+([^\s=]+)\s*=\s*(\"[^\"]*\"|'[^']*')")
 # lines that set something of the view that is their second word
 SETTING = {
     word.encode() for word in (
@@ -25,21 +23,6 @@ SETTING = {
 # up to the value of such a line, and of a line `add`
 BEFORE = re.compile(rb" *[^ ]+ +[^ ]+ ?")
 BEFORE_ADDED = re.compile(rb" *add +[^ ]+ +")
-PLAIN_ENCODINGS = (None, "utf-8", "us-ascii")
-
-
-@dataclass(frozen=True)
-class Spot:
-    """A value: what it is of, as `android:text` or `padding`; its text; its file and line; its first byte and the one
-    after its last; and the quotation mark around it, nothing in a line of a script."""
-
-    name: str
-    text: str
-    file: str
-    line: int
-    start: int
-    end: int
-    quote: str = ""
 
 
 @dataclass
@@ -53,53 +36,6 @@ class Spots:
 def digest(body: bytes) -> str:
     """By what another text of a file is seen."""
     return hashlib.sha256(body).hexdigest()
-
-
-class Source:
-    """Finds the values of a source: those of each element, by its line and column."""
-
-    def __init__(self, body: bytes, path: str):
-        self.body, self.path = body, path
-        self.found: Dict[Tuple[int, int], List[Spot]] = {}
-        self.encoding: Optional[str] = None
-        self.parser = parser = expat.ParserCreate()
-        parser.ordered_attributes = True
-        parser.StartElementHandler = self.start
-        parser.XmlDeclHandler = self.declaration
-
-    def declaration(self, version: str, encoding: Optional[str], standalone: int) -> None:
-        """The declaration before the first element."""
-        self.encoding = encoding.lower() if encoding else None
-
-    def start(self, name: str, pairs: List[str]) -> None:
-        """An element that begins."""
-        if self.encoding not in PLAIN_ENCODINGS:
-            return
-        line, column = self.parser.CurrentLineNumber, self.parser.CurrentColumnNumber + 1
-        tag = TAG.match(self.body, self.parser.CurrentByteIndex)
-        at = tag.end() if tag else len(self.body)
-        spots = []
-        for key, text in zip(pairs[::2], pairs[1::2]):
-            written = ATTRIBUTE.match(self.body, at)
-            if not written or written[1].decode("utf-8", "replace") != key:
-                return
-            at = written.end()
-            if key != "xmlns" and not key.startswith("xmlns:"):
-                number = line + self.body.count(b"\n", tag.start() if tag else 0, written.start(1))
-                quote = chr(self.body[written.start(2)])
-                spots.append(Spot(key, text, self.path, number, written.start(2) + 1, at - 1, quote))
-        self.found[line, column] = spots
-
-
-def of_source(body: bytes, path: str) -> Dict[Tuple[int, int], List[Spot]]:
-    """The values of a source, by line and column of their elements; none where it is no XML in UTF-8."""
-    source = Source(body, path)
-    try:
-        body.decode()
-        source.parser.Parse(body, True)
-    except (expat.ExpatError, LookupError, ValueError):
-        return {}
-    return source.found
 
 
 def starts_of(body: bytes) -> List[int]:
@@ -178,7 +114,7 @@ def of_places(places: Dict[int, Tuple[str, int, int]]) -> Spots:
                 body = files.read(path, source_reader.MAX_BYTES) if column else b""
             except Failure:
                 body = b""
-            known[path] = of_source(body, path) if body else {}
+            known[path] = attribute_places.of_source(body, path) if body else {}
             spots.digests[path] = digest(body)
         spots.of_views[view] = known[path].get((line, column), [])
     return spots
