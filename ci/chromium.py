@@ -7,7 +7,7 @@ import shutil
 import subprocess
 import tempfile
 import time
-from typing import Any
+from typing import Any, Sequence, Tuple
 
 COMMAND = shutil.which("chromium") or shutil.which("chromium-browser") or shutil.which("google-chrome")
 FLAGS = ["--headless=new", "--no-sandbox", "--disable-gpu", "--disable-dev-shm-usage", "--no-first-run",
@@ -98,12 +98,30 @@ class Browser:
 
     def open(self, path: str) -> None:
         """Opens a file, and waits until it is loaded."""
-        self.ask("Page.navigate", url="file://" + path)
+        self.go("file://" + path)
+
+    def go(self, address: str) -> None:
+        """Opens an address, and waits until it is loaded."""
+        self.ask("Page.navigate", url=address)
+        self.until("document.readyState === 'complete' && location.protocol === '%s:'" % address.split(":")[0])
+
+    def until(self, expression: str) -> None:
+        """Waits until an expression of the page is true."""
         until = time.monotonic() + SECONDS
-        while self.value("document.readyState + location.protocol") != "completefile:":
+        while not self.value(expression):
             if time.monotonic() > until:
-                raise TimeoutError("the page does not load within %d seconds" % SECONDS)
-            time.sleep(0.05)
+                raise TimeoutError("%s is not true within %d seconds" % (expression, SECONDS))
+            time.sleep(0.02)
+
+    def drag(self, points: Sequence[Tuple[float, float]]) -> None:
+        """Presses the mouse at the first place, moves it to the others, and releases it."""
+        kinds = ["mousePressed", *["mouseMoved"] * (len(points) - 1), "mouseReleased"]
+        for kind, (x, y) in zip(kinds, [*points, points[-1]]):
+            self.ask("Input.dispatchMouseEvent", type=kind, x=x, y=y, button="left", buttons=int(kind != "mouseReleased"), clickCount=1)
+
+    def write(self, text: str) -> None:
+        """Writes a text where the focus is."""
+        self.ask("Input.insertText", text=text)
 
     def click(self, x: float, y: float) -> None:
         """Clicks at a place of the window."""

@@ -4,9 +4,9 @@ import json
 import os
 import shutil
 import subprocess
-from typing import Any, Dict, Iterator, List, Optional, Tuple
+from typing import Any, Dict, Iterator, List, Tuple
 
-from running import SECONDS, TOP, Checks, named
+from running import SECONDS, Checks, named
 from tools import EXAMPLES, Place, place, unlike
 
 WRONG = """window 100 50

@@ -13,8 +13,8 @@ import time
 from typing import Any, Callable, Dict, Iterator, List, Optional, Tuple
 
 import chromium
-from running import SECONDS, TOP, Checks, Skipped, named
-from tools import EXAMPLES, RED, Place, place
+from running import SECONDS, Checks, Skipped, named
+from tools import EXAMPLES, Place, place
 from vindaesk.pictures import png
 
 # from a saved file to the picture of 200 views, in seconds, and how many times that is tried: others share the machine
@@ -467,8 +467,125 @@ def wrong_calls() -> str:
     return ""
 
 
+def place_in(browser: chromium.Browser, x: int, y: int) -> Tuple[float, float]:
+    """A point of the picture of TOUCHED in the browser's window."""
+    browser.value("document.getElementById('stage').scrollIntoView({block: 'center'})")
+    left, top, width = (browser.value("document.getElementById('stage').getBoundingClientRect().%s" % it) for it in ("left", "top", "width"))
+    return left + (x + 0.5) * width / 160, top + (y + 0.5) * width / 160
+
+
+def texts(browser: chromium.Browser, selector: str) -> List[str]:
+    """The texts of some elements."""
+    return list(browser.value("[...document.querySelectorAll('%s')].map(it => it.textContent)" % selector))
+
+
+def follows_a_file(browser: chromium.Browser, it: Place) -> str:
+    """A changed file, and a broken one."""
+    old = browser.value("document.getElementById('picture').src")
+    it.put("a.script", TOUCHED.replace("ffeceff1", "ff112233"))
+    browser.until("document.getElementById('picture').src !== '%s' && document.getElementById('picture').complete" % old)
+    new = browser.value("document.getElementById('picture').src")
+    it.put("a.script", TOUCHED.replace("orient", "orien"))
+    browser.until("document.querySelectorAll('#messages li').length > 0")
+    said = texts(browser, "#messages li")
+    if not said[0].startswith("a.script:7:1: 31 Syntax: no line begins with") or said[-1] != "The picture is the last good one.":
+        return "of a broken file it shows %s" % said
+    if browser.value("document.getElementById('picture').src") != new:
+        return "the last good picture does not stay"
+    it.put("a.script", TOUCHED)
+    browser.until("document.querySelectorAll('#messages li').length === 0 && document.getElementById('picture').src === '%s'" % old)
+    return ""
+
+
+def is_touched(browser: chromium.Browser) -> str:
+    """A click and a drag where the mouse touches."""
+    browser.value("document.querySelector('#mode [value=touch]').click()")
+    browser.click(*place_in(browser, 80, 30))
+    browser.until("[...document.querySelectorAll('#log li')].some(it => it.textContent.startsWith('up 0')) && live")
+    said = texts(browser, "#log li")
+    wanted = ("up 0 \u2192 v4 TextView \u201cSend\u201d took it", "down 0 80 30 \u2192 v4 TextView \u201cSend\u201d took it")
+    if not all(any(line.startswith(it) for line in said) for it in wanted):
+        return "of a click it shows %s" % said
+    browser.drag([place_in(browser, 80, y) for y in (100, 90, 70, 40)])
+    browser.until("live.views[1].scroll === 52")
+    browser.value("document.getElementById('reset').click()")
+    browser.until("!live && document.querySelectorAll('#log li').length === 0")
+    return ""
+
+
+def is_used_by_keys(browser: chromium.Browser) -> str:
+    """The tree, the tap of the chosen view, and the configurations."""
+    browser.value("document.querySelector('#tree [aria-selected=true]').focus()")
+    for key, number in (("Home", 1), ("ArrowDown", 2), ("ArrowRight", 3), ("End", 5), ("ArrowLeft", 3), ("ArrowDown", 4)):
+        browser.press(key)
+        if browser.value("chosen") != number:
+            return "after the key %s the view %s is chosen" % (key, browser.value("chosen"))
+    if browser.value("getComputedStyle(document.activeElement).outlineStyle") != "solid":
+        return "the focus cannot be seen"
+    browser.value("document.getElementById('tap').focus()")
+    browser.press("Enter")
+    browser.value("document.getElementById('tap').click()")
+    browser.until("live && document.querySelectorAll('#log .taken').length >= 2")
+    browser.value("document.querySelector('#configurations [value=landscape]').click()")
+    browser.until("state.name === 'landscape' && state.window[0] === 640 && !live")
+    browser.value("document.querySelector('#configurations [value=as-it-is]').click()")
+    browser.until("state.name === 'as-it-is'")
+    return ""
+
+
+def is_edited(browser: chromium.Browser, it: Place) -> str:
+    """A value is edited: one that does not fit, and one that is written."""
+    field = "[...document.querySelectorAll('#values li')].find(it => it.textContent.startsWith('text')).querySelector('input')"
+    browser.value("choose(4, false); %s.focus(); %s.select()" % (field, field))
+    browser.write("a\\q")
+    browser.value("%s.dispatchEvent(new Event('change'))" % field)
+    browser.until("document.querySelector('#values .wrong:not(:empty)') !== null")
+    if it.read("a.script") != TOUCHED.encode():
+        return "what does not fit is written"
+    browser.value("%s.select()" % field)
+    browser.write("Archive")
+    browser.value("%s.dispatchEvent(new Event('change'))" % field)
+    browser.until("viewOf(4).text === 'Archive'")
+    wanted = TOUCHED.replace("Send", "Archive")
+    it.put("b.script", it.read("a.script"))
+    it.put("a.script", TOUCHED)
+    browser.until("viewOf(4).text === 'Send'")
+    return "" if it.read("b.script") == wanted.encode() else "it writes %r" % it.read("b.script")
+
+
+def shows() -> str:
+    """The page, in a wide window and in a narrow and dark one."""
+    if not chromium.COMMAND:
+        raise Skipped("chromium")
+    with place() as it:
+        it.put("a.script", TOUCHED)
+        with previewed(it, "a.script", "--write") as page:
+            for width, is_dark in ((1280, False), (360, True)):
+                with chromium.Browser(width, 800, is_dark) as browser:
+                    browser.go(page.address)
+                    browser.until("state !== null && document.getElementById('picture').complete")
+                    why = follows_a_file(browser, it) or is_touched(browser) or is_used_by_keys(browser) or is_edited(browser, it)
+                    why = why or looks(browser, is_dark)
+                    if why:
+                        return "%d pixels wide: %s" % (width, why)
+    return ""
+
+
+def looks(browser: chromium.Browser, is_dark: bool) -> str:
+    """What is wrong with how the page fits its window."""
+    if browser.value("document.documentElement.scrollWidth > innerWidth"):
+        return "it is wider than the window"
+    back = browser.value("getComputedStyle(document.body).backgroundColor")
+    if (back == "rgb(15, 19, 24)") != is_dark:
+        return "its background is %s" % back
+    unnamed = browser.value("[...document.querySelectorAll('button, input, [role=tree], [role=radiogroup]')].filter(it => "
+                            "!it.ariaLabel && !it.getAttribute('aria-labelledby') && !(it.labels || []).length && !it.textContent).length")
+    return "%d parts have no name" % unnamed if unnamed else ""
+
+
 def checks() -> Checks:
     yield from named("the preview", (
         pictures_are_those_of_other_tools, configurations, changes_come_in_time, broken_files_keep_the_picture,
         touches_are_answered, writes_back, refuses_to_write, hostile_requests, ends_cleanly, wrong_calls,
     ))
+    yield "browser: shows a preview", shows
