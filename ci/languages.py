@@ -6,7 +6,7 @@ import shutil
 import subprocess
 from typing import Any, Dict, Iterator, List, Tuple
 
-from running import SECONDS, Checks, named
+from running import SECONDS, TOP, Checks, named, need
 from tools import EXAMPLES, Place, place, unlike
 
 WRONG = """window 100 50
@@ -34,6 +34,15 @@ LAYOUT = """<LinearLayout xmlns:android="http://schemas.android.com/apk/res/andr
     <!-- \U0001f600 --><TextView android:id="@+id/send" android:layout_width="12"
         android:layout_height="wrap_content" android:layout_widht="1dp" android:text="@string/title" />
 </LinearLayout>
+"""
+# what Neovim is to print: the first message, and what it shows of the third line
+ASKED = """
+vim.defer_fn(function() vim.cmd("qa!") end, 50000)
+vim.wait(40000, function() return #vim.diagnostic.get(0) > 0 end, 50)
+for _, it in ipairs(vim.diagnostic.get(0)) do print(it.lnum, it.col, it.end_col, it.message, "\\n") end
+local at = {textDocument = vim.lsp.util.make_text_document_params(), position = {line = 2, character = 1}}
+for _, it in pairs(vim.lsp.buf_request_sync(0, "textDocument/hover", at, 20000)) do print(it.result.contents.value) end
+vim.cmd("qa!")
 """
 
 
@@ -307,7 +316,26 @@ def ends(it: Place) -> str:
     return ""
 
 
+def neovim() -> str:
+    """Neovim with the lines of docs/EDITORS.md shows messages and explanations."""
+    command = need("nvim")
+    with place() as it:
+        it.put("a.script", WRONG.split("\n")[0] + "\nad root View 1 1\nadd root View 1 1\n")
+        os.symlink(os.path.join(TOP, "tools", "language"), os.path.join(it.folder, "vindaesk-language"))
+        it.put("ask.lua", ASKED)
+        words = [command, "--headless", "-u", os.path.join(TOP, "docs/examples/editors/neovim.lua"), "a.script", "-c", "luafile ask.lua"]
+        path = "%s:%s" % (it.folder, os.environ["PATH"])
+        ended = subprocess.run(
+            ["timeout", "%d" % SECONDS, *words], cwd=it.folder, stdin=subprocess.DEVNULL, stdout=subprocess.PIPE,
+            stderr=subprocess.STDOUT, env={**os.environ, "PATH": path, "HOME": it.folder, "XDG_STATE_HOME": it.folder}
+        )
+        said = ended.stdout.decode().replace("\r", "")
+        wanted = ("1 0 2 no line begins with 'ad'; did you mean 'add'?", "The line add root C W H makes a view")
+        return "" if all(part in said for part in wanted) else "it shows %r" % said
+
+
 def checks() -> Checks:
     yield from named("the language server", (
         says_what_check_says, says_what_axml_says, offers, explains, finds_definitions, keeps_to_the_protocol
     ))
+    yield "editors: Neovim", neovim

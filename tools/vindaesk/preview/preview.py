@@ -1,4 +1,5 @@
 """The state of a preview: what each configuration shows, kept up to date by a thread as files change."""
+import os
 import threading
 from dataclasses import dataclass, field, replace
 from typing import Dict, List, Optional, Tuple
@@ -42,10 +43,16 @@ def view_record(it: Placed, shown: Shown) -> Record:
     place = shown.layout.places.get(it.view.number) if shown.layout else None
     of_view = shown.spots.of_views.get(it.view.number, [])
     values = [{"name": spot.name, "value": spot.text, "file": spot.file, "line": spot.line} for spot in of_view]
-    element = {"name": place.element, "file": place.file, "line": place.line, "column": place.column,
+    element = {"name": place.element, "file": shown_path(place.file), "line": place.line, "column": place.column,
                "notes": list(place.notes)} if place else None
     return {**placement.record(it), "answer": it.view.answer, "padding": it.view.given.get("padding", ""),
             "margins": it.view.given.get("margins", ""), "element": element, "values": values}
+
+
+def shown_path(path: str) -> str:
+    """A path as the page has it: from the current folder, if it is below that."""
+    found = os.path.relpath(path)
+    return path if found.startswith(os.pardir) else found
 
 
 def spots_of(layout: Layout, drawn: Drawn) -> Spots:
@@ -71,8 +78,8 @@ class Preview:
         self.live: Optional[Live] = None
         # of which layout, up to which of its frames, the live program is
         self.live_of: Tuple[Optional[Layout], int] = (None, 0)
-        self.ended, self.stale = threading.Event(), threading.Event()
-        self.threads = [threading.Thread(target=it, daemon=True) for it in (self.watch, self.draw)]
+        self.ended, self.stale, self.drawn = threading.Event(), threading.Event(), threading.Event()
+        self.threads = [threading.Thread(target=it, daemon=True) for it in (self.watch, self.draw, self.look)]
 
     # threads
 
@@ -83,8 +90,8 @@ class Preview:
 
     def end(self) -> None:
         """Ends the threads and the live program."""
-        self.ended.set()
-        self.stale.set()
+        for event in (self.ended, self.stale, self.drawn):
+            event.set()
         for it in self.threads:
             it.join(5)
         self.drop_live()
@@ -117,10 +124,16 @@ class Preview:
             if self.stale.is_set():
                 return
             self.put(wanted.name, self.made(wanted, why))
-        for wanted in self.ordered():
-            if self.stale.is_set():
-                return
-            self.find(wanted.name)
+        self.drawn.set()
+
+    def look(self) -> None:
+        """Has lint look at what was drawn, as long as nothing else is."""
+        while not self.ended.is_set():
+            self.drawn.wait()
+            self.drawn.clear()
+            for wanted in self.ordered():
+                if not (self.stale.is_set() or self.drawn.is_set() or self.ended.is_set()):
+                    self.find(wanted.name)
 
     def ordered(self) -> List[Configuration]:
         """The configurations, the one that is looked at first."""
@@ -160,19 +173,19 @@ class Preview:
 
     def find(self, name: str) -> None:
         """Has lint look at a configuration that was drawn."""
-        shown = self.shown[name]
-        if shown.layout is None or shown.findings is not None or not shown.drawn.is_good:
+        shown = self.shown.get(name)
+        if shown is None or shown.layout is None or shown.findings is not None or not shown.drawn.is_good:
             return
         try:
-            found = findings.findings_of(shown.layout.script)
+            found, why = findings.findings_of(shown.layout.script), []
         except Failure as failure:
-            found = []
-            shown.messages.append(str(failure))
+            found, why = [], [str(failure)]
         with self.changed:
-            self.version += 1
-            shown.version = self.version
-            shown.findings = found
-            self.changed.notify_all()
+            # where the file changed meanwhile, what was found is of no use
+            if self.shown.get(name) is shown and not self.stale.is_set():
+                self.version += 1
+                self.shown[name] = replace(shown, version=self.version, findings=found, messages=shown.messages + why)
+                self.changed.notify_all()
 
     # what a page asks
 

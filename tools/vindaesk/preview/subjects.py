@@ -84,6 +84,13 @@ class Subject:
         raise NotImplementedError
 
 
+def kept_ids(known: Names, folder: str) -> Ids:
+    """Names, which are also written into a list in a folder, where the program runs."""
+    path = os.path.join(folder, names.LIST)
+    files.replace(path, known.written())
+    return Ids(known, path)
+
+
 def beside(path: str) -> List[str]:
     """The files beside a script or a layout that have an effect on it."""
     folder, stem = os.path.dirname(path), os.path.splitext(path)[0]
@@ -136,7 +143,7 @@ class LayoutSubject(Subject):
         self.places = {}
         if not body.startswith(COMPILED):
             body = self.compiled(body, known)
-        self.known = Ids(known, names.LIST)
+        self.known = kept_ids(known, self.kept.name)
         files.replace(os.path.join(self.kept.name, self.name), body)
 
     def compiled(self, source: bytes, known: Names) -> bytes:
@@ -231,7 +238,7 @@ class AppSubject(Subject):
         lines = script.lines_in(made.script)
         if wanted.direction:
             lines.insert(-1, b"direction v1 " + wanted.direction.encode())
-        ids = Ids(Names(writer.list_of(made.ids), names.LIST), names.LIST)
+        ids = kept_ids(Names(writer.list_of(made.ids), names.LIST), folder)
         return Layout(Script(lines, folder, ids=ids), self.places_of(made.records))
 
     def places_of(self, records: Sequence[report.Record]) -> Dict[int, Place]:

@@ -24,7 +24,7 @@ class Live:
     """The program after the lines of a script. Lines that are refused are passed over, as the program does."""
 
     def __init__(self, made: Script):
-        self.session = Session(made.folder)
+        self.session = Session(made.folder, made.ids.path if made.ids.is_there else None)
         self.made = made
         for line in made.lines:
             if line.strip() and not line.startswith(b"#"):
