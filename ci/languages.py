@@ -164,14 +164,14 @@ def says_what_axml_says() -> str:
                 return "there are %s" % found
             editor.notify("textDocument/didChange", {"textDocument": {"uri": uri, "version": 2},
                           "contentChanges": [{"text": "<a>\n  <b></a>"}]})
-            found = [(*span(one["range"]), one["message"]) for one in editor.messages(uri)]
-            return "" if found and found[0][0] == 1 and "mismatched tag" in found[0][3] else "of broken XML: %s" % found
+            broken = [(*span(one["range"]), one["message"]) for one in editor.messages(uri)]
+            return "" if broken and broken[0][0] == 1 and "mismatched tag" in broken[0][3] else "of broken XML: %s" % broken
 
 
 def offers() -> str:
     """What may be at a place: lines, words, views, ids, files, attributes and values."""
     script = "window 9 9\nadd root FrameLayout match match\nadd v1 TextView 5 5\ntext v2 Hi\nid v2 @7f080002\nframe\n"
-    lines = ["", "ad", "add ", "add v1 Te", "size v2 ", "gravity v2 self ", "inflate ", "rule v2 left_of ", "hook v2 ", "hook v2 size v2 ",
+    lines = ["", "ad", "add ", "add v1 Text", "size v2 ", "gravity v2 self ", "inflate ", "rule v2 left_of ", "hook v2 ", "hook v2 size v2 ",
              "include ", "text v2 ", "  orient v1 ", "bg @"]
     wanted = ["window", "add", "root", "TextView", "match", "center", "a.xml", "@id/send", "bg", "wrap", "other.lines", None,
               "vertical", "@id/send"]
@@ -186,9 +186,9 @@ def offers() -> str:
                 labels = [one["label"] for one in found]
                 if (label not in labels) if label else labels:
                     return "%r: %s" % (line, labels)
-            found = editor.at("completion", uri, 9, 9)
-            first = next((one for one in found if one["label"] == "TextView"), {})
-            if span(first["textEdit"]["range"]) != (9, 7, 9):
+            found = editor.at("completion", uri, 9, 11)
+            first: Any = next((one for one in found if one["label"] == "TextView"), {})
+            if span(first["textEdit"]["range"]) != (9, 7, 11):
                 return "the range of an offer is %s" % first
             layout = LAYOUT.replace('"match_parnt"', '"m"').replace("/>", "\n        an />\n    <V")
             uri = editor.open(os.path.join(it.folder, "b.xml"), layout)
@@ -247,9 +247,9 @@ def finds_definitions() -> str:
             said = editor.messages(uri)
             row = next(number for number, line in enumerate(text.split("\n")) if "@string/" in line)
             column = text.split("\n")[row].index("@string/") + 3
-            found = [os.path.relpath(one["uri"][7:], it.folder) for one in editor.at("definition", uri, row, column)]
-            if not found or not all(one.startswith("res/values") for one in found) or said:
-                return "a text of a project is in %s; messages: %s" % (found, said)
+            files = [os.path.relpath(one["uri"][7:], it.folder) for one in editor.at("definition", uri, row, column)]
+            if not files or not all(one.startswith("res/values") for one in files) or said:
+                return "a text of a project is in %s; messages: %s" % (files, said)
             elements = editor.ask("textDocument/documentSymbol", {"textDocument": {"uri": uri}})
             return "" if len(elements) == 1 and elements[0]["children"] else "the outline is %s" % elements
 

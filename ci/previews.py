@@ -19,7 +19,7 @@ from vindaesk.pictures import png
 
 # from a saved file to the picture of 200 views, in seconds, and how many times that is tried: others share the machine
 MOST = 0.150
-TRIES = 8
+TRIES = 25
 TOUCHED = """window 160 120
 add root FrameLayout match match
 bg v1 #ffeceff1
@@ -103,7 +103,7 @@ class Page:
             if line.startswith(b"data: "):
                 return json.loads(line[len("data: ") :].decode())
 
-    def until(self, right: Callable[[Any], bool]) -> Any:
+    def until(self, right: Callable[[Any], Any]) -> Any:
         """The first message for which something is true."""
         until = time.monotonic() + SECONDS
         while time.monotonic() < until:
@@ -112,7 +112,7 @@ class Page:
                 return found
         raise AssertionError("no such message comes")
 
-    def row(self, right: Callable[[Any], bool], name: str = "") -> Any:
+    def row(self, right: Callable[[Any], Any], name: str = "") -> Any:
         """A configuration by its name, or the first one, once something is true of it."""
         def row_of(found: Any) -> Any:
             return next((it for it in found["configurations"] if it["name"] == name or not name), None)
@@ -329,9 +329,9 @@ def refuses_to_write() -> str:
             before = it.read(name)
             with previewed(it, name, "--write") as page:
                 page.row(lambda row: row["picture"])
-                status, found = page.post("edit", {**value_of(page, view, key), "text": text})
-                if status != 409 or said not in found["error"] or it.read(name) != before:
-                    return "%r: status %d, %s" % (text, status, found)
+                status, answer = page.post("edit", {**value_of(page, view, key), "text": text})
+                if status != 409 or said not in answer["error"] or it.read(name) != before:
+                    return "%r: status %d, %s" % (text, status, answer)
         with previewed(it, "a.xml", "--write") as page:
             page.row(lambda row: row["picture"])
             asked = value_of(page, 2, "android:padding")
@@ -351,7 +351,7 @@ def hostile_requests() -> str:
             page.row(lambda row: row["picture"])
             good = "/%s/" % page.key
             touch, json_type = b'{"configuration": "as-it-is", "lines": ["frame"]}', {"Content_Type": "application/json"}
-            for wanted, method, path, body, headers in (
+            requests: List[Tuple[int, str, str, bytes, Dict[str, str]]] = [
                 (403, "GET", good, b"", {"Host": "evil.example:%d" % page.port}),
                 (403, "GET", good, b"", {"Host": "127.0.0.1"}),
                 (200, "GET", good, b"", {"Host": "localhost:%d" % page.port}),
@@ -380,7 +380,8 @@ def hostile_requests() -> str:
                 (400, "POST", good + "edit", b'{"view": true}', json_type),
                 (409, "POST", good + "edit", b'{"configuration": "as-it-is", "view": 99, "place": 0, "old": "", "text": ""}', json_type),
                 (200, "POST", good + "touch", touch, {**json_type, "Origin": "http://127.0.0.1:%d" % page.port}),
-            ):
+            ]
+            for wanted, method, path, body, headers in requests:
                 status, answer = page.ask(method, path, body, **headers)
                 if status != wanted:
                     return "%s %s %r %s: status %d in place of %d, %r" % (method, path, body[:60], headers, status, wanted, answer[:200])

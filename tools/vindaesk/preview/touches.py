@@ -7,14 +7,16 @@ from ..session import LineRefused, Session
 from ..views.placement import Placed
 from . import drawing
 
-TAKEN = re.compile(r"v([1-9][0-9]*) (?:touch .* yes|click)")
+# a view has handled the event itself, or took it away from those below it; a CANCEL is none
+TAKEN = re.compile(r"v([1-9][0-9]*) (?:(?:touch|ask) (?!CANCEL).* yes|click)")
 # the lines that a page may send
 ALLOWED = re.compile(r"(?:down [0-9]{1,2} -?[0-9]{1,7} -?[0-9]{1,7}|move [0-9]{1,2} -?[0-9]{1,7} -?[0-9]{1,7}|up [0-9]{1,2}"
                      r"|cancel|frame)")
 
 
 def taker(replies: List[str]) -> Optional[int]:
-    """The number of the view that took an event: the last one that the replies say has answered it."""
+    """The number of the view that took an event: the last one of which the replies say that it has handled
+    it, or has intercepted it."""
     found = [TAKEN.fullmatch(it) for it in replies]
     numbers = [int(it[1]) for it in found if it]
     return numbers[-1] if numbers else None
