@@ -8,6 +8,8 @@ from typing import Callable, Iterator, Tuple
 from running import SECONDS, TOP
 from vindaesk.command_line import commands
 
+# commands that run these checks, or go on until they are ended
+ENDLESS = ("test", "preview", "serve")
 # words that are near another one
 NEAR = {"tre": "tree", "screenshoot": "screenshot", "lnt": "lint", "Run": "run", "lokup": "lookup", "vers": "version"}
 
@@ -24,14 +26,14 @@ def call(words: str, folder: str = TOP) -> Tuple[int, str, str]:
 
 
 def examples_run() -> str:
-    """Each example of the help, except that of `test`, which runs these very checks, and of `serve`, which goes on until it
-    is ended."""
+    """Each example of the help, except that of `test`, which runs these very checks, and those of `preview` and `serve`, which
+    go on until they are ended."""
     for it in commands.every():
         with tempfile.TemporaryDirectory() as place:
             folder = shutil.copytree(os.path.join(TOP, "examples"), os.path.join(place, "examples"))
             if "vindaesk %s" % it.name not in it.use.example:
                 return "the example of %s is '%s'" % (it.name, it.use.example)
-            status, _, said = call(it.use.example, folder) if it.name not in ("test", "serve") else (0, "", "")
+            status, _, said = call(it.use.example, folder) if it.name not in ENDLESS else (0, "", "")
             if status not in (0, 1) or "Traceback" in said or "error:" in said:
                 return "%s: status %d, '%s'" % (it.use.example, status, said)
     return ""

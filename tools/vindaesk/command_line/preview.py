@@ -16,7 +16,7 @@ from ..preview.preview import Preview
 from . import arguments
 from .uses import Purpose, Use
 
-USE = Use(Purpose.LOOK, "timeout -s INT 1 vindaesk preview card.script",
+USE = Use(Purpose.LOOK, "vindaesk preview card.script --open",
           "a page in the browser that follows a layout while it is edited")
 
 
