@@ -137,7 +137,7 @@ def previewed(it: Place, *words: str) -> Iterator[Page]:
         try:
             yield Page(started)
         finally:
-            started.send_signal(signal.SIGINT)
+            started.terminate()
             started.wait(SECONDS)
 
 
