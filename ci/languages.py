@@ -210,6 +210,7 @@ def explains() -> str:
         script = "window 9 9\nadd root FrameLayout match match\nid v1 @id/send\nframe\nbounds @id/send\n# add\n"
         with client(it) as editor:
             uri = editor.open(os.path.join(it.folder, "a.script"), script)
+            of_class = it.start("vindaesk", "explain", "LinearLayout").communicate(timeout=SECONDS)[0].decode().strip()
             explained = it.start("vindaesk", "explain", "add").communicate(timeout=SECONDS)[0].decode().strip()
             for line, column, said in ((1, 1, explained), (4, 9, "v1 FrameLayout @id/send"), (1, 25, "W: match, wrap or a number"),
                                        (5, 3, None), (99, 0, None)):
@@ -217,8 +218,8 @@ def explains() -> str:
                 if (said is None) != (found is None) or (said and not found["contents"]["value"].startswith(said)):
                     return "%d:%d: %s" % (line, column, found)
             uri = editor.open(os.path.join(it.folder, "a.xml"), LAYOUT)
-            for column, said in ((8, "The attribute layout_width of a layout file takes"), (1, None)):
-                found = editor.at("hover", uri, 1, column)
+            for line, column, said in ((1, 8, "The attribute layout_width of a layout file takes"), (1, 1, None), (0, 3, of_class)):
+                found = editor.at("hover", uri, line, column)
                 if (said is None) != (found is None) or (said and not found["contents"]["value"].startswith(said)):
                     return "of a layout: %s" % found
     return ""

@@ -16,6 +16,7 @@ import chromium
 from running import SECONDS, Checks, Skipped, named
 from tools import EXAMPLES, Place, place
 from vindaesk.pictures import png
+from vindaesk.preview import watcher
 
 # from a saved file to the picture of 200 views, in seconds, and how many times that is tried: others share the machine
 MOST = 0.150
@@ -188,7 +189,10 @@ def configurations() -> str:
 
 
 def changes_come_in_time() -> str:
-    """From a saved file to the picture of 200 views, of tries the quickest, since others use the machine too."""
+    """From a saved file to the picture of 200 views, of tries the quickest, since others use the machine too; and files are
+    looked at often enough for that."""
+    if watcher.PAUSE > MOST / 5:
+        return "between two looks at the files there are %g s" % watcher.PAUSE
     with place() as it:
         it.put("a.script", of_views(200))
         with previewed(it, "a.script") as page:

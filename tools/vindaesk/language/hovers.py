@@ -2,7 +2,7 @@
 import functools
 from typing import List, Optional, Tuple
 
-from ..layouts import attributes
+from ..apps import android_names
 from ..scripts import explanations, grammar, names, script
 from ..scripts.explanations import Tables
 from ..views import placement
@@ -33,7 +33,7 @@ def of_script(text: Text, found: scripts.Analysis, number: int, place: int) -> O
         return None
     span = Span(number, word.start(), word.end())
     if not line[: word.start()].strip():
-        return hover(text, explanations.explained(tables(), word[0]), span)
+        return hover(text, "".join(it.text for it in tables().lines if word[0] in it.words), span)
     view = scripts.view_at(found, word[0], names.beside(text.folder))
     if view is not None:
         return hover(text, placement.title(view), span)
@@ -51,15 +51,20 @@ def said_of_word(text: Text, line: str, column: int) -> str:
 
 
 def of_layout(text: Text, found: layouts.Analysis, number: int, place: int) -> Optional[Json]:
-    """What an attribute means, and where the resource is that its value names."""
+    """What an attribute or a class means, and where the resource is that a value names."""
     there = layouts.at(text, found, number, place)
-    if there is None or not there.attribute:
+    if there is None:
         return None
-    prefix, _, name = there.attribute.rpartition(":")
-    said = explanations.explained(tables(), name) if prefix == "android" and name in attributes.KNOWN else ""
-    said = said or "The attribute %s is passed over by inflate.\n" % there.attribute
+    said = of_android(there.attribute or there.element)
     places = places_of(text, there.value or "")
     return hover(text, said + "".join("%s:%d\n" % it for it in places))
+
+
+def of_android(whole: str) -> str:
+    """What becomes of an attribute, as `android:text`, or of a class."""
+    prefix, _, name = whole.rpartition(":")
+    known = [it.text for it in tables().attributes if prefix == "android" and name in it.words]
+    return "".join(known) or android_names.explained(name)
 
 
 def places_of(text: Text, value: str) -> List[Tuple[str, int]]:

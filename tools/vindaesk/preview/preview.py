@@ -55,6 +55,11 @@ def shown_path(path: str) -> str:
     return path if found.startswith(os.pardir) else found
 
 
+def said(error: Exception) -> str:
+    """What went wrong. A mistake of this tool is said too, so that the page goes on following the files."""
+    return str(error) if isinstance(error, Failure) else "the preview failed: %s: %s" % (type(error).__name__, error)
+
+
 def spots_of(layout: Layout, drawn: Drawn) -> Spots:
     """The values of views in the files of a layout."""
     if layout.places:
@@ -118,8 +123,8 @@ class Preview:
         with self.reading:
             try:
                 self.subject.load()
-            except Failure as failure:
-                why = str(failure)
+            except Exception as error:
+                why = said(error)
         for wanted in self.ordered():
             if self.stale.is_set():
                 return
@@ -152,8 +157,8 @@ class Preview:
             shown.spots = spots_of(layout, shown.drawn)
             shown.messages = ["%s:%d:%d: %s: %s" % it for it in shown.drawn.refused]
             shown.messages += [shown.drawn.why] if shown.drawn.why else []
-        except Failure as failure:
-            shown.messages = str(failure).splitlines()
+        except Exception as error:
+            shown.messages = said(error).splitlines()
         return shown
 
     def put(self, name: str, new: Shown) -> None:
@@ -178,8 +183,8 @@ class Preview:
             return
         try:
             found, why = findings.findings_of(shown.layout.script), []
-        except Failure as failure:
-            found, why = [], [str(failure)]
+        except Exception as error:
+            found, why = [], said(error).splitlines()
         with self.changed:
             # where the file changed meanwhile, what was found is of no use
             if self.shown.get(name) is shown and not self.stale.is_set():

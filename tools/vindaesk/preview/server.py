@@ -112,6 +112,8 @@ class Handler(BaseHTTPRequestHandler):
             self.refuse(HTTPStatus.CONFLICT, str(failure))
         except (BrokenPipeError, ConnectionResetError, socket.timeout):
             self.close_connection = True
+        except Exception as error:
+            self.refuse(HTTPStatus.INTERNAL_SERVER_ERROR, "the preview failed: %s: %s" % (type(error).__name__, error))
 
     def check_host(self) -> None:
         """A request by any other name than this machine's is refused."""
