@@ -443,7 +443,8 @@ def children_of(process: int) -> List[int]:
     """The processes that a process has started."""
     found = []
     for task in os.listdir("/proc/%d/task" % process):
-        with open("/proc/%d/task/%s/children" % (process, task), encoding="ascii") as file:
+        # a thread may end meanwhile
+        with contextlib.suppress(OSError), open("/proc/%d/task/%s/children" % (process, task), encoding="ascii") as file:
             found += [int(it) for it in file.read().split()]
     return found
 
@@ -451,6 +452,7 @@ def children_of(process: int) -> List[int]:
 def wrong_calls() -> str:
     with place() as it:
         it.put("a.script", TOUCHED)
+        it.put("a.apk", "no")
         started = it.start("tools/preview", "--help")
         out, _ = started.communicate(timeout=SECONDS)
         if started.returncode or not out.startswith(b"usage: preview "):
@@ -459,6 +461,8 @@ def wrong_calls() -> str:
             (("no.script",), 2, "preview: no.script cannot be read: No such file or directory\n"),
             ((".",), 2, "of an app one layout is shown: name it after ."),
             (("a.script", "home"), 2, "a.script is no app, so that no layout of it has the name 'home'"),
+            ((os.path.join(EXAMPLES, "trips", "trips.apk"), "hom"), 2, "the app has no layout 'hom'; did you mean 'home'?"),
+            (("a.apk", "home"), 2, "a.apk cannot be unpacked: it is no archive, or it is cut short"),
             (("a.script", "--port", "70000"), 2, "'70000' is no number from 0 to 65535"),
         ):
             found = it.call("preview", *words)

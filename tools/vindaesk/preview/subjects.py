@@ -286,7 +286,10 @@ def subject(
         if len(names_of) != 1:
             raise Failure("of an app one layout is shown: name it after %s; vindaesk app %s --list prints their names" % (
                 path, path), NOT_RUN)
-        return AppSubject(paths, names_of[0], theme, framework)
+        found = AppSubject(paths, names_of[0], theme, framework)
+        # a name that the app has not, and an app that cannot be read, end the call
+        found.load()
+        return found
     if names_of:
         raise Failure("%s is no app, so that no layout of it has the name '%s'" % (path, names_of[0]), NOT_RUN)
     if path.endswith(".xml"):
