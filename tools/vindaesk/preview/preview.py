@@ -18,6 +18,8 @@ from .touches import Live
 
 # how many pictures are kept, for pages that still show one
 PICTURES = 64
+# how long no file changes before lint looks at it, in seconds
+QUIET = 0.3
 
 Record = Dict[str, object]
 
@@ -136,7 +138,9 @@ class Preview:
         while not self.ended.is_set():
             self.drawn.wait()
             self.drawn.clear()
-            for wanted in self.ordered():
+            # while a file changes often, lint would make its pictures late
+            is_busy = self.stale.wait(QUIET)
+            for wanted in self.ordered() if not is_busy else ():
                 if not (self.stale.is_set() or self.drawn.is_set() or self.ended.is_set()):
                     self.find(wanted.name)
 
