@@ -72,5 +72,5 @@ class Ending:
         results = self.whole.results()
         not_run = len(results) - len(self.whole.found)
         if not_run:
-            messages.say("%d cases were not run, and count as failed" % not_run)
+            messages.say("%s not run, and count%s as failed" % (("1 case was", "s") if not_run == 1 else ("%d cases were" % not_run, "")))
         print_sum(len(results), sum(bool(it.problem) for it in results))
