@@ -30,6 +30,11 @@ def parser(doc: str) -> argparse.ArgumentParser:
 def add_script(found: argparse.ArgumentParser) -> None:
     """The arguments of a tool that takes a script."""
     found.add_argument("script", metavar="SCRIPT", help="the script, or - for standard input")
+    add_of_script(found)
+
+
+def add_of_script(found: argparse.ArgumentParser) -> None:
+    """The options of such a tool."""
     found.add_argument("--ids", metavar="FILE", help="the list of ids by names; ids.txt beside the script without it")
     found.add_argument("--config", metavar="CONFIGURATION,..", type=names, default=[],
                        help="in this configuration of NAME.toml or vindaesk.toml beside the script")
@@ -59,6 +64,15 @@ def scripts(given: argparse.Namespace, is_strict: bool = True) -> List[Adapted]:
 
     found = configurations.chosen(given.script, given.config)
     return [Adapted(it.name, configurations.read(given.script, it, given.ids, is_strict)) for it in found]
+
+
+def configurations_of(given: argparse.Namespace) -> List[str]:
+    """The names of the configurations of a call; one empty name without any."""
+    if not given.config:
+        return [""]
+    from ..testing import configurations
+
+    return [it.name for it in configurations.chosen(given.script, given.config)]
 
 
 def single(given: argparse.Namespace, is_strict: bool = True) -> Script:

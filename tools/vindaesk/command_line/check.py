@@ -11,7 +11,7 @@ from typing import Optional, Sequence
 
 from ..common import failures
 from ..lint import refused_lines
-from . import arguments
+from . import arguments, many
 from .uses import Purpose, Use
 
 USE = Use(Purpose.CHECK, "vindaesk check faults.script", "which lines of a script are refused, at which word, and why")
@@ -20,19 +20,28 @@ USE = Use(Purpose.CHECK, "vindaesk check faults.script", "which lines of a scrip
 def reader() -> argparse.ArgumentParser:
     """The arguments."""
     found = arguments.parser(__doc__)
-    arguments.add_script(found)
+    many.add(found)
     found.add_argument("--format", choices=sorted(refused_lines.FORMATS), default="plain", help="plain without it")
     return found
 
 
-def main(words: Optional[Sequence[str]] = None) -> int:
-    given = reader().parse_args(words)
-    arguments.write_any_text()
+def checked(given: argparse.Namespace, path: str) -> int:
+    """Prints the refused lines of a script. Returns the status."""
     status = 0
-    made = arguments.single(given, is_strict=False)
+    made = arguments.single(many.one(given, path), is_strict=False)
     if arguments.show_expanded(given, made):
         return 0
     for found in refused_lines.findings(made):
         print(refused_lines.FORMATS[given.format](found))
         status = failures.WRONG
     return status
+
+
+def main(words: Optional[Sequence[str]] = None) -> int:
+    parser = reader()
+    given = parser.parse_intermixed_args(words)
+    many.check_options(given, parser)
+    arguments.write_any_text()
+    if not many.is_many(given):
+        return checked(given, given.scripts[0])
+    return many.run(lambda it: checked(given, it.path), many.inputs(given.scripts), given)

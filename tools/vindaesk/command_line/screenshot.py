@@ -9,9 +9,12 @@ or all, each has a picture OUT@NAME.png.
 
 Each line that is refused is reported on standard error, and makes the status 1; the picture is written all the same.
 Where there is no window, no frame, or the last one has not settled, the status is 1 and nothing is written.
+
+Many scripts have their pictures in the folder --out. One that fails stops no other.
 """
 import argparse
 import os
+from functools import partial
 from typing import Optional, Sequence, Tuple
 
 from ..common import files
@@ -19,20 +22,23 @@ from ..pictures import frames, png
 from ..scripts import script
 from ..scripts.replies import Refused
 from ..scripts.script import Script
-from . import arguments
+from . import arguments, many
 from .uses import Purpose, Use
 
 USE = Use(Purpose.LOOK, "vindaesk screenshot card.script out.png --scale 2",
           "the picture that a script ends with, or one of each frame")
 
+ENDING = ".png"
+
 
 def reader() -> argparse.ArgumentParser:
     """The arguments."""
     found = arguments.parser(__doc__)
-    arguments.add_script(found)
-    found.add_argument("out", metavar="OUT.png", nargs="?", help="the picture, or - for standard output")
+    many.add(found, "DIR/NAME.png of each")
+    found.add_argument("out", metavar="OUT.png", nargs="?", help="the picture of a single script, or - for standard output")
     found.add_argument("--scale", metavar="N", type=arguments.count(1, 8), default=1, help="a pixel is N by N, 1 to 8")
-    found.add_argument("--frames", metavar="DIR", help="writes DIR/0001.png and so on, one for each frame that settles")
+    found.add_argument("--frames", metavar="DIR", dest="frames_folder",
+                       help="writes DIR/0001.png and so on, one for each frame that settles; of many, DIR/NAME/0001.png")
     found.add_argument("--stack", metavar="WxH", type=size, help="of a stack of windows: W by H points of it, from 0 0")
     return found
 
@@ -51,8 +57,16 @@ def of_stack(made: Script, given: argparse.Namespace, out: str) -> int:
     refused = Refused(made)
     picture = frames.composed(made, refused, given.stack)
     status = refused.end()
-    files.write(out, png.written(picture, given.scale))
+    put(out, png.written(picture, given.scale), given)
     return status
+
+
+def put(out: str, body: bytes, given: argparse.Namespace) -> None:
+    """Writes a picture, of many scripts into a folder that is made where it is not there."""
+    if given.out_folder:
+        many.write(out, body)
+    else:
+        files.write(out, body)
 
 
 def of_script(made: Script, given: argparse.Namespace, out: Optional[str], folder: Optional[str]) -> int:
@@ -69,22 +83,50 @@ def of_script(made: Script, given: argparse.Namespace, out: Optional[str], folde
     status = refused.end()
     picture = frames.picture_of(last)
     if out:
-        files.write(out, png.written(picture, given.scale))
+        put(out, png.written(picture, given.scale), given)
     return status
+
+
+def of_each(given: argparse.Namespace, to: Optional[str], frames_to: Optional[str]) -> int:
+    """Writes the pictures of a script, in each of its configurations. Returns the status."""
+    status = 0
+    for it in arguments.scripts(given):
+        if arguments.show_expanded(given, it.script):
+            continue
+        out = to and arguments.out_of(to, it.name, given)
+        folder = frames_to and arguments.out_of(frames_to, it.name, given)
+        status |= of_stack(it.script, given, out or "-") if given.stack else of_script(it.script, given, out, folder)
+    return status
+
+
+def of_many(given: argparse.Namespace, it: many.Input) -> int:
+    """Writes the pictures of one of many scripts. Returns the status."""
+    out = given.out_folder and many.place_of(given.out_folder, it, ENDING)
+    folder = given.frames_folder and many.place_of(given.frames_folder, it, "")
+    return of_each(many.one(given, it.path), out, folder)
+
+
+def check(given: argparse.Namespace, parser: argparse.ArgumentParser) -> None:
+    """What arguments do not go together."""
+    many.take_out(given, parser)
+    many.check_options(given, parser)
+    to, of_frames = given.out or given.out_folder, given.frames_folder
+    if not (to or of_frames or given.expanded):
+        parser.error("OUT.png, --out DIR or --frames DIR is needed")
+    if given.stack and (of_frames or not to):
+        parser.error("--stack takes OUT.png or --out DIR, and no --frames")
+    if of_frames and given.out_folder and os.path.realpath(of_frames) == os.path.realpath(given.out_folder):
+        parser.error("--out and --frames need two folders")
 
 
 def main(words: Optional[Sequence[str]] = None) -> int:
     parser = reader()
     given = parser.parse_intermixed_args(words)
-    if not (given.out or given.frames or given.expanded):
-        parser.error("OUT.png or --frames DIR is needed")
-    if given.stack and (given.frames or not given.out):
-        parser.error("--stack takes OUT.png, and no --frames")
-    status = 0
-    for it in arguments.scripts(given):
-        if arguments.show_expanded(given, it.script):
-            continue
-        out = given.out and arguments.out_of(given.out, it.name, given)
-        folder = given.frames and arguments.out_of(given.frames, it.name, given)
-        status |= of_stack(it.script, given, out) if given.stack else of_script(it.script, given, out, folder)
-    return status
+    check(given, parser)
+    if not many.is_many(given):
+        return of_each(many.one(given, given.scripts[0]), given.out, given.frames_folder)
+    found = many.inputs(given.scripts, many.STACKS if given.stack else many.SCRIPTS)
+    for folder, ending in ((given.out_folder, ENDING), (given.frames_folder, "")):
+        if folder:
+            many.check_places(given, found, folder, ending)
+    return many.run(partial(of_many, given), found, given)
