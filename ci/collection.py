@@ -9,9 +9,9 @@ from running import TOP, Check, Checks
 # each has a function `checks`
 MODULES = (
     "examples", "pictures", "pages", "names", "promises", "layers", "broken", "limits", "tables", "launcher", "commands", "gate", "itself",
-    "tools", "golden", "hostile", "plugin", "grammar", "apps", "apps_report", "app_goldens", "fuzz_apps", "resources",
-    "fuzz_resources", "driving", "facts", "serving", "lints", "lint_rules", "lint_formats", "browser", "previews",
-    "languages",
+    "tools", "starts", "many", "golden", "hostile", "plugin", "grammar", "apps", "apps_report", "app_goldens", "fuzz_apps",
+    "resources", "fuzz_resources", "driving", "facts", "serving", "lints", "lint_rules", "lint_formats", "browser",
+    "previews", "languages",
     "farms", "installed", "packages", "shells", "release_checks", "package", "house", "words", "spelling", "stored",
 )
 # those that are run only where they are asked for

@@ -18,11 +18,11 @@ def prepare() -> None:
 
 def run(path: str) -> None:
     """Runs the tool whose name is that of a file, and ends with its status."""
-    import importlib
-
     from vindaesk.common import ending
 
-    ending.call(importlib.import_module("vindaesk.command_line." + os.path.basename(os.path.realpath(path))).main)
+    # as `importlib.import_module` does, which takes a millisecond to be loaded
+    module = __import__("vindaesk.command_line." + os.path.basename(os.path.realpath(path)), fromlist=["main"])
+    ending.call(module.main)
 
 
 def start() -> None:

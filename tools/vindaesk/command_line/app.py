@@ -149,7 +149,7 @@ def status_of(screens: List[Screen], is_strict: bool) -> int:
 
 def main(words: Optional[Sequence[str]] = None) -> int:
     parser = reader()
-    given = parser.parse_intermixed_args(words)
+    given = arguments.parsed(parser, words)
     parts, names = parts_of(given)
     if (given.picture or given.page) and len(names) != 1:
         parser.error("a picture or a page is that of one layout: name it")

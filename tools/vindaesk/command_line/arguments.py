@@ -3,13 +3,16 @@ import argparse
 import io
 import os
 import sys
-from typing import Callable, List, NamedTuple
+from typing import Any, Callable, List, NamedTuple, Optional, Sequence
 
 from ..common import files
 from ..common.failures import Failure, NOT_RUN
 from ..common.places import version
 from ..scripts import script
 from ..scripts.script import Script
+
+# where there is no terminal
+WIDTH = 80
 
 
 class ShowVersion(argparse.Action):
@@ -20,11 +23,37 @@ class ShowVersion(argparse.Action):
         parser.exit()
 
 
+class Formatter(argparse.RawDescriptionHelpFormatter):
+    """Writes a docstring as it is. argparse makes one for each argument that is added, and loads `shutil` for the width of
+    the terminal, which takes a tenth of a start."""
+
+    def __init__(self, prog: str, **others: Any):
+        super().__init__(prog, **{"width": columns() - 2, **others})
+
+
+def columns() -> int:
+    """The width of the terminal, as `shutil` finds it."""
+    given = os.environ.get("COLUMNS", "")
+    if given.isascii() and given.isdigit() and int(given):
+        return int(given)
+    try:
+        return (sys.__stdout__ and os.get_terminal_size(sys.__stdout__.fileno()).columns) or WIDTH
+    except (OSError, ValueError):
+        return WIDTH
+
+
 def parser(doc: str) -> argparse.ArgumentParser:
     """A parser whose help is a tool's docstring, and which knows `--version`."""
-    found = argparse.ArgumentParser(description=doc, formatter_class=argparse.RawDescriptionHelpFormatter)
+    found = argparse.ArgumentParser(description=doc, formatter_class=Formatter)
     found.add_argument("--version", action=ShowVersion, nargs=0, help="prints the version")
     return found
+
+
+def parsed(parser: argparse.ArgumentParser, words: Optional[Sequence[str]]) -> argparse.Namespace:
+    """The arguments of a call, in which options may be between the others. A call without that is read by itself, since
+    the other way takes a tenth of a start."""
+    given, others = parser.parse_known_args(words)
+    return parser.parse_intermixed_args(words) if others else given
 
 
 def add_script(found: argparse.ArgumentParser) -> None:

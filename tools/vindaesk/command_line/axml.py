@@ -56,7 +56,7 @@ def source_of(compiled: bytes, name: str, names: Names) -> bytes:
 
 
 def main(words: Optional[Sequence[str]] = None) -> int:
-    given = reader().parse_intermixed_args(words)
+    given = arguments.parsed(reader(), words)
     source = files.read(given.source, source_reader.MAX_BYTES)
     path, names = list_of(given)
     if given.text:

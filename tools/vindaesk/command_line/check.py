@@ -39,7 +39,7 @@ def checked(given: argparse.Namespace, path: str) -> int:
 
 def main(words: Optional[Sequence[str]] = None) -> int:
     parser = reader()
-    given = parser.parse_intermixed_args(words)
+    given = arguments.parsed(parser, words)
     many.check_options(given, parser)
     arguments.write_any_text()
     if not many.is_many(given):

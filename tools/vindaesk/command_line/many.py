@@ -79,6 +79,8 @@ def check_options(given: argparse.Namespace, parser: argparse.ArgumentParser) ->
     """What is for a single script alone."""
     if is_many(given) and given.expanded:
         parser.error("--expanded takes a single script")
+    if is_many(given) and getattr(given, "out", None):
+        parser.error("many scripts need --out DIR")
 
 
 # which scripts

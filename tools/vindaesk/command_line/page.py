@@ -69,7 +69,7 @@ def of_many(given: argparse.Namespace, it: many.Input) -> int:
 
 def main(words: Optional[Sequence[str]] = None) -> int:
     parser = reader()
-    given = parser.parse_intermixed_args(words)
+    given = arguments.parsed(parser, words)
     many.take_out(given, parser)
     many.check_options(given, parser)
     if not many.is_many(given):

@@ -14,7 +14,6 @@ from ..common.failures import Failure
 from ..common.messages import printable
 from ..pictures import difference, png
 from ..scripts.replies import Refused
-from ..testing import evidence
 from ..views import placement
 from ..views.placement import Placed
 from . import arguments
@@ -49,7 +48,7 @@ def views_of(given: argparse.Namespace) -> List[Placed]:
 
 def main(words: Optional[Sequence[str]] = None) -> int:
     parser = reader()
-    given = parser.parse_intermixed_args(words)
+    given = arguments.parsed(parser, words)
     if given.before == given.after == "-":
         parser.error("only one picture can come from standard input")
     if given.out == "-":
@@ -59,8 +58,12 @@ def main(words: Optional[Sequence[str]] = None) -> int:
         raise Failure("the sizes differ: %d by %d, and %d by %d" % (before[:2] + after[:2]), failures.NOT_RUN)
     found, picture = difference.compared(before, after, given.tolerance)
     print(difference.in_words(found))
-    rows = evidence.regions_in(found, views_of(given))
-    if given.script or len(rows) > 1:
+    views = views_of(given)
+    if given.script or len(found.regions) > 1:
+        # loaded where there is something to say: that takes a third of a start
+        from ..testing import evidence
+
+        rows = evidence.regions_in(found, views)
         for line in evidence.lines_of(rows, len(found.regions) - len(rows)):
             print("  " + printable(line))
     if given.out:

@@ -87,7 +87,7 @@ def add_farms(to: argparse.ArgumentParser) -> None:
 def given_by(words: Optional[Sequence[str]]) -> argparse.Namespace:
     """The arguments of a call. In `--accept DIR` there is no name."""
     parser = reader()
-    given = parser.parse_intermixed_args(words)
+    given = arguments.parsed(parser, words)
     if not given.folders and given.accept and all(map(os.path.exists, given.accept)):
         given.folders, given.accept = given.accept, []
     if given.junit == "-":

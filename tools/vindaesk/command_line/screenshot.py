@@ -121,7 +121,7 @@ def check(given: argparse.Namespace, parser: argparse.ArgumentParser) -> None:
 
 def main(words: Optional[Sequence[str]] = None) -> int:
     parser = reader()
-    given = parser.parse_intermixed_args(words)
+    given = arguments.parsed(parser, words)
     check(given, parser)
     if not many.is_many(given):
         return of_each(many.one(given, given.scripts[0]), given.out, given.frames_folder)

@@ -82,7 +82,7 @@ def ending_of(given: argparse.Namespace) -> str:
 
 def main(words: Optional[Sequence[str]] = None) -> int:
     parser = reader()
-    given = parser.parse_intermixed_args(words)
+    given = arguments.parsed(parser, words)
     if given.json and given.uiautomator:
         parser.error("--json and --uiautomator are two forms: take one")
     many.check_options(given, parser)

@@ -1,7 +1,7 @@
 """Files are read and written whole, or not at all. The path `-` is standard input, or standard output."""
 import os
 import sys
-import tempfile
+from typing import Tuple
 
 from .failures import Failure, NOT_RUN
 
@@ -29,6 +29,17 @@ def read(path: str, limit: int = MAX_BYTES) -> bytes:
     return found
 
 
+def created(folder: str, start: str) -> Tuple[int, str]:
+    """A new file of a folder, whose name begins so and was that of no file: opened for writing, and its path. `tempfile`
+    does the same, but takes as long to be loaded as a small script takes to be run."""
+    while True:
+        path = os.path.join(folder, start + os.urandom(6).hex())
+        try:
+            return os.open(path, os.O_CREAT | os.O_EXCL | os.O_WRONLY | os.O_CLOEXEC, 0o666), path
+        except FileExistsError:
+            continue
+
+
 def replace(path: str, body: bytes) -> None:
     """Puts a file in the place of one that may be there: under another name first, so that it is never half written."""
     folder, name = os.path.split(os.path.realpath(path))
@@ -36,10 +47,9 @@ def replace(path: str, body: bytes) -> None:
     try:
         if os.path.exists(path) and not os.path.isfile(path):
             raise Failure("%s cannot be written: it is no file" % path, NOT_RUN)
-        handle, place = tempfile.mkstemp(prefix="." + name[:64] + ".", dir=folder)
+        handle, place = created(folder, "." + name[:64] + ".")
         with open(handle, "wb") as file:
             file.write(body)
-        os.chmod(place, 0o666 & ~mask())
         os.replace(place, os.path.join(folder, name))
         place = None
     except (OSError, ValueError) as error:
@@ -54,7 +64,7 @@ def check_place(path: str) -> None:
     try:
         if os.path.exists(path) and not os.path.isfile(path):
             raise Failure("%s cannot be written: it is no file" % path, NOT_RUN)
-        handle, place = tempfile.mkstemp(dir=os.path.dirname(os.path.realpath(path)))
+        handle, place = created(os.path.dirname(os.path.realpath(path)), ".")
         os.close(handle)
         os.unlink(place)
     except OSError as error:

@@ -136,7 +136,7 @@ def recorded(made: Script, refused: Refused, most: int) -> Recording:
     if not found.steps:
         refused.end()
         why = found.why or (37 if found.window else 33)
-        raise Failure("there is no frame to show: " + frames.REASONS.get(why, "refusal %d" % why))
+        raise Failure("there is no frame to show: " + replies.REASONS.get(why, "refusal %d" % why))
     return found
 
 

@@ -3,19 +3,12 @@ from typing import Iterator, List, NamedTuple, Optional
 
 from ..common.failures import Failure
 from ..scripts import replies, script
-from ..scripts.replies import Answer, Part, Refused
+from ..scripts.replies import REASONS, Answer, Part, Refused
 from ..scripts.script import Script, Window
 from .png import Picture
 
 # how many pixels one line may ask for
 MOST = 65536
-# why there is no picture and no bounds, by the number of the refusal
-REASONS = {
-    33: "the script opens no window",
-    37: "no frame came after the last window",
-    36: "the last frame has not settled",
-    34: "the tree has no root",
-}
 
 
 class Frame(NamedTuple):

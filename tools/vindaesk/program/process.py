@@ -1,9 +1,9 @@
 """Finds the program and runs it for a tool."""
 import functools
+import os
 import signal
 import subprocess
-import tempfile
-from typing import Iterator, List, Tuple
+from typing import IO, Iterator, List, Tuple
 
 from ..common.failures import Failure
 from ..provenance import choice
@@ -40,10 +40,19 @@ def ran(words: List[str], given: bytes, folder: str) -> Tuple[bytes, int]:
     return written, started.returncode
 
 
+def nameless() -> IO[bytes]:
+    """A file without a name, in memory where the system has such files."""
+    if hasattr(os, "memfd_create"):
+        return open(os.memfd_create("script"), "w+b")
+    import tempfile
+
+    return tempfile.TemporaryFile()
+
+
 def lines_of(script: bytes, folder: str, form: str = "run") -> Iterator[bytes]:
     """Each line that the program writes over a script, as it comes; a run that does not reach its end is a failure. The
     form is `run`, or `stack` for a script of windows."""
-    with tempfile.TemporaryFile() as given:
+    with nameless() as given:
         given.write(script)
         given.seek(0)
         started = subprocess.Popen(

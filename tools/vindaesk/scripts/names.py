@@ -14,9 +14,10 @@ from ..common.failures import Failure, NOT_RUN
 from .resource_names import SYSTEM, Names
 
 LIST = "ids.txt"
-NAME = re.compile(rb"@(\+?)(?:([A-Za-z_][\w.]*):)?([A-Za-z_]\w*)/([\w.$-]+)", re.ASCII)
-ID = re.compile(rb"(?<![^ ])@([0-9A-Fa-f]{1,8})(?![^ ])")
-WORD = re.compile(rb"[^ ]+")
+# patterns are compiled where a line has a name: each takes as long as the run of a line
+NAME = rb"@(\+?)(?:([A-Za-z_][\w.]*):)?([A-Za-z_]\w*)/([\w.$-]+)"
+ID = rb"(?<![^ ])@([0-9A-Fa-f]{1,8})(?![^ ])"
+WORD = rb"[^ ]+"
 # the public ids of Android's own views, from 0x01020000 on; `aapt2 dump resources framework-res.apk` lists them
 FIRST_OF_ANDROID = 0x01020000
 OF_ANDROID = (
@@ -117,7 +118,7 @@ class Ids:
 
     def read(self, word: bytes) -> Tuple[Optional[int], str]:
         """The id of a word that is a name; or nothing, and why it has none."""
-        found = NAME.fullmatch(word)
+        found = re.fullmatch(NAME, word)
         assert found is not None
         plus, package, kind, name = (part.decode() if part else "" for part in found.groups())
         if plus:
@@ -131,7 +132,7 @@ class Ids:
             known = self.name(int(found[1], 16))
             return known.encode() if known else found[0]
 
-        return ID.sub(name, line) if b"@" in line else line
+        return re.sub(ID, name, line) if b"@" in line else line
 
 
 def characters(text: bytes) -> int:
@@ -142,7 +143,7 @@ def characters(text: bytes) -> int:
 def name_words(line: bytes) -> List[Tuple[int, bytes]]:
     """Where the names of a line are: the place of each, and the name. What follows `text V` or `res @HEX text` is a
     text, in which there are none."""
-    words = [(it.start(), it[0]) for it in WORD.finditer(line[:-1] if line.endswith(b"\r") else line)]
+    words = [(it.start(), it[0]) for it in re.finditer(WORD, line[:-1] if line.endswith(b"\r") else line)]
     # a line of a stack of windows: `in 0 text v1 ..`
     first = 2 if words and words[0][1] == b"in" else 0
     plain = [word for _, word in words[first:]]
@@ -150,7 +151,7 @@ def name_words(line: bytes) -> List[Tuple[int, bytes]]:
         words = words[: first + 2]
     elif plain[:1] == [b"res"] and plain[2:3] == [b"text"]:
         words = words[: first + 2]
-    return [(start, word) for start, word in words if NAME.fullmatch(word)]
+    return [(start, word) for start, word in words if re.fullmatch(NAME, word)]
 
 
 @functools.lru_cache(64)

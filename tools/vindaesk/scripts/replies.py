@@ -19,6 +19,13 @@ FOLLOWING = (28, 33, 34, 36, 37, 38)
 # what makes these; and refusals by which it is not known what a line should have made
 MAKING = [[b"window"], [b"add"], [b"inflate"], [b"id"], [b"frame"], [b"down"]]
 UNREAD = (30, 31, 32)
+# why there is no picture and no bounds, by the number of the refusal
+REASONS = {
+    33: "the script opens no window",
+    37: "no frame came after the last window",
+    36: "the last frame has not settled",
+    34: "the tree has no root",
+}
 REFUSED = re.compile(rb"line ([1-9][0-9]*): (refused ([0-9]+) [A-Za-z]+.*)", re.DOTALL)
 
 

@@ -6,7 +6,7 @@ from typing import Dict, List, Optional, Tuple
 from ..common.failures import Failure, NOT_RUN
 from ..common.messages import shown
 
-LINE = re.compile(r"(?:([A-Za-z_][\w.]*):)?(\w+)/([\w.$-]+) *= *(?:0x)?([0-9A-Fa-f]{8})", re.ASCII)
+LINE = r"(?:([A-Za-z_][\w.]*):)?(\w+)/([\w.$-]+) *= *(?:0x)?([0-9A-Fa-f]{8})"
 # the package of what an app has itself, and where the ids of its views begin where there are none yet
 OWN = 0x7F
 FIRST = 0x7F080000
@@ -38,7 +38,7 @@ class Names:
 
     def read(self, line: bytes, place: str) -> None:
         """Takes a line of the list."""
-        found = LINE.fullmatch(line.decode("utf-8", "replace"))
+        found = re.fullmatch(LINE, line.decode("utf-8", "replace"), re.ASCII)
         if not found:
             raise Failure("%s: this is not of the form app:id/title = 0x7f080000: %s" % (place, shown(line)), NOT_RUN)
         name, number = (found[1] or "", found[2], found[3]), int(found[4], 16)

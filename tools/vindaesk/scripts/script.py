@@ -11,7 +11,7 @@ from . import names
 from .names import Expanded, Ids, Unknown
 
 NUMBER = re.compile(rb"0|-?[1-9][0-9]{0,9}")
-INCLUDE = re.compile(rb" *include +(.*?) *\r?", re.DOTALL)
+INCLUDE = rb" *include +(.*?) *\r?"
 MAX_LINE = 1024
 MAX_SIDE = 4096
 # how deep files may include others, and how many times
@@ -138,7 +138,7 @@ def included(line: bytes) -> Optional[str]:
     """The file that a line includes."""
     if words_of(line)[:1] != [b"include"]:
         return None
-    found = INCLUDE.fullmatch(line)
+    found = re.fullmatch(INCLUDE, line, re.DOTALL)
     return os.fsdecode(found[1]) if found else ""
 
 
@@ -159,6 +159,11 @@ def words_of(line: bytes) -> List[bytes]:
 def without_return(line: bytes) -> bytes:
     """A line less the one carriage return that may end it."""
     return line[:-1] if line.endswith(b"\r") else line
+
+
+def unescaped(text: str) -> str:
+    """A text of a line without its escapes."""
+    return re.sub(r"\\([n\\])", lambda it: "\n" if it[1] == "n" else it[1], text)
 
 
 def is_frame(line: bytes) -> bool:

@@ -1,12 +1,10 @@
 """Where the views of a script lie, in their parents and in the window, and how a tree is written."""
-import json
 from typing import Dict, List, NamedTuple, Optional, Tuple
 
 from ..common.failures import Failure, WRONG
 from ..layouts.app_elements import BOUNDS
-from ..pictures.frames import REASONS
 from ..scripts import replies
-from ..scripts.replies import Part, Refused
+from ..scripts.replies import REASONS, Part, Refused
 from ..scripts.script import Script, Window
 from . import view_tree
 from .facts import Place, Source
@@ -17,6 +15,10 @@ JSON_VERSION = 2
 
 # the longest text of a line or a message
 MAX_TEXT = 1 << 30
+
+# the characters that JSON has no other way, and their escapes
+ESCAPES: Dict[int, str] = {number: "\\u%04x" % number for number in range(32)}
+ESCAPES.update({ord(it): escape for it, escape in zip('"\\\n\r\t\b\f', ('\\"', "\\\\", "\\n", "\\r", "\\t", "\\b", "\\f"))})
 
 Box = Tuple[int, int, int, int]
 
@@ -92,10 +94,16 @@ def id_of(view: View) -> Optional[str]:
     return view.id_name or name_of(view.id)
 
 
+def quoted(text: str) -> str:
+    """A text as JSON has it, with all characters that it can have as they are. `json` does the same, but takes a tenth of
+    a start to be loaded."""
+    return '"%s"' % text.translate(ESCAPES)
+
+
 def title(view: View, most: int = MAX_TEXT) -> str:
     """Number, class, id and text of a view, as messages have them; a text of more characters than some is cut."""
     whole = view.text or ""
-    text = json.dumps(whole if len(whole) <= most else whole[:most] + " ..", ensure_ascii=False) if whole else None
+    text = quoted(whole if len(whole) <= most else whole[:most] + " ..") if whole else None
     return " ".join(filter(None, ["v%d" % view.number, view.kind, id_of(view), text]))
 
 
@@ -183,6 +191,8 @@ def source_record(it: Optional[Source]) -> Optional[Dict[str, object]]:
 def as_json(window: Window, views: List[Placed]) -> str:
     """The whole tree as JSON, a view a line. docs/tree.schema.json has its form; a form that programs which read this
     one might not understand has another version."""
+    import json
+
     rows = ",\n".join("  " + json.dumps(record(it), ensure_ascii=False) for it in views)
     return '{"version": %d, "window": %s, "views": [\n%s\n]}\n' % (JSON_VERSION, json.dumps(window), rows)
 

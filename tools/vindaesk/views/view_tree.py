@@ -331,7 +331,7 @@ def values_of(words: List[bytes]) -> Dict[str, str]:
 def text_of(form: "re.Pattern[bytes]", line: bytes) -> str:
     """The text at the end of a line, without its escapes."""
     found = form.fullmatch(script.without_return(line))
-    return documents.unescaped(found[1].decode()) if found else ""
+    return script.unescaped(found[1].decode()) if found else ""
 
 
 def parts_of(lines: List[bytes], ends: Sequence[bytes] = REPLYING) -> List[Part]:
