@@ -5,7 +5,7 @@ import subprocess
 import time
 from typing import List
 
-from running import SECONDS, TOP, Checks, named
+from running import SECONDS, Checks, named
 from tools import RED, Place, first, place, unlike
 from vindaesk.pictures import png
 
@@ -50,8 +50,8 @@ def goes_on_after_failures() -> str:
             why = why or unlike(it.call("tree", "s/a.script", "s/in/b.script", "--jobs", jobs), 0, tree, "")
             if why:
                 return "%s jobs: %s" % (jobs, why)
-        found = it.call("tree", "s", "--json", "--out", "trees"), it.call("page", "s", "--out", "pages")
-        why = first(unlike(ended, 1, b"") for ended in found)
+        calls = (("tree", "s", "--json", "--out", "trees"), ("page", "s", "--out", "pages"))
+        why = first(unlike(it.call(*words), 1, b"") for words in calls)
         names = below(it, "trees") + below(it, "pages")
         wanted = [name + ending for ending in (".json", ".html") for name in ("a", "in/b", "in/c", "other/a")]
         return why or ("" if names == wanted else "files: %s" % names)
@@ -103,7 +103,8 @@ def ends_with_its_workers() -> str:
         put_all(it)
         slow = it.stand_in("echo $$ >> programs; exec sleep 60")
         for number, status in ((signal.SIGTERM, 143), (signal.SIGINT, 130)):
-            started = it.start("tools/screenshot", "s/a.script", "s/in/b.script", "--out", "made", "--jobs", "2", **slow)
+            started = it.start("tools/screenshot", "s/a.script", "s/in/b.script", "--out", "made", "--jobs", "2",
+                               stderr=subprocess.PIPE, **slow)
             end = time.monotonic() + SECONDS
             pids: List[str] = []
             while len(pids) < 2 and time.monotonic() < end:

@@ -18,7 +18,7 @@ import zlib
 from typing import Any, Dict, Iterable, Iterator, List, Optional, Sequence, Tuple, Union
 
 from running import PROGRAM, SECONDS, TOP, Checks, named
-from vindaesk.pictures import png
+from vindaesk.pictures import filters, png
 
 # the status, what is written, and what is said
 Ended = Tuple[int, bytes, str]
@@ -410,34 +410,34 @@ def follows_files() -> str:
         return "" if lines == wanted else "%s" % lines
 
 
-def coded(form: int, rows: List[bytes], filters: Sequence[int], extra: bytes = b"") -> bytes:
+def coded(form: int, rows: List[bytes], kinds: Sequence[int], extra: bytes = b"") -> bytes:
     """A PNG file of some colour type, whose rows go by these filters."""
     step = png.BYTES[form]
     above, body = bytes(len(rows[0])), b""
-    for kind, row in zip(filters, rows):
+    for kind, row in zip(kinds, rows):
         left = bytes(step) + row[:-step]
         corner = bytes(step) + above[:-step]
         guess = {0: bytes(len(row)), 1: left, 2: above, 3: bytes((a + b) // 2 for a, b in zip(left, above)),
-                 4: bytes(map(png.below, left, above, corner))}[kind]
+                 4: bytes(map(filters.below, left, above, corner))}[kind]
         body += bytes([kind]) + bytes((a - b) & 255 for a, b in zip(row, guess))
         above = row
     head = struct.pack(">IIBBBBB", len(rows[0]) // step, len(rows), 8, form, 0, 0, 0)
-    ends = png.chunk(b"IDAT", zlib.compress(body)) + png.chunk(b"IEND", b"")
-    return png.SIGNATURE + png.chunk(b"IHDR", head) + extra + ends
+    ends = filters.chunk(b"IDAT", zlib.compress(body)) + filters.chunk(b"IEND", b"")
+    return filters.SIGNATURE + filters.chunk(b"IHDR", head) + extra + ends
 
 
 def reads_png() -> str:
     rows = [bytes((k * 7 + line * 90 + k * k) % 256 for k in range(12)) for line in range(5)]
     colours = [b"".join(bytes([it] * 3) for it in row) for row in rows]
-    palette = png.chunk(b"PLTE", bytes(it for k in range(256) for it in (k, k, k)))
+    palette = filters.chunk(b"PLTE", bytes(it for k in range(256) for it in (k, k, k)))
     opaque = [b"".join(bytes((it, 255)) for it in row) for row in rows]
     seen = [b"".join(row[k : k + 3] + b"\x80" for k in range(0, 12, 3)) for row in rows]
     half = [bytes((it * 128 + 127) // 255 for it in row) for row in rows]
     wanted = {2: (rows, rows), 0: (rows, colours), 3: (rows, colours), 4: (opaque, colours), 6: (seen, half)}
     for form, (stored, shown) in wanted.items():
-        for filters in ((0, 1, 2, 3, 4), (4, 3, 2, 1, 0)):
-            if png.parsed(coded(form, stored, filters, palette if form == 3 else b"")).rows != shown:
-                return "a file of the type %d with filters %s is read wrong" % (form, filters)
+        for kinds in ((0, 1, 2, 3, 4), (4, 3, 2, 1, 0)):
+            if png.parsed(coded(form, stored, kinds, palette if form == 3 else b"")).rows != shown:
+                return "a file of the type %d with filters %s is read wrong" % (form, kinds)
     picture = png.Picture(4, 5, rows)
     return "" if png.parsed(png.written(picture)) == picture else "what is written is not read"
 
@@ -445,11 +445,11 @@ def reads_png() -> str:
 def broken_files() -> Iterator[bytes]:
     """Files that are no whole picture."""
     good = png.written(png.Picture(2, 2, [b"\1\2\3\4\5\6"] * 2))
-    head = png.chunk(b"IHDR", struct.pack(">IIBBBBB", 60000, 60000, 8, 2, 0, 0, 0))
+    head = filters.chunk(b"IHDR", struct.pack(">IIBBBBB", 60000, 60000, 8, 2, 0, 0, 0))
     yield from (good[:size] for size in (0, 7, 8, 20, 33, len(good) - 12, len(good) - 1))
     yield good.replace(b"IDAT", b"IDAU")
-    yield png.SIGNATURE + head + png.chunk(b"IDAT", zlib.compress(bytes(1000))) + png.chunk(b"IEND", b"")
-    yield png.SIGNATURE + good[33:]
+    yield filters.SIGNATURE + head + filters.chunk(b"IDAT", zlib.compress(bytes(1000))) + filters.chunk(b"IEND", b"")
+    yield filters.SIGNATURE + good[33:]
     for form, rows, extra in ((3, [b"\1\2"], b""), (2, [b"\1\2\3"] * 2, b"")):
         yield coded(form, rows, (0,), extra)
 

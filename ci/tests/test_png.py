@@ -1,11 +1,13 @@
 """PNG files: those of Pillow, and some that are put together here by the words of the PNG specification."""
 import io
+import os
+import random
 import struct
 import zlib
-from typing import Any, List
+from typing import Any, Iterator, List
 
 from running import Skipped
-from vindaesk.pictures import png
+from vindaesk.pictures import filters, png
 
 
 def part(kind: bytes, body: bytes) -> bytes:
@@ -100,3 +102,43 @@ def test_pillow_reads_what_is_written() -> None:
             for x in range(2):
                 for at in ((x * scale, y * scale), (x * scale + scale - 1, y * scale + scale - 1)):
                     assert found.getpixel(at) == tuple(row[3 * x : 3 * x + 3])
+
+
+def test_both_ways_read_the_same() -> None:
+    """Rows by each filter, of 1 to 4 bytes a pixel: as the specification has them (9.2), by Pillow and without it."""
+    random_numbers = random.Random(1)
+    for count in range(200):
+        step, width, height = random_numbers.randint(1, 4), random_numbers.randint(1, 9), random_numbers.randint(1, 9)
+        size = step * width
+        lines = [bytes(random_numbers.choice((0, 0, 0, 1, 255, random_numbers.randrange(256))) for _ in range(size))
+                 for _ in range(height)]
+        plain = b"".join(bytes([random_numbers.randrange(5)]) + line for line in lines)
+        wanted = list(by_the_words(plain, size, step))
+        assert (count, list(filters.one_by_one(plain, size, step))) == (count, wanted)
+        if filters.has_pillow():
+            assert (count, filters.by_pillow(plain, size, step)) == (count, wanted)
+
+
+def by_the_words(plain: bytes, size: int, step: int) -> Iterator[bytes]:
+    """The rows of filtered lines, byte by byte, by the words of the specification (9.2 to 9.4)."""
+    above = [0] * size
+    for start in range(0, len(plain), size + 1):
+        row: List[int] = []
+        for k, it in enumerate(plain[start + 1 : start + 1 + size]):
+            a, b, c = row[k - step] if k >= step else 0, above[k], above[k - step] if k >= step else 0
+            p = a + b - c
+            nearest = min((abs(p - a), 0, a), (abs(p - b), 1, b), (abs(p - c), 2, c))[2]
+            row.append((it + (0, a, b, (a + b) // 2, nearest)[plain[start]]) % 256)
+        yield bytes(row)
+        above = row
+
+
+def test_pillow_is_optional() -> None:
+    before = os.environ.get(filters.PLAIN)
+    os.environ[filters.PLAIN] = "1"
+    try:
+        assert not filters.has_pillow()
+    finally:
+        del os.environ[filters.PLAIN]
+        if before is not None:
+            os.environ[filters.PLAIN] = before

@@ -5,7 +5,7 @@ import struct
 import zlib
 from typing import Iterable, Iterator, List, NamedTuple, Optional, Tuple
 
-from ..pictures import png
+from ..pictures import filters, png
 
 # the mean colour is that of this many pixels at the top: more would take a second
 MAX_PIXELS = 1 << 15
@@ -119,10 +119,7 @@ def rows_of(parts: PngParts, most: int) -> Iterator[bytes]:
     size = width * step
     wanted = min(height, most) * (size + 1)
     plain = zlib.decompressobj().decompress(parts.body, wanted)
-    above = bytes(size)
-    for at in range(0, len(plain) - size, size + 1):
-        above = png.unfiltered(plain[at], plain[at + 1 : at + 1 + size], above, step)
-        yield above
+    return filters.one_by_one(plain[: len(plain) // (size + 1) * (size + 1)], size, step)
 
 
 def has_rows(parts: PngParts) -> bool:
@@ -205,7 +202,7 @@ def of_webp(data: bytes) -> Optional[Bitmap]:
 def read(data: bytes, is_nine_patch_source: bool = False, has_colour: bool = True) -> Optional[Bitmap]:
     """The bitmap of a file, with its colour where that is asked for; nothing where it is of no known form, or broken."""
     try:
-        if data.startswith(png.SIGNATURE):
+        if data.startswith(filters.SIGNATURE):
             return of_nine_patch_source(data) if is_nine_patch_source else of_png(data, has_colour)
         if data.startswith(b"\xff\xd8"):
             return of_jpeg(data)

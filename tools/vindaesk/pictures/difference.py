@@ -1,25 +1,13 @@
 """Where two pictures differ."""
-import itertools
-from typing import Dict, List, NamedTuple, Tuple
+from typing import List, NamedTuple, Tuple
 
-from ..common import progress
+from .bytewise import Lanes, interleaved
 from .png import Picture
+from .regions import Box, Region, regions_in
 
-# a pixel that differs, in the picture of a difference
-MARKED = b"\xff\x00\x00"
+# how many bytes are calculated with at once: pixels, and what fits into the memory near the processor
+AT_ONCE = 3 << 13
 QUARTER = bytes(it // 4 for it in range(256))
-
-
-Box = Tuple[int, int, int, int]
-# pixels that differ are in one region where less than two cells are between them; a cell is a square of this side
-CELL = 4
-
-
-class Region(NamedTuple):
-    """A part in which pixels differ: the box around them, and how many there are."""
-
-    box: Box
-    pixels: int
 
 
 class Difference(NamedTuple):
@@ -32,74 +20,54 @@ class Difference(NamedTuple):
     regions: Tuple[Region, ...] = ()
 
 
-def around(one: Region, other: Region) -> Region:
-    """Two regions as one."""
-    (left, top, right, bottom), box = one.box, other.box
-    whole = (min(left, box[0]), min(top, box[1]), max(right, box[2]), max(bottom, box[3]))
-    return Region(whole, one.pixels + other.pixels)
+def distances(before: bytes, after: bytes) -> bytes:
+    """The greatest difference of a channel at each pixel of two pictures."""
+    starts = range(0, len(before), AT_ONCE)
+    return b"".join(distances_of(before[at : at + AT_ONCE], after[at : at + AT_ONCE]) for at in starts)
 
 
-class Cells:
-    """The pixels that differ, in squares of a picture."""
-
-    def __init__(self) -> None:
-        self.cells: Dict[Tuple[int, int], Region] = {}
-
-    def add(self, columns: List[int], row: int) -> None:
-        """Adds pixels of a row, whose columns go up."""
-        for cell, group in itertools.groupby(columns, lambda column: column // CELL):
-            found = list(group)
-            key, new = (cell, row // CELL), Region((found[0], row, found[-1] + 1, row + 1), len(found))
-            self.cells[key] = around(self.cells[key], new) if key in self.cells else new
-
-    def regions(self) -> Tuple[Region, ...]:
-        """The regions: squares that touch, at a corner too, are in one."""
-        left, found = dict(self.cells), []
-        while left:
-            key, region = left.popitem()
-            open_ones = [key]
-            while open_ones:
-                x, y = open_ones.pop()
-                for near in itertools.product((x - 1, x, x + 1), (y - 1, y, y + 1)):
-                    if near in left:
-                        region = around(region, left.pop(near))
-                        open_ones.append(near)
-            found.append(region)
-        return tuple(sorted(found, key=lambda it: (it.box[1], it.box[0])))
+def distances_of(before: bytes, after: bytes) -> bytes:
+    """The same of a part."""
+    if before == after:
+        return bytes(len(before) // 3)
+    lanes = Lanes(len(before))
+    apart = lanes.row(lanes.distances(lanes.number(before), lanes.number(after)))
+    pixels = Lanes(len(before) // 3)
+    red, green, blue = (pixels.number(apart[place::3]) for place in range(3))
+    return pixels.row(pixels.greatest(pixels.greatest(red, green), blue))
 
 
-def marks(before: bytes, after: bytes, tolerance: int) -> Tuple[List[int], int]:
-    """Which pixels of two rows differ by more than the tolerance, and the greatest difference among these."""
-    apart = bytes(abs(one - other) for one, other in zip(before, after))
-    most = [max(apart[k : k + 3]) for k in range(0, len(apart), 3)]
-    found = [column for column, it in enumerate(most) if it > tolerance]
-    return found, max((most[column] for column in found), default=0)
+def dimmed(before: bytes, marks: bytes) -> bytes:
+    """A picture at a quarter of its light, with a red pixel in the place of each that is marked."""
+    plain = before.translate(QUARTER)
+    if 1 not in marks:
+        return plain
+    lanes = Lanes(len(marks))
+    mask = lanes.number(marks) * 255
+    red, green, blue = (lanes.number(plain[place::3]) for place in range(3))
+    return interleaved((lanes.row(red | mask), lanes.row(green & ~mask), lanes.row(blue & ~mask)))
 
 
-def dimmed(row: bytes, found: List[int]) -> bytes:
-    """A row at a quarter of its light, with red pixels where it differs."""
-    made = bytearray(row.translate(QUARTER))
-    for column in found:
-        made[3 * column : 3 * column + 3] = MARKED
-    return bytes(made)
+def rows_of(whole: bytes, width: int) -> List[bytes]:
+    """Bytes as rows of this many."""
+    return [whole[at : at + width] for at in range(0, len(whole), width)]
 
 
 def compared(before: Picture, after: Picture, tolerance: int = 0) -> Tuple[Difference, Picture]:
     """How two pictures of one size differ, and a picture of that: the first one dimmed, and red where they differ."""
-    count, greatest = 0, 0
-    left, top, right, bottom = before.width, before.height, 0, 0
-    rows, cells = [], Cells()
-    pairs = progress.counted(zip(before.rows, after.rows), before.height, "rows of both pictures")
-    for number, (one, other) in enumerate(pairs):
-        found, most = marks(one, other, tolerance) if one != other else ([], 0)
-        rows.append(dimmed(one, found))
-        if found:
-            count, greatest = count + len(found), max(greatest, most)
-            left, right = min(left, found[0]), max(right, found[-1] + 1)
-            top, bottom = min(top, number), number + 1
-            cells.add(found, number)
-    box = (left, top, right, bottom) if count else (0, 0, 0, 0)
-    return Difference(count, greatest, box, cells.regions()), Picture(before.width, before.height, rows)
+    # rows that are the same are not calculated with
+    numbers = [k for k, (one, other) in enumerate(zip(before.rows, after.rows)) if one != other]
+    most = distances(*(b"".join([it.rows[k] for k in numbers]) for it in (before, after))) if numbers else b""
+    marked = dict(zip(numbers, rows_of(most.translate(bytes(it > tolerance for it in range(256))), before.width)))
+    none = bytes(before.width)
+    marks = [marked.get(k, none) for k in range(before.height)]
+    regions = regions_in(marks) if any(1 in it for it in marked.values()) else ()
+    picture = Picture(before.width, before.height, rows_of(dimmed(b"".join(before.rows), b"".join(marks)), 3 * before.width))
+    if not regions:
+        return Difference(0, 0, (0, 0, 0, 0)), picture
+    boxes = list(zip(*(it.box for it in regions)))
+    box = (min(boxes[0]), min(boxes[1]), max(boxes[2]), max(boxes[3]))
+    return Difference(sum(it.pixels for it in regions), max(most), box, regions), picture
 
 
 def in_words(found: Difference) -> str:

@@ -7,6 +7,7 @@ from typing import Callable, Dict, List, NamedTuple, Optional
 from ..common import files
 from ..pictures import difference, png
 from ..pictures.png import Picture
+from ..pictures.regions import Box
 from ..views import placement
 from ..views.placement import Placed
 from . import comparing, kinds
@@ -20,7 +21,7 @@ MOST_REGIONS = 40
 class Region(NamedTuple):
     """Where pictures differ: left, top, right and bottom, how many pixels, and the view there, which may be none."""
 
-    box: difference.Box
+    box: Box
     pixels: int
     view: str
 

@@ -1,0 +1,61 @@
+"""Sums, differences and choices of many bytes at once, each byte by itself: as whole numbers with all of the bytes in
+them, since Python takes a hundred times as long for one after the other."""
+from typing import Tuple
+
+
+class Lanes:
+    """Calculates with rows of this number of bytes."""
+
+    def __init__(self, count: int):
+        self.count = count
+        self.tops = int.from_bytes(b"\x80" * count, "little")
+        self.rest = self.tops ^ int.from_bytes(b"\xff" * count, "little")
+
+    def number(self, row: bytes) -> int:
+        """A row as a number."""
+        return int.from_bytes(row, "little")
+
+    def row(self, number: int) -> bytes:
+        """The row of a number."""
+        return number.to_bytes(self.count, "little")
+
+    def sums(self, one: int, other: int) -> int:
+        """The sum of each two bytes, less 256 where it is that or more."""
+        return ((one & self.rest) + (other & self.rest)) ^ ((one ^ other) & self.tops)
+
+    def differences(self, one: int, other: int) -> int:
+        """The difference of each two bytes, and 256 more where it is below 0."""
+        return ((one | self.tops) - (other & self.rest)) ^ (~(one ^ other) & self.tops)
+
+    def lesser(self, one: int, other: int) -> int:
+        """255 in the place of each byte of the first that is less than that of the other, and 0 for the others."""
+        apart = self.differences(one, other)
+        borrowed = ((~one & other) | ((~one | other) & apart)) & self.tops
+        return (borrowed >> 7) * 255
+
+    def distances(self, one: int, other: int) -> int:
+        """How far apart each two bytes are."""
+        mask = self.lesser(one, other)
+        # below 0 the bits are turned and 1 is added, which is never more than a byte: there is no difference of 0
+        return (self.differences(one, other) ^ mask) + (mask & (self.tops >> 7))
+
+    def greatest(self, one: int, other: int) -> int:
+        """The greater of each two bytes."""
+        mask = self.lesser(one, other)
+        return (one & ~mask) | (other & mask)
+
+
+def stretched(row: bytes, step: int, times: int) -> bytes:
+    """A row with each group of `step` bytes a number of times."""
+    made = bytearray(len(row) * times)
+    for place in range(step):
+        for copy in range(times):
+            made[place + step * copy :: step * times] = row[place::step]
+    return bytes(made)
+
+
+def interleaved(parts: Tuple[bytes, bytes, bytes]) -> bytes:
+    """The bytes of three rows in turn."""
+    made = bytearray(3 * len(parts[0]))
+    made[0::3], made[1::3], made[2::3] = parts
+    return bytes(made)
