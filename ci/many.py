@@ -74,7 +74,7 @@ def refuses_before_it_writes() -> str:
     with place() as it:
         put_all(it)
         before = below(it, ".")
-        why = first("%s: %s" % (words, why) for words, what in said.items() for why in [unlike(it.call(*words), 2, b"", what)] if why)
+        why = first(unlike(it.call(*words), 2, b"", what) for words, what in said.items())
         return why or ("" if below(it, ".") == before else "files: %s" % below(it, "."))
 
 

@@ -71,7 +71,7 @@ def take_out(given: argparse.Namespace, parser: argparse.ArgumentParser) -> None
     last = given.scripts[-1]
     if given.out_folder is None and len(given.scripts) == 2 and not last.endswith(SCRIPTS + STACKS):
         given.out = given.scripts.pop()
-    elif given.out_folder is None and not given.expanded and is_many(given) and not getattr(given, "frames_folder", None):
+    elif not (given.out_folder or given.expanded or getattr(given, "frames_folder", None)) and is_many(given):
         parser.error("many scripts need --out DIR")
 
 

@@ -33,7 +33,7 @@ def reader() -> argparse.ArgumentParser:
     """The arguments."""
     found = arguments.parser(__doc__)
     many.add(found, "DIR/NAME.html of each")
-    found.add_argument("out", metavar="OUT.html", nargs="?", help="the page of a single script, or - for standard output")
+    found.add_argument("out", metavar="OUT.html", nargs="?", help="the page of one script, or - for standard output")
     found.add_argument("--frames", metavar="N", type=arguments.count(1, 10000), default=100,
                        help="shows the first N frames, 1 to 10000; 100")
     found.add_argument("--title", metavar="TEXT", help="the title; without it, the name of the script")

@@ -35,7 +35,7 @@ def reader() -> argparse.ArgumentParser:
     """The arguments."""
     found = arguments.parser(__doc__)
     many.add(found, "DIR/NAME.png of each")
-    found.add_argument("out", metavar="OUT.png", nargs="?", help="the picture of a single script, or - for standard output")
+    found.add_argument("out", metavar="OUT.png", nargs="?", help="the picture of one script, or - for standard output")
     found.add_argument("--scale", metavar="N", type=arguments.count(1, 8), default=1, help="a pixel is N by N, 1 to 8")
     found.add_argument("--frames", metavar="DIR", dest="frames_folder",
                        help="writes DIR/0001.png and so on, one for each frame that settles; of many, DIR/NAME/0001.png")
