@@ -40,7 +40,8 @@ def a_start_loads_no_more() -> str:
     # what a sitecustomize or a folder of packages loads at any start is not meant
     own = set(loaded("-c", "pass"))
     words = (os.path.join("tools", "tree"), os.path.join("examples", "card.script"))
-    found = loaded(*words)
+    # the first start keeps which sources there are, for those that follow
+    found = [loaded(*words) for _ in range(2)][-1]
     if "vindaesk.views.placement" not in found:
         return "it does not show what is loaded: %s" % found
     more = [it for it in found if it not in own and not may_be_loaded(it, packages)]
