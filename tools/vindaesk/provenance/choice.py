@@ -44,7 +44,7 @@ def up_to_date() -> str | None:
 
 
 def available() -> str:
-    """The program that tools run: the one that is of the sources as they are, which takes 15 ms to find. Where there is
+    """The program that tools run: the one that is of the sources as they are, which takes 10 ms to find. Where there is
     none, as after an edit, it is the newer of the two that are there, so that tools need no build."""
     found = up_to_date()
     if found is None and not proves() and dist.is_there() and dist_is_newer():

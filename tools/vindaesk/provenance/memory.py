@@ -22,14 +22,20 @@ def state_of(paths: list[str]) -> tuple[bytes, int]:
     return state, max(max(it.st_mtime_ns, it.st_ctime_ns) for it in stats)
 
 
-def recalled(name: str, state: bytes) -> str | None:
-    """The result that is kept under a name, if its files are in this state."""
+def read(name: str) -> tuple[str, bytes]:
+    """The result that is kept under a name, and the state; empty where there is none."""
     try:
         with open(os.path.join(FOLDER, name), "rb") as file:
             result, _, kept = file.read().partition(b"\n")
     except OSError:
-        return None
-    return result.decode("ascii", "replace") if kept == state else None
+        return "", b""
+    return result.decode("ascii", "replace"), kept
+
+
+def recalled(name: str, state: bytes) -> str | None:
+    """The result that is kept under a name, if its files are in this state."""
+    result, kept = read(name)
+    return result if kept == state else None
 
 
 def keep(name: str, state: bytes, latest: int, result: str) -> None:

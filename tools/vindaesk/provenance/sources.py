@@ -22,36 +22,72 @@ READ = ("src", "specs", "proofs")
 KEPT = "sources"
 
 
+def inside(top: str, path: str) -> list[tuple[str, os.DirEntry[str]]]:
+    """What is in a folder, except what a build makes, each with its path below the top. The path of a folder ends with a
+    slash, as the given one does."""
+    with os.scandir(os.path.join(top, path)) as found:
+        return [(path + it.name + "/" * it.is_dir(), it) for it in found if it.name != MADE]
+
+
+def is_timed(path: str) -> bool:
+    """Whether the time of a folder counts. That of the folder of a crate changes with each build."""
+    return path.count("/") > 2
+
+
+def entry_of(path: str, found: os.stat_result) -> tuple[str, int, int, int, int]:
+    """The path of a file or folder below the top, its size, its times in nanoseconds, and its number. The time of a folder
+    is the one at which it last got or lost something."""
+    return path, 0 if path.endswith("/") else found.st_size, found.st_mtime_ns, found.st_ctime_ns, found.st_ino
+
+
 class Listing:
-    """The sources as they are now: the path of each file and folder below the top, its size, its times in nanoseconds,
-    and its number. A folder has a slash at its end, and only the time at which it last got or lost an entry."""
+    """The sources as they are now: the entry of each file, and of each folder whose time counts."""
 
     def __init__(self, top: str = TOP):
         self.top = top
+        # the checksum, where it was kept of these entries
+        self.known: str | None = None
         self.entries: list[tuple[str, int, int, int, int]] = []
-        self.enter(os.path.join(top, FOLDER), FOLDER + "/")
-        for name in FILES:
-            if os.path.exists(os.path.join(top, name)):
-                self.add(name, os.stat(os.path.join(top, name)))
+        if top != TOP or not self.recall():
+            self.enter(FOLDER + "/")
+            self.entries += [entry_of(it, os.stat(os.path.join(top, it))) for it in self.beside()]
 
-    def enter(self, folder: str, path: str) -> None:
-        """Lists what is in a folder, whose path below the top ends with a slash."""
-        with os.scandir(folder) as found:
-            for it in found:
-                if it.name == MADE:
-                    continue
-                if not it.is_dir():
-                    self.add(path + it.name, it.stat())
-                else:
-                    below = path + it.name + "/"
-                    # the time of the folder of a crate changes with each build
-                    if below.count("/") > 2:
-                        self.entries.append((below, 0, it.stat().st_mtime_ns, 0, 0))
-                    self.enter(it.path, below)
+    def beside(self) -> list[str]:
+        """The files beside the folder."""
+        return [it for it in FILES if os.path.exists(os.path.join(self.top, it))]
 
-    def add(self, path: str, found: os.stat_result) -> None:
-        """Adds a file."""
-        self.entries.append((path, found.st_size, found.st_mtime_ns, found.st_ctime_ns, found.st_ino))
+    def enter(self, path: str) -> None:
+        """Lists what is in a folder."""
+        for below, it in inside(self.top, path):
+            is_folder = below.endswith("/")
+            if not is_folder or is_timed(below):
+                self.entries.append(entry_of(below, it.stat()))
+            if is_folder:
+                self.enter(below)
+
+    def untimed(self, path: str = FOLDER + "/") -> list[str]:
+        """The paths of what is in a folder whose time does not count, and in those of them that are in it."""
+        found = [below for below, _ in inside(self.top, path)]
+        for below in [it for it in found if it.endswith("/") and not is_timed(it)]:
+            found += self.untimed(below)
+        return sorted(found)
+
+    def recall(self) -> bool:
+        """Takes the entries whose checksum is kept, if all are as they were. A folder is not read where its time says that
+        the same files are in it."""
+        result, kept = memory.read(KEPT)
+        try:
+            entries, *others = marshal.loads(kept)
+            for it in entries:
+                if entry_of(it[0], os.stat(os.path.join(self.top, it[0]))) != it:
+                    return False
+            if others != [self.untimed(), self.beside()]:
+                return False
+        except (EOFError, OSError, TypeError, ValueError):
+            # nothing is kept, or not in this form, or a file is gone
+            return False
+        self.entries, self.known = entries, result
+        return True
 
     def files(self) -> list[str]:
         """The paths of the files, in the order of their bytes."""
@@ -70,12 +106,15 @@ class Listing:
         return not any(it[2] > time and is_read(it[0]) for it in self.entries)
 
     def state(self) -> bytes:
-        """The entries as bytes. Form 2 has the same bytes for equal values, which later ones do not have."""
-        return marshal.dumps(self.entries, 2)
+        """The entries, and what else there is, as bytes. Form 2 has the same bytes for equal values, which later ones do
+        not have."""
+        return marshal.dumps([self.entries, self.untimed(), self.beside()], 2)
 
     def kept(self) -> str | None:
         """The checksum, where it is known for these entries."""
-        return memory.recalled(KEPT, self.state()) if self.top == TOP else None
+        if self.top != TOP:
+            return None
+        return self.known or memory.recalled(KEPT, self.state())
 
     def keep(self, checksum: str) -> None:
         """Notes the checksum, so that the sources are not read again until one changes."""
