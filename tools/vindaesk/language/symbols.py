@@ -35,7 +35,7 @@ def named_in_list(path: str, word: str) -> Iterator[Json]:
     if not word.startswith("@") or not os.path.isfile(path):
         return
     for number, line in enumerate(files.read(path).split(b"\n"), 1):
-        found = LINE.fullmatch(line.strip().decode("utf-8", "replace"))
+        found = re.fullmatch(LINE, line.strip().decode("utf-8", "replace"), re.ASCII)
         if not found:
             continue
         is_name = bool(named) and named is not None and found[2] == named[2] and found[3] == named[3] and (

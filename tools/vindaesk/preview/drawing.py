@@ -83,7 +83,7 @@ class Drawing:
         refusal = next(iter(bounds.refusals.values()), None)
         if refusal or frame.picture is None:
             number = refusal.number if refusal else frame.why
-            self.drawn.why = "there is no picture: " + frames.REASONS.get(number, "refusal %d" % number)
+            self.drawn.why = "there is no picture: " + replies.REASONS.get(number, "refusal %d" % number)
         else:
             self.drawn.views = placement.all_placed(self.tree.root, bounds.replies)
             self.drawn.picture, self.drawn.digest = packed(frame.picture)

@@ -8,7 +8,7 @@ import time
 from typing import Any, Dict, List, Optional
 
 from ..pictures import png
-from ..pictures.frames import REASONS
+from ..scripts.replies import REASONS
 from ..session import LineRefused, Node, Session, Way
 from ..views.placement import Box, Placed
 from ..views.uiautomator import Form, Hierarchy, Origin
