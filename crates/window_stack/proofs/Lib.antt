@@ -1,5 +1,4 @@
 mod Examples
-mod LimitExamples
 mod PaneLaws
 mod PassedLaws
 mod TextLaws

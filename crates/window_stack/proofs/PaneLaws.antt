@@ -8,7 +8,7 @@ use Rattle.std.specs.Option.{is_some}
 use Rattle.std.specs.Prelude.{◌==◌, map, IfSome}
 use Rattle.window_stack.specs.PlainPanes.{AreOpen, IsStack, holder_without, is_under, only, pane_at, pane_under, placed, without}
 use Rattle.geom_core.specs.declared.geometry.Size.{Size}
-use Rattle.window_stack.specs.declared.lines.TheConstants.{MAX_PANE}
+use Rattle.window_stack.specs.Numbers.{max_pane}
 use Rattle.window_stack.specs.declared.panes.Pane.{Pane}
 
 pub pane_at-without_none : (j k : ℕ) (panes : List Pane) → pane_at panes j ≡ None → pane_at (without k panes) j ≡ None
@@ -63,7 +63,7 @@ pub AreOpen-placed : (to : Pane) (panes : List Pane) → AreOpen panes → AreOp
 AreOpen-placed to [] are = tt
 AreOpen-placed to (pane ∷ panes) are = elim (cases_eq pane.k to.k) [
   | inl e ↦
-      let name : to.k ≤ MAX_PANE = subst (λ n. n ≤ MAX_PANE) e are.0 in
+      let name : to.k ≤ max_pane = subst (λ n. n ≤ max_pane) e are.0 in
       rw (eq-eqb pane.k to.k e) (name, pane_at-placed_none to.k to panes (subst (λ n. pane_at panes n ≡ None) e are.1), AreOpen-placed to panes are.2)
   | inr e ↦ rw (ne_eqb pane.k to.k e) (are.0, pane_at-placed_none pane.k to panes are.1, AreOpen-placed to panes are.2)
 ]
@@ -156,12 +156,12 @@ refill-all old now same =
     ∙ take_all (length old) now (omega arith)
 
 -- a window that is found has a name that a window may have
-found_low : (k : ℕ) (panes : List Pane) (pane : Pane) → AreOpen panes → pane_at panes k ≡ Some pane → pane.k ≤ MAX_PANE
+found_low : (k : ℕ) (panes : List Pane) (pane : Pane) → AreOpen panes → pane_at panes k ≡ Some pane → pane.k ≤ max_pane
 found_low k [] pane are found = absurd (cc found)
 found_low k (first ∷ panes) pane are found = elim (cases_eq first.k k) [
   | inl e ↦
       let found = rw (eq-eqb first.k k e) at found in
-      subst (λ (o : Option Pane). IfSome o (λ p. p.k ≤ MAX_PANE)) found are.0
+      subst (λ (o : Option Pane). IfSome o (λ p. p.k ≤ max_pane)) found are.0
   | inr e ↦ let found = rw (ne_eqb first.k k e) at found in found_low k panes pane are.2 found
 ]
 
@@ -187,14 +187,14 @@ only-found k (first ∷ panes) pane are found = elim (cases_eq first.k k) [
     or_none (Some pane) = pane ∷ []
 
 -- a window that is open has a name that a window may have
-pub name_open : (k : ℕ) (panes : List Pane) → AreOpen panes → is_some (pane_at panes k) ≡ true → k ≤ MAX_PANE
+pub name_open : (k : ℕ) (panes : List Pane) → AreOpen panes → is_some (pane_at panes k) ≡ true → k ≤ max_pane
 name_open k [] are there = absurd (cc there)
 name_open k (pane ∷ panes) are there = elim (cases_eq pane.k k) [
-  | inl e ↦ subst (λ n. n ≤ MAX_PANE) e are.0
+  | inl e ↦ subst (λ n. n ≤ max_pane) e are.0
   | inr e ↦ name_open k panes are.2 (rw (ne_eqb pane.k k e) at there)
 ]
 
-pub name_held : (holder : Option ℕ) (panes : List Pane) → AreOpen panes → IfSome holder (λ k. is_some (pane_at panes k) ≡ true) → IfSome holder (λ k. k ≤ MAX_PANE)
+pub name_held : (holder : Option ℕ) (panes : List Pane) → AreOpen panes → IfSome holder (λ k. is_some (pane_at panes k) ≡ true) → IfSome holder (λ k. k ≤ max_pane)
 name_held None panes are held = tt
 name_held (Some k) panes are held = name_open k panes are held
 
@@ -236,15 +236,15 @@ pub stack_placed : (holder : Option ℕ) (to : Pane) (panes : List Pane) → IsS
 stack_placed holder to panes is = record { once = AreOpen-placed to panes is.once; held = held_placed holder to panes is.held }
 
 -- a window that holds a point is open
-pub found_under : (x y : ℤ) (sizes : List (Option Size)) (panes : List Pane) → AreOpen panes → IfSome (pane_under x y sizes panes) (λ pane. (pane.k ≤ MAX_PANE) × (is_some (pane_at panes pane.k) ≡ true))
+pub found_under : (x y : ℤ) (sizes : List (Option Size)) (panes : List Pane) → AreOpen panes → IfSome (pane_under x y sizes panes) (λ pane. (pane.k ≤ max_pane) × (is_some (pane_at panes pane.k) ≡ true))
 found_under x y sizes [] are = tt
 found_under x y sizes (first ∷ panes) are = elim (cases_Bool (is_under x y sizes first)) [
   | inl e ↦ rw e (are.0, rw (eq-eqb first.k first.k refl) refl)
   | inr e ↦ rw e (later (pane_under x y sizes panes) (found_under x y sizes panes are.2))
 ]
   where
-    later : (found : Option Pane) → IfSome found (λ pane. (pane.k ≤ MAX_PANE) × (is_some (pane_at panes pane.k) ≡ true))
-        → IfSome found (λ pane. (pane.k ≤ MAX_PANE) × (is_some (pane_at (first ∷ panes) pane.k) ≡ true))
+    later : (found : Option Pane) → IfSome found (λ pane. (pane.k ≤ max_pane) × (is_some (pane_at panes pane.k) ≡ true))
+        → IfSome found (λ pane. (pane.k ≤ max_pane) × (is_some (pane_at (first ∷ panes) pane.k) ≡ true))
     later None h = tt
     later (Some pane) h = (h.0, elim (cases_Bool (first.k == pane.k)) [ inl e ↦ rw e refl | inr e ↦ rw e h.1 ])
 

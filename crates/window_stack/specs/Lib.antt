@@ -1,3 +1,4 @@
 pub mod KeptPanes
+pub mod Numbers
 pub mod PlainPanes
 pub mod StackLines

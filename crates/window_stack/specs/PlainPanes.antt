@@ -2,7 +2,7 @@
 use Rattle.std.specs.Prelude.{ℕ, ◌==◌, ◌+ℤ◌, ◌≤◌, Bool, true, false, ◌≡◌, ◌&&◌, not, if◌then◌else◌, ℤ, int_le, int_lt, List, [], ◌∷◌, ◌++◌, Option, Some, None, IfSome, filter, find, map, slice_index_or}
 use Rattle.std.specs.Option.{is_some, option_map}
 use Rattle.geom_core.specs.declared.geometry.Size.{Size}
-use Rattle.window_stack.specs.declared.lines.TheConstants.{MAX_PANE}
+use Rattle.window_stack.specs.Numbers.{max_pane}
 use Rattle.window_stack.specs.declared.panes.Pane.{Pane}
 
 pub record PlainPanes : Type 0 where
@@ -91,7 +91,7 @@ topmost stack x y sizes = option_map (λ (pane : Pane). pane.k) (pane_under x y 
 -- no window is there twice, and each has a name that a window may have
 abbrev pub AreOpen : List Pane → Type 0
 AreOpen [] = Unit {0}
-AreOpen (pane ∷ panes) = (pane.k ≤ MAX_PANE) × (pane_at panes pane.k ≡ None) × AreOpen panes
+AreOpen (pane ∷ panes) = (pane.k ≤ max_pane) × (pane_at panes pane.k ≡ None) × AreOpen panes
 
 -- the window that has the gesture is open too
 pub record IsStack (stack : PlainPanes) : Type 0 where

@@ -7,12 +7,11 @@ use Rattle.script_lines.specs.reading.Pixels.{IsPart, is_small}
 use Rattle.script_lines.specs.commands.PlainCommands.{PlainCommand, plain_command, text_length}
 use Rattle.script_lines.specs.reading.Touches.{IsTouchInBounds, pointer_of, touch_of}
 use Rattle.script_lines.specs.words.Words.{after_word, ◌>>=◌, map_ok, word_in, end_of, words}
-use Rattle.script_lines.specs.declared.commands.TheConstants.{MAX_POINT, MAX_POINTER, MAX_WINDOW}
+use Rattle.window_stack.specs.Numbers.{max_corner, max_pane, max_point, max_pointer, max_window, min_corner}
 use Rattle.script_lines.specs.declared.fault.LineFault.{LineFault}
 use Rattle.script_lines.specs.declared.fault.LineFault.TheVariants.{Syntax, Range}
 use Rattle.window_stack.specs.declared.lines.StackLine.{StackLine}
 use Rattle.window_stack.specs.declared.lines.StackLine.TheVariants as line
-use Rattle.window_stack.specs.declared.lines.TheConstants.{MAX_CORNER, MAX_PANE, MIN_CORNER}
 
 -- what a line asks for, with the bytes of its texts
 pub data PlainLine : Type 0 where
@@ -39,7 +38,7 @@ plain_line line.Cancel = Cancel
 
 -- the name of a window
 unfoldable pub pane_of : ℤ → Result ℕ LineFault
-pane_of n = natural_within 0 MAX_PANE n
+pane_of n = natural_within 0 max_pane n
 
 -- `K X Y`, a window and its corner
 unfoldable pub at_of : List (List ℕ) → Result PlainLine LineFault
@@ -49,8 +48,8 @@ at_of words = do
   y ← integer_in x.1
   _ ← end_of y.1
   pane ← pane_of k.0
-  left ← within_of MIN_CORNER MAX_CORNER x.0
-  top ← within_of MIN_CORNER MAX_CORNER y.0
+  left ← within_of min_corner max_corner x.0
+  top ← within_of min_corner max_corner y.0
   Ok (At pane left top)
 
 -- `K`
@@ -88,10 +87,10 @@ in_of rest = do
 -- a part of the stack, within its bounds
 unfoldable pub part_by : ℤ → ℤ → ℤ → ℤ → Result PlainLine LineFault
 part_by x y w h = do
-  x ← within_of (pos 0) MAX_POINT x
-  y ← within_of (pos 0) MAX_POINT y
-  w ← within_of (pos 1) MAX_WINDOW w
-  h ← within_of (pos 1) MAX_WINDOW h
+  x ← within_of (pos 0) max_point x
+  y ← within_of (pos 0) max_point y
+  w ← within_of (pos 1) max_window w
+  h ← within_of (pos 1) max_window h
   if is_small w h then Ok (Compose x y w h) else Err Range
 
 -- `x y w h`, the corner and the sides of a part
@@ -160,12 +159,12 @@ text_length_in Cancel = 0
 
 -- the numbers of a line are within their bounds
 abbrev pub IsLineInBounds : PlainLine → Type 0
-IsLineInBounds (At k x y) = (k ≤ MAX_PANE) × IsWithin MIN_CORNER MAX_CORNER x × IsWithin MIN_CORNER MAX_CORNER y
-IsLineInBounds (Raise k) = k ≤ MAX_PANE
-IsLineInBounds (Close k) = k ≤ MAX_PANE
-IsLineInBounds (In k command) = (k ≤ MAX_PANE) × IsInBounds command
+IsLineInBounds (At k x y) = (k ≤ max_pane) × IsWithin min_corner max_corner x × IsWithin min_corner max_corner y
+IsLineInBounds (Raise k) = k ≤ max_pane
+IsLineInBounds (Close k) = k ≤ max_pane
+IsLineInBounds (In k command) = (k ≤ max_pane) × IsInBounds command
 IsLineInBounds (Compose x y w h) = IsPart x y w h
 IsLineInBounds (Down p x y) = IsTouchInBounds p x y
 IsLineInBounds (Move p x y) = IsTouchInBounds p x y
-IsLineInBounds (Up p) = p ≤ MAX_POINTER
+IsLineInBounds (Up p) = p ≤ max_pointer
 IsLineInBounds Cancel = Unit {0}

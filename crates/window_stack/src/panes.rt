@@ -2,7 +2,7 @@
 
 ghost use Rattle.std.specs.Prelude.{◌≡◌, ◌≤◌, ◌∷◌, ◌+ℤ◌, int_lt, true, map, IfSome};
 ghost use Rattle.window_stack.specs.PlainPanes.{AreOpen, closed, corner_of, holder_without, holds_point, is_open, is_under, lies_from, no_panes, order_of, pane_at, pane_under, placed, raised, set_at, size_at, topmost, without};
-ghost use Rattle.window_stack.specs.declared.lines.TheConstants.{MAX_PANE};
+ghost use Rattle.window_stack.specs.Numbers.{max_pane};
 
 use arrayvec::ArrayVec;
 use geom_core::Size;
@@ -72,7 +72,7 @@ impl Panes {
 
     /// Sets the corner of a window, in pixels. A window that is not open is opened on top, an open one stays in its place.
     pub fn set(&mut self, k: u8, x: i32, y: i32)
-        requires name { k ≤ MAX_PANE }
+        requires name { k ≤ max_pane }
         ensures { self.new ≡ set_at self.old k x y }
     {
         if self.pane(k).is_some() {
@@ -118,7 +118,7 @@ impl Panes {
     pub fn under(&self, x: i32, y: i32, sizes: &[Option<Size>; MAX_PANES]) -> Option<u8>
         ensures value { result ≡ topmost self.now x y sizes.now }
         ensures open { IfSome result (λ k. is_open self.now k ≡ true) }
-        ensures name { IfSome result (λ k. k ≤ MAX_PANE) }
+        ensures name { IfSome result (λ k. k ≤ max_pane) }
     {
         let pane = self.pane_under(x, y, sizes)?;
         Some(pane.k)
@@ -128,7 +128,7 @@ impl Panes {
     fn pane_under(&self, x: i32, y: i32, sizes: &[Option<Size>; MAX_PANES]) -> Option<Pane>
         ensures value { result ≡ pane_under x y sizes.now self.now.panes }
         ensures open { IfSome result (λ pane. is_open self.now pane.k ≡ true) }
-        ensures name { IfSome result (λ pane. pane.k ≤ MAX_PANE) }
+        ensures name { IfSome result (λ pane. pane.k ≤ max_pane) }
     {
         for pane in self.panes.as_slice() {
             if is_under(x, y, sizes, *pane) {
@@ -142,7 +142,7 @@ impl Panes {
     pub fn holder(&self) -> Option<u8>
         ensures value { result ≡ self.now.holder }
         ensures open { IfSome result (λ k. is_open self.now k ≡ true) }
-        ensures name { IfSome result (λ k. k ≤ MAX_PANE) }
+        ensures name { IfSome result (λ k. k ≤ max_pane) }
     {
         self.holder
     }

@@ -6,7 +6,7 @@ ghost use Rattle.script_lines.specs.words.Words.{map_ok, words};
 ghost use Rattle.window_stack.specs.StackLines.{IsLineInBounds, at_of, close_of, compose_of, given_of, in_of, is_touch_word, pane_of, part_by, plain_line, raise_of, stack_line_by, stack_line_of, scancel_of, sdown_of, smove_of, sup_of, text_length_in, touch_line_by};
 ghost use Rattle.script_lines.specs.reading.Commands.{IsInBounds};
 ghost use Rattle.script_lines.specs.commands.PlainCommands.{plain_command, text_length};
-ghost use Rattle.window_stack.specs.declared.lines.TheConstants.{MAX_PANE};
+ghost use Rattle.window_stack.specs.Numbers.{max_pane};
 
 use crate::lines::{MAX_CORNER, MAX_PANE, MIN_CORNER, StackLine};
 use script_lines::readers::{
@@ -19,7 +19,7 @@ use script_lines::{Command, LineFault, line};
 #[tactic(auto, unfolding(crate::specs::StackLines::pane_of))]
 fn pane(n: i64) -> Result<u8, LineFault>
     ensures value { result ≡ pane_of n }
-    ensures bounds { IfOk result (λ k. k ≤ MAX_PANE) }
+    ensures bounds { IfOk result (λ k. k ≤ max_pane) }
 {
     let k = natural_within(0, MAX_PANE, n)?;
     Ok(k as u8)

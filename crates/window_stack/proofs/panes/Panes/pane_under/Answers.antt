@@ -3,7 +3,7 @@ use Rattle.std.specs.Prelude.{IfSome}
 use Rattle.std.proofs.lemmas.Int.{to_z-of_z}
 use Rattle.window_stack.proofs.PaneLaws.{found_under, under_first}
 use Rattle.window_stack.specs.PlainPanes.{AreOpen, PlainPanes, is_open}
-use Rattle.window_stack.specs.declared.lines.TheConstants.{MAX_PANE}
+use Rattle.window_stack.specs.Numbers.{max_pane}
 use Rattle.window_stack.proofs.panes.Panes.pane_under.Goals as goal
 
 pub returns-then-is_under-clause-value : goal.returns-then-is_under-clause-value
@@ -17,7 +17,7 @@ returns-then-is_under-clause-value c =
     simp to_z-of_z at all
 
 is_there : (c : goal.After-result-1) → IfSome (Some (get_or c.as_slice-pane-items.result.now c.loop-pane.pane-index (record { k = 0; x = pos 0; y = pos 0 })))
-    (λ pane. (pane.k ≤ MAX_PANE) × (is_open c.args.self.now pane.k ≡ true))
+    (λ pane. (pane.k ≤ max_pane) × (is_open c.args.self.now pane.k ≡ true))
 is_there c =
     let x = to_z w32 (of_z w32 c.args.x) in
     let y = to_z w32 (of_z w32 c.args.y) in
@@ -25,7 +25,7 @@ is_there c =
     let found =
     sym c.loop-pane.invariant
     ∙ under_first x y c.args.sizes.now c.as_slice-pane-items.result.now c.loop-pane.pane-index _ c.loop-pane-test.true (sym c.is_under.ensures ∙ c.if-is_under.true) in
-    subst (λ o. IfSome o (λ pane. (pane.k ≤ MAX_PANE) × (is_open c.args.self.now pane.k ≡ true))) found (found_under x y c.args.sizes.now c.args.self.now.panes are)
+    subst (λ o. IfSome o (λ pane. (pane.k ≤ max_pane) × (is_open c.args.self.now pane.k ≡ true))) found (found_under x y c.args.sizes.now c.args.self.now.panes are)
 
 pub returns-then-is_under-clause-name : goal.returns-then-is_under-clause-name
 returns-then-is_under-clause-name c = (is_there c).0
