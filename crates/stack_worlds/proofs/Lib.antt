@@ -3,7 +3,6 @@ mod ComposedLaws
 mod CountLaws
 mod GivenLaws
 pub mod IsolationLaws
-mod LimitExamples
 mod OpenLaws
 mod PlaceLaws
 mod SizeLaws

@@ -3,7 +3,7 @@ use Rattle.std.specs.Prelude.{◌≡◌, ◌<◌, ℕ, List, Option, None, IfSom
 use Rattle.std.specs.Coded.{Coded, code_by, coded×, coded_list, coded_option}
 use Rattle.std.specs.Option.{is_some, option_map}
 use Rattle.std.specs.declared.alloc.Global.{Global}
-use Rattle.view_model.specs.declared.limits.TheConstants.{NUMBERS_END}
+use Rattle.stack_worlds.specs.Numbers.{max_panes, numbers_end}
 use Rattle.stack_worlds.specs.PlainStack.{PlainStack}
 use Rattle.stack_worlds.specs.declared.stack.Stack.TheInside.{Inside}
 use Rattle.view_world.specs.world.KeyedWorld.{KeyedWorld, world_code, world_of}
@@ -37,13 +37,13 @@ abbrev pub keyed_at : KeyedStack → ℕ → Option KeyedWorld
 keyed_at stack k = slice_index_or stack.worlds k None
 
 abbrev pub no_windows : KeyedStack
-no_windows = record { panes = no_panes; worlds = replicate 8 None }
+no_windows = record { panes = no_panes; worlds = replicate max_panes None }
 
 -- a window has a world exactly if it is open
 pub record HasWorlds (stack : KeyedStack) : Type 0 where
-  pub all : length stack.worlds ≡ 8
+  pub all : length stack.worlds ≡ max_panes
   pub there : (k : ℕ) → is_some (keyed_at stack k) ≡ is_open stack.panes k
 
 -- each window can still get views
 abbrev pub HaveNumbers : KeyedStack → Type 0
-HaveNumbers stack = (k : ℕ) → IfSome (keyed_at stack k) (λ world. world.screen.views.next < NUMBERS_END)
+HaveNumbers stack = (k : ℕ) → IfSome (keyed_at stack k) (λ world. world.screen.views.next < numbers_end)

@@ -6,14 +6,12 @@ use Rattle.geom_core.specs.declared.geometry.Size.{Size}
 use Rattle.pixel_raster.specs.Raster.{pixel_at}
 use Rattle.script_lines.specs.commands.PlainCommands.{PlainCommand}
 use Rattle.script_lines.specs.commands.PlainCommands as command
-use Rattle.script_lines.specs.declared.commands.TheConstants.{MAX_TOUCH, MIN_TOUCH}
 use Rattle.tool_io.specs.Fetched.{Files}
 use Rattle.touch_event.specs.declared.event.Point.{Point}
 use Rattle.view_model.specs.Refusals.{PlainRefusal, refusal_numbered}
-use Rattle.view_model.specs.declared.refusals.TheConstants.{OUT_OF_RANGE, WRONG_POINTER}
 use Rattle.stack_worlds.specs.declared.stack.way.Own.{Own}
 use Rattle.stack_worlds.specs.declared.stack.way.Own.TheVariants as own
-use Rattle.stack_worlds.specs.declared.stack.way.TheConstants.{NO_PANE}
+use Rattle.stack_worlds.specs.Numbers.{max_panes, max_touch, min_touch, no_pane, out_of_range, wrong_pointer}
 use Rattle.view_world.specs.editing.Inflating.{asked_file}
 use Rattle.view_world.specs.replying.Replies.{pixels_text}
 use Rattle.view_world.specs.world.Step.{Reply, step}
@@ -28,7 +26,7 @@ pub record PlainStack : Type 0 where
   pub worlds : List (Option World)
 
 abbrev pub empty_stack : PlainStack
-empty_stack = record { panes = no_panes; worlds = replicate 8 None }
+empty_stack = record { panes = no_panes; worlds = replicate max_panes None }
 
 -- the world of a window, if it is open
 abbrev pub world_at : PlainStack → ℕ → Option World
@@ -47,7 +45,7 @@ pub data PlainWay : Type 0 where
 
 -- how far a coordinate is from an edge, if a touch can be that far from it
 abbrev pub from_edge : ℤ → ℤ → Option ℤ
-from_edge edge at = if int_le MIN_TOUCH (at -ℤ edge) && int_le (at -ℤ edge) MAX_TOUCH then Some (at -ℤ edge) else None
+from_edge edge at = if int_le min_touch (at -ℤ edge) && int_le (at -ℤ edge) max_touch then Some (at -ℤ edge) else None
 
 abbrev pub both : Option ℤ → Option ℤ → Option (ℤ × ℤ)
 both None y = None
@@ -61,7 +59,7 @@ from_corner (Some corner) x y = both (from_edge corner.0 x) (from_edge corner.1 
 
 -- a touch for a window that has the gesture from then on
 abbrev pub touch_at : ℕ → (ℤ → ℤ → PlainCommand) → Option (ℤ × ℤ) → PlainWay
-touch_at k make None = RefusedBy OUT_OF_RANGE
+touch_at k make None = RefusedBy out_of_range
 touch_at k make (Some point) = Given (Some k) k (make point.0 point.1)
 
 -- the size of the window of a world
@@ -82,17 +80,17 @@ way_down stack p x y None = Missed
 way_down stack p x y (Some k) = touch_at k (command.Down p) (from_corner (corner_of stack.panes k) x y)
 
 abbrev pub way_move : PlainStack → ℕ → ℤ → ℤ → Option ℕ → PlainWay
-way_move stack p x y None = RefusedBy WRONG_POINTER
+way_move stack p x y None = RefusedBy wrong_pointer
 way_move stack p x y (Some k) = touch_at k (command.Move p) (from_corner (corner_of stack.panes k) x y)
 
 -- a command for the window that has the gesture
 abbrev pub way_held : PlainCommand → Option ℕ → PlainWay
-way_held said None = RefusedBy WRONG_POINTER
+way_held said None = RefusedBy wrong_pointer
 way_held said (Some k) = Given (Some k) k said
 
 -- the way of a line that names a window, which must be open
 abbrev pub way_open : PlainStack → ℕ → PlainWay → PlainWay
-way_open stack k way = if is_open stack.panes k then way else RefusedBy NO_PANE
+way_open stack k way = if is_open stack.panes k then way else RefusedBy no_pane
 
 abbrev pub way_of : PlainStack → PlainLine → PlainWay
 way_of stack (At k x y) = ToStack (own.At k x y)
@@ -171,7 +169,7 @@ after_given stack holder k (world_reply.Refused refusal) = Refused refusal
 
 -- what a command does in the world of a window
 abbrev pub given_to : Files → PlainStack → Option ℕ → ℕ → PlainCommand → Option World → StackReply
-given_to files stack holder k said None = Refused (refusal_numbered NO_PANE)
+given_to files stack holder k said None = Refused (refusal_numbered no_pane)
 given_to files stack holder k said (Some world) = after_given stack holder k (step files world said)
 
 -- a window with this corner, and with an empty world where it was not open

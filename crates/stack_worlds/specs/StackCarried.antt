@@ -18,9 +18,9 @@ use Rattle.script_lines.specs.commands.PlainCommands.{PlainCommand, plain_comman
 use Rattle.view_world.specs.world.Carried.{MayWantMemory}
 use Rattle.view_world.specs.declared.fault.StepFault.{StepFault}
 use Rattle.view_world.specs.declared.fault.StepFault.TheVariants as fault
+use Rattle.window_stack.specs.Numbers.{max_pane}
 use Rattle.window_stack.specs.PlainPanes.{is_open}
 use Rattle.window_stack.specs.StackLines.{PlainLine}
-use Rattle.window_stack.specs.declared.lines.TheConstants.{MAX_PANE}
 
 -- Done: the stack is the reply's, its text was written, and no call on the sink has failed. Refused: as the reply says.
 -- If a call on the sink has failed, the stack is the reply's all the same, and before that call a prefix of its text
@@ -75,7 +75,7 @@ LineWants stack line = WayWants stack (way_of stack line)
 
 -- a window that is open, and so has the name of a window
 pub record IsWindow (stack : PlainStack) (k : ℕ) : Type 0 where
-  pub name : k ≤ MAX_PANE
+  pub name : k ≤ max_pane
   pub there : is_open stack.panes k ≡ true
 
 -- a command for a window that is open, within its bounds, and the window that has the gesture from then on is open too
@@ -87,7 +87,7 @@ pub record IsGivenSound (stack : PlainStack) (holder : Option ℕ) (k : ℕ) (sa
 
 -- a change of a stack keeps the bounds of its line, and what it names is open
 abbrev pub IsOwnSound : PlainStack → Own → Type 0
-IsOwnSound stack (own.At k x y) = k ≤ MAX_PANE
+IsOwnSound stack (own.At k x y) = k ≤ max_pane
 IsOwnSound stack (own.Raise k) = IsWindow stack k
 IsOwnSound stack (own.Close k) = IsWindow stack k
 IsOwnSound stack (own.Compose x y w h) = IsPart x y w h

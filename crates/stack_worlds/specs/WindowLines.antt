@@ -4,10 +4,10 @@ use Rattle.geom_core.specs.declared.geometry.Rect.{Rect}
 use Rattle.geom_core.specs.declared.geometry.Size.{Size}
 use Rattle.script_lines.specs.commands.PlainCommands.{PlainCommand, Frame}
 use Rattle.stack_worlds.specs.KeptStack.{KeyedStack, keyed_at}
+use Rattle.stack_worlds.specs.Numbers.{max_views}
 use Rattle.stack_worlds.specs.PlainStack.{PlainWay, Given, Missed, RefusedBy, ToStack}
 use Rattle.stack_worlds.specs.declared.stack.way.Own.{Own}
 use Rattle.stack_worlds.specs.declared.stack.way.Own.TheVariants as own
-use Rattle.view_model.specs.declared.limits.TheConstants.{MAX_VIEWS}
 use Rattle.view_model.specs.declared.work.Work.{Work}
 use Rattle.view_world.specs.frames.Asked.{LeavesUnasked}
 use Rattle.view_world.specs.world.Carried.{IsDone}
@@ -22,7 +22,7 @@ use Rattle.window_stack.specs.PlainPanes.{is_open}
 
 -- what a command counts in a world, and what it leaves there
 pub record WorksIn (before after : KeyedWorld) (said : PlainCommand) (result : Result (Unit {0}) StepFault) (old new : Work) : Type 0 where
-  pub numbers : after.screen.views.next ≤ before.screen.views.next + MAX_VIEWS
+  pub numbers : after.screen.views.next ≤ before.screen.views.next + max_views
   pub work : said ≢ Frame → new ≡ old
   pub idle : IsDone result ⊎ (new ≡ old)
   pub still : said ≡ Frame → before.marks.idle ≡ true → new ≡ old

@@ -5,16 +5,16 @@ ghost use Rattle.script_lines.specs.commands.PlainCommands.{plain_command};
 ghost use Rattle.tool_io.specs.Fetched.{Files};
 ghost use Rattle.stack_worlds.specs.Isolation.{IsAfterLine, IsAlone, Shared};
 ghost use Rattle.stack_worlds.specs.KeptStack.{HaveNumbers, keyed_at, no_windows, stack_of};
+ghost use Rattle.stack_worlds.specs.Numbers.{max_views};
 ghost use Rattle.stack_worlds.specs.PlainStack.{Done, PlainStack, asked_by, asked_on, by_way, holder_after, own_step, placed_at, stack_step, way_of, world_at};
 ghost use Rattle.stack_worlds.specs.StackCarried.{IsGivenSound, IsOwnSound, IsReplied, LineWants, OwnWants, WayWants, WritesStack, plain_given, written};
 ghost use Rattle.stack_worlds.specs.WindowLines.{WorksBy, next_at, worlds_after};
 ghost use Rattle.script_lines.specs.commands.PlainCommands.{Frame};
-ghost use Rattle.view_model.specs.declared.limits.TheConstants.{MAX_VIEWS};
 ghost use Rattle.view_world.specs.world.Carried.{AreAtHand, AsksShelf, CountsShelf, IsDone, faults_after_line, fetches_after};
 ghost use Rattle.view_world.specs.world.KeyedWorld.{KeyedWorld, world_of};
+ghost use Rattle.window_stack.specs.Numbers.{max_pane};
 ghost use Rattle.window_stack.specs.PlainPanes.{is_open};
 ghost use Rattle.window_stack.specs.StackLines.{In, IsLineInBounds, plain_line, text_length_in};
-ghost use Rattle.window_stack.specs.declared.lines.TheConstants.{MAX_PANE};
 
 mod composing;
 mod way;
@@ -103,7 +103,7 @@ impl Stack {
         // Only a frame counts anything.
         ensures work { ((k : ℕ) → plain_line line.entry ≢ In k Frame) → work.new ≡ work.old }
         ensures idle { IsDone result ⊎ (work.new ≡ work.old) }
-        ensures numbers { (k : ℕ) → next_at self.new k ≤ next_at self.old k + MAX_VIEWS }
+        ensures numbers { (k : ℕ) → next_at self.new k ≤ next_at self.old k + max_views }
         ensures painted { work.old.painted ≤ work.new.painted }
         ensures measured { min work.old.measured (2 ^ 64 - 1) ≤ work.new.measured }
         ensures works { WorksBy (way_of (stack_of self.old) (plain_line line.entry)) self.old
@@ -187,7 +187,7 @@ impl Stack {
 
     /// Gives the gesture to this window, or to none, after a command was carried out in an open window.
     fn hold_after(&mut self, holder: Option<u8>, k: u8)
-        requires name { k ≤ MAX_PANE }
+        requires name { k ≤ max_pane }
         requires held { IfSome holder (λ k. is_open self.old.panes k ≡ true) }
         ensures value { (world : KeyedWorld)
             → keyed_at self.old k ≡ Some world
@@ -202,7 +202,7 @@ impl Stack {
     /// The window that has the gesture after a command was carried out in the world of a window: no longer that one if
     /// none of its pointers is down.
     fn holder_after(&self, holder: Option<u8>, k: u8) -> Option<u8>
-        requires name { k ≤ MAX_PANE }
+        requires name { k ≤ max_pane }
         requires open { IfSome holder (λ k. is_open self.now.panes k ≡ true) }
         ensures value { (world : KeyedWorld)
             → keyed_at self.now k ≡ Some world
@@ -245,7 +245,7 @@ impl Stack {
 
     /// Sets the corner of a window, with an empty world where it is not open.
     fn set(&mut self, alloc: Global, k: u8, x: i32, y: i32) -> Result<(), StepFault>
-        requires { k ≤ MAX_PANE }
+        requires { k ≤ max_pane }
         ensures done { OnOk result (stack_of self.new ≡ placed_at (stack_of self.old) k x y) }
         ensures worlds { OnOk result (self.new.worlds ≡ worlds_after self.old (Own.At k x y)) }
         ensures failed { IfErr result (λ fault. (fault ≡ StepFault.NoMemory)

@@ -6,11 +6,12 @@ ghost use Rattle.script_lines.specs.commands.PlainCommands.{Down, Move, plain_co
 ghost use Rattle.script_lines.specs.words.Numbers.{IsWithin};
 ghost use Rattle.script_lines.specs.reading.Touches.{IsTouchInBounds};
 ghost use Rattle.stack_worlds.specs.KeptStack.{stack_of};
+ghost use Rattle.stack_worlds.specs.Numbers.{max_touch, min_touch};
 ghost use Rattle.stack_worlds.specs.PlainStack.{Given as GivenTo, ToStack, from_corner, from_edge, target_of, way_down, way_held, way_move, way_of, way_open};
 ghost use Rattle.stack_worlds.specs.StackCarried.{IsOwnSound, IsWaySound, plain_way};
+ghost use Rattle.window_stack.specs.Numbers.{max_pane};
 ghost use Rattle.window_stack.specs.PlainPanes.{corner_of, is_open};
 ghost use Rattle.window_stack.specs.StackLines.{IsLineInBounds, plain_line, text_length_in};
-ghost use Rattle.window_stack.specs.declared.lines.TheConstants.{MAX_PANE};
 
 use crate::stack::Stack;
 use script_lines::Command;
@@ -91,7 +92,7 @@ impl Stack {
 
     /// The way of a command that names its window.
     fn way_in<'a>(&self, k: u8, command: Command<'a>) -> Way<'a>
-        requires name { k ≤ MAX_PANE }
+        requires name { k ≤ max_pane }
         requires bounds { IsInBounds (plain_command command) }
         requires short { text_length (plain_command command) < 2 ^ 31 }
         ensures value { plain_way result
@@ -160,7 +161,7 @@ impl Stack {
     fn from_corner(&self, k: u8, x: i32, y: i32) -> Option<(i32, i32)>
         ensures value { result ≡ from_corner (corner_of self.now.panes k) x y }
         ensures within { IfSome result
-            (λ point. IsWithin MIN_TOUCH MAX_TOUCH point.0 × IsWithin MIN_TOUCH MAX_TOUCH point.1) }
+            (λ point. IsWithin min_touch max_touch point.0 × IsWithin min_touch max_touch point.1) }
     {
         let (left, top) = self.panes.corner(k)?;
         let x = from_edge(left, x)?;
@@ -183,7 +184,7 @@ fn way_to<'a>(k: u8, command: Command<'a>) -> Way<'a>
 /// How far a coordinate is from an edge, if a touch can be that far from it.
 fn from_edge(edge: i32, at: i32) -> Option<i32>
     ensures value { result ≡ from_edge edge at }
-    ensures within { IfSome result (λ at. IsWithin MIN_TOUCH MAX_TOUCH at) }
+    ensures within { IfSome result (λ at. IsWithin min_touch max_touch at) }
 {
     let distance = i64::from(at) - i64::from(edge);
     if MIN_TOUCH <= distance && distance <= MAX_TOUCH {

@@ -14,8 +14,8 @@ ghost use Rattle.stack_worlds.specs.StackCarried.{plain_given};
 ghost use Rattle.stack_worlds.specs.WindowLines.{WorksIn};
 ghost use Rattle.view_world.specs.world.Step.{Done, step};
 ghost use Rattle.view_world.specs.world.World.{World as PlainWorld};
+ghost use Rattle.window_stack.specs.Numbers.{max_pane};
 ghost use Rattle.window_stack.specs.PlainPanes.{is_open};
-ghost use Rattle.window_stack.specs.declared.lines.TheConstants.{MAX_PANE};
 
 use crate::stack::Stack;
 use crate::stack::way::Given;
@@ -32,7 +32,7 @@ pub fn open_in(
     alloc: Global,
     k: u8,
 ) -> Result<(), AllocError>
-    requires { k ≤ MAX_PANE }
+    requires { k ≤ max_pane }
     ensures opened { result ≡ Ok tt → (b : _) × (b.value ≡ new_world) × (worlds.new ≡ slice_set worlds.old k (Some b)) }
     ensures unchanged { OnErr result (worlds.new ≡ worlds.old) }
 {
@@ -51,7 +51,7 @@ impl Stack {
         sink: &mut K,
         work: &mut Work,
     ) -> Result<(), StepFault>
-        requires name { given.k ≤ MAX_PANE }
+        requires name { given.k ≤ max_pane }
         requires numbers { HaveNumbers self.old }
         requires bounds { IsInBounds (plain_command given.command) }
         requires short { text_length (plain_command given.command) < 2 ^ 31 }
@@ -89,7 +89,7 @@ impl Stack {
 
     /// The world of a window, if it is open.
     pub fn world(&self, k: u8) -> Option<&World>
-        requires { k ≤ MAX_PANE }
+        requires { k ≤ max_pane }
         ensures { option_map (λ world. world.now) result ≡ keyed_at self.now k }
     {
         match &self.worlds[usize::from(k)] {
@@ -100,7 +100,7 @@ impl Stack {
 
     /// Whether no pointer is down in a window.
     pub fn is_untouched(&self, k: u8) -> bool
-        requires { k ≤ MAX_PANE }
+        requires { k ≤ max_pane }
         ensures { (world : KeyedWorld)
             → keyed_at self.now k ≡ Some world
             → result ≡ is_none_down (world_of world).pointers }
