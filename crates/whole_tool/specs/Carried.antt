@@ -9,13 +9,13 @@ use Rattle.stack_worlds.specs.PlainStack as stack_reply
 use Rattle.stack_worlds.specs.StackCarried.{LineWants}
 use Rattle.tool_io.specs.Fetched.{Files}
 use Rattle.view_model.specs.Refusals.{PlainRefusal, refusal_numbered}
-use Rattle.view_model.specs.declared.refusals.TheConstants.{OUT_OF_RANGE, SYNTAX}
 use Rattle.view_world.specs.world.Carried.{MayWantMemory}
 use Rattle.view_world.specs.editing.Inflating.{asked_file}
 use Rattle.view_world.specs.world.Step.{Reply, step}
 use Rattle.view_world.specs.world.Step as world_reply
 use Rattle.view_world.specs.world.World.{World, empty_world}
 use Rattle.window_stack.specs.StackLines.{PlainLine, stack_line_of}
+use Rattle.whole_tool.specs.Numbers.{bad_syntax, out_of_range}
 
 -- what the lines of a script make: a world, or a stack of windows
 pub data Carried : Type 0 where
@@ -37,8 +37,8 @@ of_stack (stack_reply.Refused refusal) = Refused refusal
 
 -- the refusal of a line that asks for nothing
 abbrev pub fault_refusal : LineFault → PlainRefusal
-fault_refusal fault.Syntax = refusal_numbered SYNTAX
-fault_refusal fault.Range = refusal_numbered OUT_OF_RANGE
+fault_refusal fault.Syntax = refusal_numbered bad_syntax
+fault_refusal fault.Range = refusal_numbered out_of_range
 
 abbrev pub reply_to_command : Files → World → Result PlainCommand LineFault → Reply
 reply_to_command files world (Ok command) = step files world command

@@ -8,8 +8,7 @@ use Rattle.axml_reader.specs.Dump.{dump_text}
 use Rattle.text_lines.specs.Joined.{◌⧺◌}
 use Rattle.tool_io.specs.Fetched.{Files, file_of}
 use Rattle.tool_io.specs.SinkState.{SinkState}
-use Rattle.view_model.specs.declared.limits.TheConstants.{MAX_FILE}
-use Rattle.view_model.specs.declared.refusals.TheConstants.{LONG_FILE, MISSING_FILE}
+use Rattle.whole_tool.specs.Numbers.{long_file, max_file, missing_file}
 use Rattle.whole_tool.specs.Refusals.{refused_text}
 use Rattle.whole_tool.specs.Tool.{IsComplete, Writes}
 
@@ -32,12 +31,12 @@ is_fault (Err fault) = true
 
 -- the text of a file, if there is one
 abbrev pub file_text : Option (List ℕ) → List ℕ
-file_text None = refused_file_text MISSING_FILE
-file_text (Some bytes) = if nat_lt MAX_FILE (length bytes) then refused_file_text LONG_FILE else decoded_text (decoded bytes)
+file_text None = refused_file_text missing_file
+file_text (Some bytes) = if nat_lt max_file (length bytes) then refused_file_text long_file else decoded_text (decoded bytes)
 
 abbrev pub is_refused_file : Option (List ℕ) → Bool
 is_refused_file None = true
-is_refused_file (Some bytes) = if nat_lt MAX_FILE (length bytes) then true else is_fault (decoded bytes)
+is_refused_file (Some bytes) = if nat_lt max_file (length bytes) then true else is_fault (decoded bytes)
 
 -- what is written of the file of a name, and whether it is refused
 abbrev pub dump_page : Files → List ℕ → List ℕ

@@ -15,6 +15,7 @@ use Rattle.whole_tool.specs.declared.focusing.Question.{Question}
 use Rattle.whole_tool.specs.declared.run.Stop.TheVariants as stop
 use Rattle.whole_tool.specs.declared.script.End.{End}
 use Rattle.whole_tool.specs.declared.script.End.TheVariants as ends
+use Rattle.whole_tool.specs.Numbers.{last_refusal}
 use Rattle.whole_tool.specs.Refusals.{refused_text}
 use Rattle.whole_tool.specs.Script.{RunsTo, WorksTaken}
 use Rattle.whole_tool.specs.Tally.{costs_of_script}
@@ -56,7 +57,7 @@ answer_text (Err number) = refused_question number
 
 -- a number that a refusal has
 abbrev pub IsNamed : ℕ → Type 0
-IsNamed number = (1 ≤ number) × (number ≤ 43)
+IsNamed number = (1 ≤ number) × (number ≤ last_refusal)
 
 -- the answer to a question that is asked after a script, with these files at hand
 abbrev pub script_answer : List ℕ → Files → Question → Result (Option ℕ) ℕ

@@ -5,6 +5,7 @@ pub mod Focus
 pub mod Gen
 pub mod Lookup
 pub mod Names
+pub mod Numbers
 pub mod Outside
 pub mod Refusals
 pub mod Run

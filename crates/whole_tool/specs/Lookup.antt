@@ -7,8 +7,8 @@ use Rattle.arsc_reader.specs.Lines.{value_line, value_lines}
 use Rattle.arsc_reader.specs.Table.{table_of}
 use Rattle.axml_chunks.specs.declared.fault.Fault.{Fault}
 use Rattle.tool_io.specs.Fetched.{Files, file_of}
-use Rattle.view_model.specs.declared.refusals.TheConstants.{LONG_FILE, MISSING_FILE}
 use Rattle.whole_tool.specs.Dump.{fault_text, refused_file_text}
+use Rattle.whole_tool.specs.Numbers.{long_file, missing_file}
 use Rattle.whole_tool.specs.Usage.{resource_id}
 
 -- the most bytes that a table may have
@@ -30,8 +30,8 @@ is_broken (Err fault) = true
 
 -- the same of a file, if there is one
 abbrev pub table_text : List ℕ → Option (List ℕ) → List ℕ
-table_text ids None = refused_file_text MISSING_FILE
-table_text ids (Some bytes) = if nat_lt max_table (length bytes) then refused_file_text LONG_FILE else looked_up ids (table_of bytes)
+table_text ids None = refused_file_text missing_file
+table_text ids (Some bytes) = if nat_lt max_table (length bytes) then refused_file_text long_file else looked_up ids (table_of bytes)
 
 abbrev pub is_refused_table : Option (List ℕ) → Bool
 is_refused_table None = true

@@ -4,14 +4,14 @@ use Rattle.script_lines.specs.cutting.Lines.{Line, Text, LongLine, cut_of, is_pa
 use Rattle.stack_worlds.specs.PlainStack.{empty_stack}
 use Rattle.tool_io.specs.Fetched.{Files}
 use Rattle.view_model.specs.Refusals.{refusal_numbered}
-use Rattle.view_model.specs.declared.refusals.TheConstants.{LONG_LINE}
 use Rattle.whole_tool.specs.Carried.{Carried, Alone, Stacked, LineReply, Done, Refused, BytesWant, asked_by_bytes, reply_to_bytes}
+use Rattle.whole_tool.specs.Numbers.{long_line}
 use Rattle.whole_tool.specs.Refusals.{refused_line}
 use Rattle.view_world.specs.world.World.{empty_world}
 
 -- what a line does: too long a line is refused whatever it begins with, and one that is passed over does nothing
 unfoldable pub reply_to_line : Files → Carried → Line → LineReply
-reply_to_line files carried LongLine = Refused (refusal_numbered LONG_LINE)
+reply_to_line files carried LongLine = Refused (refusal_numbered long_line)
 reply_to_line files carried (Text bytes) = if is_passed_over bytes then Done carried [] else reply_to_bytes files carried bytes
 
 -- the name of the file that a line asks the shelf for, unless it is refused before

@@ -14,6 +14,7 @@ use Rattle.script_lines.specs.declared.words.naming.Name.{Name}
 use Rattle.whole_tool.specs.declared.focusing.Question.{Question}
 use Rattle.whole_tool.specs.declared.usage.Form.{Form}
 use Rattle.whole_tool.specs.declared.usage.Form.TheVariants as form
+use Rattle.whole_tool.specs.Numbers.{max_ids, max_load}
 
 -- a run of the script on the source, a run of it for a stack of windows, the print of a file, a run of the load of a
 -- size, the print of what resources hold in the table of a file, a run of the script with a question after it, or none
@@ -34,7 +35,7 @@ dump_usage word name = if bytes_eq word (codes "dump") && is_file_name name then
 
 abbrev pub gen_of : Option ℕ → Usage
 gen_of None = Unknown
-gen_of (Some n) = if nat_le 1 n && nat_le n 100 then Gen n else Unknown
+gen_of (Some n) = if nat_le 1 n && nat_le n max_load then Gen n else Unknown
 
 abbrev pub gen_usage : List ℕ → Usage
 gen_usage number = gen_of (natural_of number)
@@ -57,7 +58,7 @@ resource_ids words = map (λ word. resource_id (string_bytes word)) words
 
 abbrev pub lookup_usage : List ℕ → List ℕ → List (String Global) → Usage
 lookup_usage word name ids =
-    if bytes_eq word (codes "lookup") && is_file_name name && nat_le (length ids) 64 && are_ids ids then Lookup name (resource_ids ids) else Unknown
+    if bytes_eq word (codes "lookup") && is_file_name name && nat_le (length ids) max_ids && are_ids ids then Lookup name (resource_ids ids) else Unknown
 
 abbrev pub side_of : List ℕ → Option Side
 side_of word =
@@ -106,6 +107,6 @@ abbrev pub HasSize : Form → Type 0
 HasSize form.Run = Unit {0}
 HasSize form.Stack = Unit {0}
 HasSize (form.Dump name) = Unit {0}
-HasSize (form.Gen n) = n ≤ 100
+HasSize (form.Gen n) = n ≤ max_load
 HasSize (form.Lookup name ids) = Unit {0}
 HasSize (form.Focus question) = Unit {0}

@@ -5,10 +5,10 @@ ghost use Rattle.script_lines.specs.cutting.Lines.{is_idle, max_line};
 ghost use Rattle.stack_worlds.specs.PlainStack.{empty_stack};
 ghost use Rattle.tool_io.specs.Fetched.{Files};
 ghost use Rattle.view_model.specs.Refusals.{plain_refusal};
-ghost use Rattle.view_model.specs.declared.limits.TheConstants.{MAX_VIEWS, NUMBERS_END};
 ghost use Rattle.view_model.specs.declared.work.Work.{Work};
 ghost use Rattle.whole_tool.specs.Carried.{Alone, Stacked, BytesWant, asked_by_bytes, fault_refusal, reply_to_bytes};
 ghost use Rattle.whole_tool.specs.Carrier.{IsFirst, IsStacked, WritesLine, carried_of, next_of};
+ghost use Rattle.whole_tool.specs.Numbers.{max_views, numbers_end};
 ghost use Rattle.whole_tool.specs.Run.{HasTallied, IsShort, line_now};
 ghost use Rattle.whole_tool.specs.Tally.{Tally, after_bytes, with_cost};
 ghost use Rattle.whole_tool.specs.Transcript.{Asks, MayWant, asked_by_line, reply_to_line};
@@ -57,7 +57,7 @@ impl Carrier {
         sink: &mut K,
         work: &mut Work,
     ) -> Result<(), StepFault>
-        requires numbered { next_of self.old < NUMBERS_END }
+        requires numbered { next_of self.old < numbers_end }
         requires short { length bytes.now ≤ max_line }
         ensures carried { (files : Files)
             → F.files shelf.old ≡ Some files
@@ -71,7 +71,7 @@ impl Carrier {
             → HasTallied first work.new self.new (after_bytes files tally.costs tally.watched bytes.now) }
         ensures idle { IsDone result ⊎ (work.new ≡ work.old) }
         ensures memory { result ≡ Err StepFault.NoMemory → BytesWant (carried_of self.old) bytes.now }
-        ensures numbers { next_of self.new ≤ next_of self.old + MAX_VIEWS }
+        ensures numbers { next_of self.new ≤ next_of self.old + max_views }
         ensures sink_failed { (K.state sink.new).faults ≡ faults_after_line result (K.state sink.old).faults }
         ensures files_stay { F.files shelf.new ≡ F.files shelf.old }
         ensures shelf_failed { CountsShelf (F.faults shelf.old) (F.faults shelf.new) result }
@@ -101,7 +101,7 @@ impl Carrier {
         work: &mut Work,
     ) -> Result<(), StepFault>
         requires stacked { IsStacked self.old }
-        requires numbered { next_of self.old < NUMBERS_END }
+        requires numbered { next_of self.old < numbers_end }
         requires short { length bytes.now ≤ max_line }
         ensures carried { (files : Files)
             → F.files shelf.old ≡ Some files
@@ -115,7 +115,7 @@ impl Carrier {
             → HasTallied first work.new self.new (after_bytes files tally.costs tally.watched bytes.now) }
         ensures idle { IsDone result ⊎ (work.new ≡ work.old) }
         ensures memory { result ≡ Err StepFault.NoMemory → BytesWant (carried_of self.old) bytes.now }
-        ensures numbers { next_of self.new ≤ next_of self.old + MAX_VIEWS }
+        ensures numbers { next_of self.new ≤ next_of self.old + max_views }
         ensures sink_failed { (K.state sink.new).faults ≡ faults_after_line result (K.state sink.old).faults }
         ensures files_stay { F.files shelf.new ≡ F.files shelf.old }
         ensures shelf_failed { CountsShelf (F.faults shelf.old) (F.faults shelf.new) result }
@@ -146,7 +146,7 @@ impl Carrier {
         sink: &mut K,
         work: &mut Work,
     ) -> Result<(), StepFault>
-        requires numbered { next_of self.old < NUMBERS_END }
+        requires numbered { next_of self.old < numbers_end }
         requires short { IsShort line }
         requires counts { is_idle (line_now line) ≡ false }
         ensures carried { (files : Files)
@@ -161,7 +161,7 @@ impl Carrier {
             → HasTallied first work.new self.new (with_cost files tally (line_now line.entry)) }
         ensures idle { IsDone result ⊎ (work.new ≡ work.old) }
         ensures memory { result ≡ Err StepFault.NoMemory → MayWant (carried_of self.old) (line_now line.entry) }
-        ensures numbers { next_of self.new ≤ next_of self.old + MAX_VIEWS }
+        ensures numbers { next_of self.new ≤ next_of self.old + max_views }
         ensures sink_failed { (K.state sink.new).faults ≡ faults_after_line result (K.state sink.old).faults }
         ensures files_stay { F.files shelf.new ≡ F.files shelf.old }
         ensures shelf_failed { CountsShelf (F.faults shelf.old) (F.faults shelf.new) result }

@@ -4,8 +4,8 @@ ghost use Rattle.std.specs.Prelude.{◌≡◌, ◌≢◌, ◌≤◌, ◌⊎◌, 
 ghost use Rattle.axml_reader.specs.Decoding.{decoded};
 ghost use Rattle.tool_io.specs.Counts.{one_more, raised};
 ghost use Rattle.tool_io.specs.Fetched.{Fetched, Files};
-ghost use Rattle.view_model.specs.declared.limits.TheConstants.{MAX_FILE};
 ghost use Rattle.whole_tool.specs.Dump.{Dumps, decoded_text, dump_page, is_fault, refuses_file, status_of_text};
+ghost use Rattle.whole_tool.specs.Numbers.{max_file};
 ghost use Rattle.whole_tool.specs.Tool.{IsOneOf};
 
 use crate::file_replies::{write_fault, write_refused_file};
@@ -43,7 +43,7 @@ pub fn dump<K: Sink, F: Shelf>(alloc: Global, name: &str, shelf: &mut F, sink: &
 /// Prints a file that was fetched, or reports why it is refused.
 fn dump_found<K: Sink>(alloc: Global, found: Found, bytes: &[u8], sink: &mut K) -> u8
     ensures dumps { (files : Files) (name : List ℕ)
-        → Fetched files name MAX_FILE found bytes.now
+        → Fetched files name max_file found bytes.now
         → Dumps (dump_page files name) (refuses_file files name) (K.state sink.old) (K.state sink.new) result }
     ensures known { IsOneOf result (0 ∷ 1 ∷ 4 ∷ 5 ∷ []) }
     ensures nothing_written { result ≡ 5 → sink.new ≡ sink.old }

@@ -5,9 +5,9 @@ ghost use Rattle.script_lines.specs.cutting.LineBuffer.{IsLent, lines_at};
 ghost use Rattle.script_lines.specs.cutting.Lines.{Line, cut_of, is_idle, lines_of, max_line};
 ghost use Rattle.tool_io.specs.Fetched.{Files};
 ghost use Rattle.view_model.specs.declared.work.Work.{Work};
-ghost use Rattle.view_model.specs.declared.limits.TheConstants.{MAX_VIEWS, NUMBERS_END};
 ghost use Rattle.whole_tool.specs.Carried.{Carried};
 ghost use Rattle.whole_tool.specs.Carrier.{IsFirst, carried_of, next_of};
+ghost use Rattle.whole_tool.specs.Numbers.{max_views, numbers_end};
 ghost use Rattle.whole_tool.specs.Run.{CountsFetches, HasCarriedOut, HasReadUpTo, IsShort, StopsIn, WithFiles, line_now, lines_now, writes_counted};
 ghost use Rattle.whole_tool.specs.Tally.{Tally, tally_from, with_cost};
 ghost use Rattle.whole_tool.specs.Transcript.{ScriptProgress, after_line, after_from};
@@ -55,7 +55,7 @@ impl LineRunner {
         sink: &mut K,
         work: &mut Work,
     ) -> Result<(), Stop>
-        requires numbered { next_of self.old.carrier < NUMBERS_END }
+        requires numbered { next_of self.old.carrier < numbers_end }
         requires short { IsShort line }
         ensures done { (files : Files) (first : Trace) (progress : ScriptProgress) (tally : Tally)
             → F.files shelf.old ≡ Some files
@@ -70,7 +70,7 @@ impl LineRunner {
             (after_from start files lines) (tally_from start files lines)
             → IfErr result (StopsIn start files first (trace (K.state sink.new) work.new (F.fetches shelf.new))
             (lines ++ line_now line.entry ∷ [])) }
-        ensures numbers { next_of self.new.carrier ≤ next_of self.old.carrier + MAX_VIEWS }
+        ensures numbers { next_of self.new.carrier ≤ next_of self.old.carrier + max_views }
         ensures files_stay { F.files shelf.new ≡ F.files shelf.old }
         ensures shelf_failed { CountsFetches (F.faults shelf.old) (F.faults shelf.new) result }
         ensures painted { work.old.painted ≤ work.new.painted }
@@ -182,7 +182,7 @@ impl Run {
         sink: &mut K,
         work: &mut Work,
     ) -> Result<usize, Stop>
-        requires { next_of self.old.runner.carrier < NUMBERS_END }
+        requires { next_of self.old.runner.carrier < numbers_end }
         ensures within { IfOk result (λ n. n ≤ length piece.now) }
         ensures some { 0 < length piece.now → IfOk result (λ n. 0 < n) }
         ensures done { (start : Carried) (first : Trace) (before : List ℕ)
@@ -197,7 +197,7 @@ impl Run {
             (trace (K.state sink.old) work.old (F.fetches shelf.old)) self.old before
             → IfErr result (λ stop. WithFiles (F.files shelf.old) (λ files. StopsIn start files first
             (trace (K.state sink.new) work.new (F.fetches shelf.new)) (cut_of (before ++ piece.now)).lines stop)) }
-        ensures numbers { next_of self.new.runner.carrier ≤ next_of self.old.runner.carrier + MAX_VIEWS }
+        ensures numbers { next_of self.new.runner.carrier ≤ next_of self.old.runner.carrier + max_views }
         ensures files_stay { F.files shelf.new ≡ F.files shelf.old }
         ensures shelf_failed { CountsFetches (F.faults shelf.old) (F.faults shelf.new) result }
         ensures painted { work.old.painted ≤ work.new.painted }
@@ -225,7 +225,7 @@ impl Run {
         sink: &mut K,
         work: &mut Work,
     ) -> Result<(), Stop>
-        requires { next_of self.old.runner.carrier + MAX_VIEWS * length piece.now < NUMBERS_END }
+        requires { next_of self.old.runner.carrier + max_views * length piece.now < numbers_end }
         ensures done { (start : Carried) (first : Trace) (before : List ℕ)
             → length (before ++ piece.now) < 2 ^ 63
             → HasReadUpTo start (F.files shelf.old) first
@@ -239,7 +239,7 @@ impl Run {
             → IfErr result (λ stop. WithFiles (F.files shelf.old) (λ files. StopsIn start files first
             (trace (K.state sink.new) work.new (F.fetches shelf.new)) (cut_of (before ++ piece.now)).lines stop)) }
         ensures numbers { next_of self.new.runner.carrier
-            ≤ next_of self.old.runner.carrier + MAX_VIEWS * length piece.now }
+            ≤ next_of self.old.runner.carrier + max_views * length piece.now }
         ensures files_stay { F.files shelf.new ≡ F.files shelf.old }
         ensures shelf_failed { CountsFetches (F.faults shelf.old) (F.faults shelf.new) result }
         ensures painted { work.old.painted ≤ work.new.painted }
@@ -260,7 +260,7 @@ impl Run {
         sink: &mut K,
         work: &mut Work,
     ) -> Result<(), Stop>
-        requires { next_of self.old.runner.carrier < NUMBERS_END }
+        requires { next_of self.old.runner.carrier < numbers_end }
         ensures done { (start : Carried) (files : Files) (first : Trace) (script : List ℕ)
             → F.files shelf.old ≡ Some files
             → length script < 2 ^ 63
