@@ -50,7 +50,7 @@ extern "C" {
 enum vindaesk_status {
     VINDAESK_ACCEPTED = 0,  /* all was carried out, and nothing was refused */
     VINDAESK_REFUSED = 1,   /* all was carried out, and a line, or the file, was refused: the page says which and why */
-    VINDAESK_USAGE = 2,     /* no file can have this name, or there are no ids or too many */
+    VINDAESK_USAGE = 2,     /* no file, side or view can have this name, or there are no ids or too many */
     VINDAESK_NO_MEMORY = 5, /* there is no memory */
     VINDAESK_LONG = 7,      /* the script has more than VINDAESK_MAX_SCRIPT bytes */
     VINDAESK_SMALL = 8,     /* the buffer for the answer is too small */
@@ -75,6 +75,16 @@ uint8_t vindaesk_run(const uint8_t *script, size_t script_size, const uint8_t *f
 
 /* Carries out a script for a stack of windows. The page is the texts of its lines. It returns what vindaesk_run does. */
 uint8_t vindaesk_stack(const uint8_t *script, size_t script_size, const uint8_t *files, size_t files_size,
+                       uint8_t *answer, size_t answer_size, size_t *size);
+
+/* Carries out a script, and then says which view gets the focus next, from a view to a side of it. The page is the script's
+ * transcript and then one line: `focus vN`, `focus none`, or why the question is refused.
+ *
+ * The side is `left`, `right`, `up` or `down`, and the view is named as in a line of a script: `v` and its number, or `@` and
+ * its id. It returns ACCEPTED where neither a line nor the question was refused, and REFUSED otherwise; USAGE exactly where
+ * the words name no side or no view, before anything else; and then what vindaesk_run does. */
+uint8_t vindaesk_focus(const uint8_t *script, size_t script_size, const uint8_t *side, size_t side_size,
+                       const uint8_t *view, size_t view_size, const uint8_t *files, size_t files_size,
                        uint8_t *answer, size_t answer_size, size_t *size);
 
 /* Prints a compiled layout file, the one of this name among `files`. The page is the text of its document, or why it is

@@ -1,3 +1,4 @@
 mod LookupLaws
 mod PackedLaws
 mod PageLaws
+mod QuestionLaws

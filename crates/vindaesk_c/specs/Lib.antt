@@ -3,3 +3,4 @@ pub mod FilesNow
 pub mod Lookups
 pub mod Packed
 pub mod Page
+pub mod Questions

@@ -1,30 +1,36 @@
 //! The tool as a library of C: a call is carried out in the process of the caller, over bytes in its memory.
 //!
 //! `include/vindaesk.h` declares what is exported. `packing` reads the files of a call out of one buffer, and `shelf` has
-//! them at hand. `words` has the words that the tool is called with, `page` has it write a page in memory, and `answer` puts
-//! that into the caller's buffer.
+//! them at hand. `words` and `questions` have the words that the tool is called with, `page` has it write a page in memory,
+//! and `answer` puts that into the caller's buffer.
 #![tactic(auto)]
 
-ghost use Rattle.std.specs.Prelude.{◌≡◌, ◌≢◌, ◌<◌, ◌↔◌, ◌⊎◌, [], ◌∷◌, length, IsFalse, if◌then◌else◌};
+ghost use Rattle.std.specs.Prelude.{◌≡◌, ◌≢◌, ◌<◌, ◌↔◌, ◌⊎◌, [], ◌∷◌, length, IsFalse, IsTrue, if◌then◌else◌};
 ghost use Rattle.script_lines.specs.words.FileNames.{is_file_name};
 ghost use Rattle.tool_io.specs.Fetched.{Files};
 ghost use Rattle.vindaesk_c.specs.Answer.{IsAnswer, LacksRoom};
 ghost use Rattle.vindaesk_c.specs.Lookups.{can_look_up};
 ghost use Rattle.vindaesk_c.specs.Packed.{packed};
+ghost use Rattle.vindaesk_c.specs.Questions.{asked, can_ask};
 ghost use Rattle.whole_tool.specs.Dump.{dump_page, refuses_file};
+ghost use Rattle.whole_tool.specs.Focus.{focus_page, refuses_focus};
 ghost use Rattle.whole_tool.specs.Lookup.{lookup_page, refuses_table};
 ghost use Rattle.whole_tool.specs.Tool.{IsComplete, IsOneOf};
 ghost use Rattle.whole_tool.specs.Transcript.{has_refusal, max_script, refuses_in_stack, stack_page, transcript};
+ghost use Rattle.whole_tool.specs.Usage.{Focus};
+ghost use Rattle.whole_tool.specs.declared.focusing.Question.{Question};
 
 mod answer;
 mod fault;
 mod packing;
 mod page;
+mod questions;
 mod shelf;
 mod words;
 
 use crate::answer::put_page;
-use crate::page::{file_page, script_page, table_page};
+use crate::page::{file_page, question_page, script_page, table_page};
+use crate::questions::can_ask;
 use crate::words::can_look_up;
 use script_lines::is_file_name;
 use std::alloc::Global;
@@ -117,6 +123,58 @@ pub extern "C" fn vindaesk_stack(
         return LONG_SCRIPT;
     }
     put_page(script_page(alloc, "stack", script, files), answer, size)
+}
+
+/// Carries out a script, and then says which view gets the focus next, from this view to this side of it.
+#[unsafe(no_mangle)]
+pub extern "C" fn vindaesk_focus(
+    alloc: Global,
+    script: &[u8],
+    side: &[u8],
+    view: &[u8],
+    files: &[u8],
+    answer: &mut [u8],
+    size: &mut usize,
+) -> u8
+    // The first bytes of the answer are the transcript and then the answer to the question, and the rest of the buffer is
+    // as it was.
+    ensures complete { (held : Files) (question : Question)
+        → files.now ≡ packed held
+        → asked side.now view.now ≡ Focus question
+        → IsComplete result
+        → IsAnswer (focus_page script.now held question) answer.old answer.new size.new }
+    ensures refused { (held : Files) (question : Question)
+        → files.now ≡ packed held
+        → asked side.now view.now ≡ Focus question
+        → IsComplete result
+        → result ≡ (if refuses_focus script.now held question then 1 else 0) }
+    ensures small { (held : Files) (question : Question)
+        → files.now ≡ packed held
+        → asked side.now view.now ≡ Focus question
+        → result ≡ 8
+        → LacksRoom (focus_page script.now held question) answer.old size.new }
+    ensures kept { (IsComplete result → ⊥) → answer.new ≡ answer.old }
+    ensures no_size { (IsComplete result → ⊥) → result ≢ 8 → size.new ≡ 0 }
+
+    // The words name no side or no view. That is reported before a script that is too long, and both before all else.
+    ensures usage { (result ≡ 2) ↔ IsFalse (can_ask side.now view.now) }
+    ensures long { (result ≡ 7) ↔ (IsTrue (can_ask side.now view.now) × (max_script < length script.now)) }
+    ensures broken { result ≡ 9 → (held : Files) → files.now ≢ packed held }
+    ensures read { IsComplete result ⊎ (result ≡ 8) → (held : Files) × (files.now ≡ packed held) }
+    ensures statuses { IsOneOf result (0 ∷ 1 ∷ 2 ∷ 5 ∷ 7 ∷ 8 ∷ 9 ∷ []) }
+{
+    *size = 0;
+    if !can_ask(side, view) {
+        return USAGE;
+    }
+    if script.len() > MAX_SCRIPT {
+        return LONG_SCRIPT;
+    }
+    put_page(
+        question_page(alloc, script, side, view, files),
+        answer,
+        size,
+    )
 }
 
 /// Prints the layout file of this name, one of these files.

@@ -6,6 +6,7 @@ ghost use Rattle.tool_io.specs.Fetched.{Files};
 ghost use Rattle.vindaesk_c.specs.Lookups.{can_look_up};
 ghost use Rattle.vindaesk_c.specs.Packed.{packed};
 ghost use Rattle.vindaesk_c.specs.Page.{page_of, refuses};
+ghost use Rattle.vindaesk_c.specs.Questions.{asked, can_ask};
 ghost use Rattle.whole_tool.specs.Dump.{dump_page, refuses_file};
 ghost use Rattle.whole_tool.specs.Lookup.{lookup_page, refuses_table};
 ghost use Rattle.whole_tool.specs.Tool.{IsComplete};
@@ -14,6 +15,7 @@ ghost use Rattle.whole_tool.specs.Usage.{Unknown, run_usage, usage};
 
 use crate::fault::Fault;
 use crate::packing::unpacked;
+use crate::questions::question_words;
 use crate::shelf::PackedShelf;
 use crate::words::{file_words, lookup_words, one_word};
 use std::alloc::{AllocError, Global};
@@ -79,6 +81,29 @@ pub fn table_page(alloc: Global, name: &[u8], ids: &[u32], files: &[u8]) -> Resu
 {
     let words = lookup_words(alloc, name, ids)?;
     page_for(alloc, words.as_slice(), &[], files)
+}
+
+/// The page of a script with a question after it.
+pub fn question_page(
+    alloc: Global,
+    script: &[u8],
+    side: &[u8],
+    view: &[u8],
+    files: &[u8],
+) -> Result<Page, Fault>
+    requires can { IsTrue (can_ask side.now view.now) }
+    requires short { length script.now ≤ max_script }
+    ensures text { (held : Files)
+        → files.now ≡ packed held
+        → IfOk result (λ page. page.sink.gone ≡ page_of (asked side.now view.now) script.now held) }
+    ensures refusing { (held : Files)
+        → files.now ≡ packed held
+        → IfOk result (λ page. page.is_refusing ≡ refuses (asked side.now view.now) script.now held) }
+    ensures read { OnOk result ((held : Files) × (files.now ≡ packed held)) }
+    ensures broken { result ≡ Err Fault.BrokenFiles → (held : Files) → files.now ≢ packed held }
+{
+    let words = question_words(alloc, side, view)?;
+    page_for(alloc, words.as_slice(), script, files)
 }
 
 /// The page for these words, with the files of a buffer at hand.
