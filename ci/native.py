@@ -1,12 +1,11 @@
 """The library of C: it shows no symbol but its own, and from C, from Python, from several threads and from Java it
-gives the bytes and the status of the program, over each worked script and file of examples/, docs/ and ci/worked/. Its
-promises are kept over random scripts and files, also where each request for memory is refused in turn, and the memory
-of a process does not grow with its calls (native_calls.c).
+gives the bytes and the status of the program, over each worked script and file of examples/, docs/ and ci/worked/, and
+over the cases of stored.py. Its promises are kept over random scripts and files, also where each request for memory is
+refused in turn, and the memory of a process does not grow with its calls (native_calls.c).
 
     python3 ci/native.py fuzz COUNT      COUNT calls under the address sanitizer, which take some minutes a million
 
-The library is the one below out/native, where `vindaesk.building.library` puts it, or below the folder that the variable
-VINDAESK_NATIVE names. The checks are run where they are asked for by their name: `ci/checks native`.
+The library is the one beside the program, or the one that the variable VINDAESK_LIBRARY names.
 """
 import ctypes
 import functools
@@ -24,10 +23,12 @@ from typing import Callable, Iterator, List, Sequence, Tuple
 sys.dont_write_bytecode = True
 
 import pages
+import stored
 from running import PROGRAM, TOP, Checks, Skipped, difference, need, run
 from vindaesk.building import library
 from vindaesk.common import files
-from vindaesk.program import native
+from vindaesk.program import calls as forms, in_process, native
+from vindaesk.provenance import dist
 
 CALLS, WRAPPED = os.path.join(TOP, "ci", "native_calls.c"), "-Wl,--wrap=malloc,--wrap=realloc"
 EXAMPLES = os.path.join(TOP, "examples")
@@ -39,6 +40,8 @@ THREADS, ROUNDS, FUZZ, REPEATED = 8, 20, 20000, 20000
 GROWTH = 256
 SCRIPT = b"window 100 50\nadd root View 30 20\nframe\nbounds\n"
 ANSWER = b"v1\nsettled 0\nv1 0 0 30 20\n"
+NO_QUESTIONS = ((b"", b"v1"), (b"UP", b"v1"), (b"up", b""), (b"up", b"1"), (b"up", b"v01"), (b"up", b"@"), (b"\xff", b"v1"),
+                (b"up", b"v\xff"), (b"up", b"@123456789"))
 
 
 Call = Tuple[List[str], bytes, str]
@@ -47,31 +50,31 @@ Ending = Tuple[int, int, bytes]
 Waiting = Callable[[bytes, int], Ending]
 
 
-def made() -> Tuple[str, str]:
-    """The folder of the library, and the path of the shared one."""
-    folder = os.environ.get("VINDAESK_NATIVE") or os.path.join(TOP, "out", "native")
-    path = os.path.join(folder, "lib", "libvindaesk.so")
-    if not os.path.exists(path):
-        raise Skipped(path, "there is no %s; vindaesk.building.library makes it" % path)
-    return folder, path
+def shared() -> str:
+    """The path of the shared library."""
+    found = native.path()
+    if found is None:
+        raise Skipped(os.path.join(os.path.dirname(PROGRAM), dist.LIBRARY))
+    return found
+
+
+def archive() -> str:
+    """The path of the static library."""
+    return os.path.join(os.path.dirname(shared()), dist.ARCHIVE)
 
 
 @functools.lru_cache(maxsize=None)
 def loaded() -> native.Library:
-    return native.Library(made()[1])
+    return native.Library(shared())
 
 
 def compiled(place: str, name: str, words: Sequence[str]) -> str:
     """A program that `cc` makes of sources and the library."""
     program = os.path.join(place, name)
-    include = "-I" + os.path.join(made()[0], "include")
+    include = "-I" + os.path.join(TOP, "include")
     command = [need("cc"), "-O1", "-g", "-Wall", "-Wextra", "-Werror", include, *words, "-o", program]
     subprocess.run(command, check=True)
     return program
-
-
-def archive() -> str:
-    return os.path.join(made()[0], "lib", "libvindaesk.a")
 
 
 def matching(form: str, *folder: str) -> List[str]:
@@ -83,6 +86,8 @@ def worked() -> Iterator[Call]:
     """Each worked call: its words, its script, and the folder where its files are."""
     for path in [*matching("*.script", "examples"), *matching("*.script", "ci", "worked")]:
         yield ["run"], files.read(path), os.path.dirname(path)
+        for side in forms.SIDES:
+            yield ["focus", side, "v2"], files.read(path), os.path.dirname(path)
     for path in [*matching("*.stack", "examples"), *matching("*.stack", "ci", "worked")]:
         yield ["stack"], files.read(path), os.path.dirname(path)
     for path in [*matching("*.xml", "examples"), *matching("*.xml", "ci", "worked")]:
@@ -95,13 +100,15 @@ def worked() -> Iterator[Call]:
             for _, form, lines in pages.blocks(page.read().splitlines()):
                 if form[:1] == ["script"]:
                     yield ["run"], pages.text(lines), TOP
+    yield ["focus", "down", "@0"], b"window 9 9\nadd root View 1 1\nframe\n", TOP
 
 
 def by_library(words: List[str], script: bytes, folder: str) -> native.Answer:
     """What the library answers."""
-    asked = native.asked_of(loaded(), words, script)
-    assert asked is not None
-    return asked.call(files=native.contents_of(asked.names, folder, asked.limit))
+    asked = in_process.asked_of(loaded(), words, script)
+    found = None if asked is None else in_process.contents_of(asked.names, folder, asked.limit)
+    assert asked is not None and found is not None
+    return asked.call(files=found)
 
 
 def same_bytes() -> str:
@@ -112,12 +119,29 @@ def same_bytes() -> str:
         if why:
             return "%s over %r: %s" % (" ".join(words), script[:60], why)
         count += 1
-    return "" if count > 60 else "there are only %d worked calls" % count
+    return "" if count > 100 else "there are only %d worked calls" % count
+
+
+def stored_cases() -> str:
+    """Why the library's answer to a stored case is not the program's, or nothing."""
+    count = 0
+    for folder in (it for place in stored.places() for it in stored.folders(place)):
+        words = files.read(os.path.join(folder, "args")).decode("utf-8", "replace").split("\n")[:-1]
+        if forms.has_form(words) and words[0] != "gen":
+            script = files.read(os.path.join(folder, "stdin"))
+            ended = run([PROGRAM, *words], script, folder)
+            why = difference(*ended, *by_library(words, script, folder)) if ended[1] in in_process.ENDED else ""
+            if why:
+                return "%s: %s" % (folder, why)
+            count += 1
+    if not count:
+        raise Skipped("VINDAESK_CASES")
+    return ""
 
 
 def own_symbols() -> str:
     own = set(library.exported())
-    for path, words in ((made()[1], ["nm", "-D", "--defined-only"]), (archive(), ["nm", "-g", "--defined-only"])):
+    for path, words in ((shared(), ["nm", "-D", "--defined-only"]), (archive(), ["nm", "-g", "--defined-only"])):
         said = subprocess.run([*words, path], stdout=subprocess.PIPE, check=True).stdout.decode()
         found = set(re.findall(r" [A-Z] (\w+)$", said, re.M))
         if found != own:
@@ -125,29 +149,41 @@ def own_symbols() -> str:
     return ""
 
 
+def call_of(name: str) -> Callable[..., int]:
+    """A function of the library."""
+    function: Callable[..., int] = getattr(loaded()._loaded, "vindaesk_" + name)
+    return function
+
+
 def raw(function: Callable[..., int], given: Sequence[object], held: bytes, room: int) -> Ending:
     """A call with a buffer of this room: the status, the size, and the buffer, whose bytes were 0xa5."""
     buffer = ctypes.create_string_buffer(b"\xa5" * (room + 1), room + 1)
     size = ctypes.c_size_t(77)
-    status: int = function(*given, held, len(held), buffer, room, ctypes.byref(size))
+    status: int = function(*given, *native.bytes_parts(held), buffer, ctypes.c_size_t(room), ctypes.byref(size))
     return status, size.value, buffer.raw[:room]
 
 
 def by_bytes(function: Callable[..., int], given: bytes) -> Waiting:
     """A call that takes bytes."""
-    return partial(raw, function, (given, len(given)))
+    return partial(raw, function, native.bytes_parts(given))
 
 
 def by_ids(name: bytes, *ids: int) -> Waiting:
     """A look-up."""
-    return partial(raw, loaded()._lookup, (name, len(name), (ctypes.c_uint32 * max(len(ids), 1))(*ids), len(ids)))
+    numbers = (ctypes.c_uint32 * max(len(ids), 1))(*ids)
+    return partial(raw, call_of("lookup"), [*native.bytes_parts(name), numbers, ctypes.c_size_t(len(ids))])
+
+
+def by_words(*words: bytes) -> Waiting:
+    """A question after the script."""
+    return partial(raw, call_of("focus"), native.bytes_parts(SCRIPT, *words))
 
 
 def statuses() -> str:
     """Each status, with the size and the buffer that belong to it."""
     filler, size = b"\xa5", len(ANSWER)
-    run_it = partial(by_bytes, loaded()._run)
-    dump, lines = partial(by_bytes, loaded()._dump), by_bytes(loaded()._run, SCRIPT)
+    run_it, dump = partial(by_bytes, call_of("run")), partial(by_bytes, call_of("dump"))
+    lines, asked = run_it(SCRIPT), b"v1\nsettled 0\nv1 0 0 30 20\nfocus none\n"
     one, lengths = native.packed({b"a.xml": b"abc"}), struct.pack
     far = lengths("<QQ", 1 << 63, 1 << 63) + b"a"
     long = run_it(b"#\n" * (1 << 23) + b"#")
@@ -168,6 +204,10 @@ def statuses() -> str:
         (by_ids(b"a.xml", *range(65)), one, 4, (NO_WORDS, 0, 4 * filler)),
         (by_ids(b".a", 1), one, 4, (NO_WORDS, 0, 4 * filler)),
         (by_ids(b"a.xml", 1), one + b"x", 4, (BROKEN, 0, 4 * filler)),
+        (by_words(b"up", b"v1"), b"", 64, (0, len(asked), asked + (64 - len(asked)) * filler)),
+        (by_words(b"up", b"v1"), b"", 9, (SMALL, len(asked), 9 * filler)),
+        (by_words(b"up", b"v1"), b"x", 4, (BROKEN, 0, 4 * filler)),
+        *[(by_words(*it), b"x", 4, (NO_WORDS, 0, 4 * filler)) for it in NO_QUESTIONS],
     ]
     for number, (call, held, room, ending) in enumerate(wanted):
         found = call(held, room)
@@ -180,7 +220,7 @@ def first_of_equal_names() -> str:
     """Of files with equal names the first counts."""
     a, b = files.read(os.path.join(EXAMPLES, "a.xml")), b"no layout"
     held = native.packed({b"a.xml": a}) + native.packed({b"a.xml": b})
-    status, size, found = by_bytes(loaded()._dump, b"a.xml")(held, 4096)
+    status, size, found = by_bytes(call_of("dump"), b"a.xml")(held, 4096)
     return difference(*run([PROGRAM, "dump", "a.xml"], b"", EXAMPLES), found[:size], status)
 
 
@@ -206,9 +246,8 @@ def threads() -> str:
 def example() -> str:
     """The example in C, linked with the shared library."""
     with tempfile.TemporaryDirectory() as place:
-        folder = os.path.dirname(made()[1])
         source = os.path.join(EXAMPLES, "native", "lay_out.c")
-        program = compiled(place, "lay_out", [source, "-L" + folder, "-lvindaesk", "-Wl,-rpath," + folder])
+        program = compiled(place, "lay_out", [source, shared(), "-Wl,-rpath," + os.path.dirname(shared())])
         script = b"window 360 640\ninflate page.xml\nframe\nbounds\n"
         return difference(*run([PROGRAM, "run"], script, EXAMPLES), *run([program, "page.xml"], b"", EXAMPLES))
 
@@ -242,18 +281,21 @@ def flat() -> str:
 
 
 def java() -> str:
-    """The example in Java."""
+    """The examples in Java."""
     home = os.path.dirname(os.path.dirname(os.path.realpath(need("javac"))))
     with tempfile.TemporaryDirectory() as place:
         include = [os.path.join("-I" + home, "include"), os.path.join("-I" + home, "include", "linux")]
         shim = os.path.join(JAVA, "vindaesk_jni.c")
         compiled(place, "libvindaesk_jni.so", ["-shared", "-fPIC", *include, shim, archive()])
         sources = [os.path.join(JAVA, "src", "vindaesk", "Vindaesk.java")]
-        sources.append(os.path.join(EXAMPLES, "native", "LayOut.java"))
+        sources += matching("*.java", "examples", "native")
         subprocess.run(["javac", "-Xlint:all", "-Werror", "-d", place, *sources], check=True)
-        command = ["java", "-Djava.library.path=" + place, "-cp", place, "LayOut", os.path.join(EXAMPLES, "page.xml")]
+        command = ["java", "-Djava.library.path=" + place, "-cp", place]
+        found = run([*command, "LayOut", os.path.join(EXAMPLES, "page.xml")], b"", EXAMPLES)
         script = b"window 360 640\ninflate page.xml\nframe\nbounds\n"
-        return difference(*run([PROGRAM, "run"], script, EXAMPLES), *run(command, b"", EXAMPLES))
+        tests = run([*command, "ScreenTest", EXAMPLES], b"", EXAMPLES)
+        why = "" if tests[1] == 0 else "ScreenTest: %s" % tests[0].decode("utf-8", "replace")
+        return why or difference(*run([PROGRAM, "run"], script, EXAMPLES), *found)
 
 
 def checks() -> Checks:
@@ -261,6 +303,7 @@ def checks() -> Checks:
     yield "native/each status", statuses
     yield "native/the first of equal names", first_of_equal_names
     yield "native/the bytes of the program", same_bytes
+    yield "native/stored cases", stored_cases
     yield "native/several threads", threads
     yield "native/the example in C", example
     yield "native/random calls", partial(calls, ["fuzz", str(FUZZ), "1", *inputs()], r"status 9: [1-9]")

@@ -140,6 +140,16 @@ static uint8_t look_up(const uint8_t *name, size_t name_size, const uint8_t *fil
     return vindaesk_lookup(name, name_size, ids, id_count, files, files_size, answer, answer_size, size);
 }
 
+static const char *side, *view;
+
+/* The question above, after a script. */
+static uint8_t ask(const uint8_t *script, size_t script_size, const uint8_t *files, size_t files_size, uint8_t *answer,
+                   size_t answer_size, size_t *size)
+{
+    return vindaesk_focus(script, script_size, (const uint8_t *)side, strlen(side), (const uint8_t *)view, strlen(view),
+                          files, files_size, answer, answer_size, size);
+}
+
 /* Some of the inputs as files, and sometimes bytes that are no files. */
 static size_t put_random_files(uint8_t *at)
 {
@@ -173,18 +183,28 @@ static size_t put_random_script(uint8_t *at)
     return size;
 }
 
+/* Chooses the ids of a look-up, and a question. */
+static void choose(void)
+{
+    static const char *const sides[] = {"left", "right", "up", "down", "", "Up"};
+    static const char *const views[] = {"v1", "v2", "v3", "v9", "@1", "@7f010001", "", "v", "v01", "@g", "\xff", "v99999999999"};
+    id_count = below(8) ? 1 + below(4) : below(80);
+    for (size_t i = 0; i < id_count; i++)
+        ids[i] = (uint32_t)(below(4) ? 0x7f000000 + (below(8) << 16) + below(8) : next());
+    side = sides[below(8) ? below(4) : below(6)];
+    view = views[below(4) ? below(6) : below(12)];
+}
+
 static int fuzz(long count)
 {
     static uint8_t script[ROOM], files[ROOM];
-    function *const calls[] = {vindaesk_run, vindaesk_stack, vindaesk_dump, look_up};
+    function *const calls[] = {vindaesk_run, vindaesk_stack, vindaesk_dump, look_up, ask};
     long ended[10] = {0};
     for (long done = 0; done < count; done++) {
         size_t script_size = put_random_script(script), files_size = put_random_files(files), size, again;
-        size_t which = below(8);
+        size_t which = below(9);
         function *call = calls[which < 5 ? 0 : which - 4];
-        id_count = below(8) ? 1 + below(4) : below(80);
-        for (size_t i = 0; i < id_count; i++)
-            ids[i] = (uint32_t)(below(4) ? 0x7f000000 + (below(8) << 16) + below(8) : next());
+        choose();
         if (call == vindaesk_dump || call == look_up) {
             const char *name = below(4) ? inputs[below((size_t)input_count)].name : (const char *)script;
             script_size = name == (const char *)script ? script_size % 80 : strlen(name);

@@ -14,11 +14,12 @@ import sys
 import tempfile
 from typing import Dict, Iterator, List, Optional, Sequence, TextIO, Tuple
 
-from running import PROGRAM, TOP, Checks, Skipped, difference, named, need
+from running import PROGRAM, TOP, Checks, Skipped, difference, named, need, run
 from vindaesk.command_line import catalogue
 from vindaesk.common.failures import Failure
 from vindaesk.installing import contents, manual, needs, wheel
 from vindaesk.installing.commands import is_known
+from vindaesk.provenance import dist
 from vindaesk.provenance.sources import Listing
 
 SECONDS = 600
@@ -29,7 +30,7 @@ EXAMPLE = os.path.join(TOP, "examples", "first.script")
 KEPT = os.path.join(TOP, "out", "packages")
 # the sources of what is made, in a copy of the repository
 SOURCES = ("tools", "vindaesk", "docs", "examples", "pyproject.toml", "setup.py", "README.md", "LICENSE",
-           "CHANGELOG.md", "VERSION")
+           "CHANGELOG.md", "VERSION", "include", "bindings")
 # what runs in each place: words, and what is printed over the first example
 CALLS: List[Tuple[List[str], str]] = [
     (["vindaesk", "run"], "first.answer"),
@@ -98,11 +99,18 @@ def locked(path: str) -> Iterator[None]:
         yield
 
 
+def libraries() -> List[str]:
+    """The libraries of C beside the program."""
+    found = [contents.beside(PROGRAM, it) for it in (dist.ARCHIVE, dist.LIBRARY)]
+    return [it for it in found if os.path.exists(it)]
+
+
 def digest() -> str:
     """What the packages of these sources and this program are made of."""
     whole = hashlib.sha256()
     parts = [contents.below(TOP, path, contents.MADE) for path in SOURCES]
-    for path, it in sorted((path, it) for part in [*parts, contents.below("/", PROGRAM)] for path, it in part.items()):
+    parts += [contents.below("/", it) for it in [PROGRAM, *libraries()]]
+    for path, it in sorted((path, it) for part in parts for path, it in part.items()):
         whole.update(b"%s %d " % (path.encode(), len(it.body)) + it.body)
     return whole.hexdigest()[:16]
 
@@ -185,6 +193,29 @@ def runs_from_a_tarball() -> str:
         os.rename(os.path.join(folder, top), moved)
         variables = environment(os.path.join(moved, "bin"))
         return wrong_call(variables) or wrong_version(variables, version_here())
+
+
+def builds_with_a_tarball() -> str:
+    """The examples in C, Python and Java are built over an unpacked tarball, and lay out a page as the program does."""
+    for it in ("cc", "pkg-config", "javac"):
+        need(it)
+    with tempfile.TemporaryDirectory(prefix="a-tarball-") as folder:
+        must(["tar", "-xf", package("*.tar.gz"), "-C", folder], folder)
+        top, = (os.path.join(folder, it) for it in os.listdir(folder))
+        page, native = os.path.join(TOP, "examples", "page.xml"), os.path.join(top, "examples", "native")
+        variables = environment(PKG_CONFIG_PATH=os.path.join(top, "lib", "pkgconfig"),
+                                PYTHONPATH=os.path.join(top, "lib", "vindaesk"))
+        must(["sh", os.path.join(native, "build.sh")], folder, variables)
+        wanted = run([PROGRAM, "run"], b"window 360 640\ninflate page.xml\nframe\nbounds\n", os.path.dirname(page))
+        java = ["java", "-Djava.library.path=.", "-cp", "."]
+        for words in ([os.path.join(folder, "lay_out"), page], [sys.executable, os.path.join(native, "lay_out.py"), page],
+                      [*java, "LayOut", page]):
+            text, status = said(words, folder, variables)
+            why = difference(*wanted, text.encode(), status)
+            if why:
+                return "%s: %s" % (words[0], why)
+        text, status = said([*java, "ScreenTest", os.path.dirname(page)], folder, variables)
+        return "" if status == 0 and text.startswith("OK (") else "ScreenTest: status %d, %s" % (status, text)
 
 
 def installs_a_wheel() -> str:

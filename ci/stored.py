@@ -3,6 +3,7 @@
 import os
 import tempfile
 from functools import partial
+from typing import List
 
 from running import PROGRAM, Checks, difference, run
 
@@ -26,10 +27,19 @@ def case(folder: str) -> str:
     return difference(contents(folder, "stdout"), int(contents(folder, "status")), *ended)
 
 
+def places() -> List[str]:
+    """The folders that the variable names."""
+    return list(filter(None, os.environ.get("VINDAESK_CASES", "").split(":")))
+
+
+def folders(place: str) -> List[str]:
+    """The case folders below a folder."""
+    return [it for it, _, files in sorted(os.walk(place)) if {"args", "stdin", "stdout", "status"} <= set(files)]
+
+
 def checks() -> Checks:
-    for place in filter(None, os.environ.get("VINDAESK_CASES", "").split(":")):
-        found = [it for it, _, files in sorted(os.walk(place)) if {"args", "stdin", "stdout", "status"} <= set(files)]
-        if not found:
+    for place in places():
+        if not folders(place):
             yield place, "no case is there".format
-        for folder in found:
+        for folder in folders(place):
             yield folder, partial(case, folder)

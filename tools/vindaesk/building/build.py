@@ -1,4 +1,4 @@
-"""Proves and builds the program, for the launcher.
+"""Proves and builds the program, for the launcher, and the library of C.
 
 Crates are built side by side, each once those that it uses are built: by as many processes as there are processors, or
 as the variable VINDAESK_JOBS says, and as many crates as fit the memory that is free, or the GB that VINDAESK_MEMORY
@@ -258,18 +258,18 @@ def ended(made: Build) -> Iterator[None]:
         raise
 
 
-def build(pause: Callable[[], None]) -> None:
-    """Builds the program. All but itself is built in rooms, while the crates of the checkout are locked. In between
-    `pause` is called."""
+def build(pause: Callable[[], None], name: str = PROGRAM) -> None:
+    """Builds the program, or a library. All but the program itself is built in rooms, while the crates of the checkout
+    are locked. In between `pause` is called."""
     known = crates.read(TOP)
-    order = [*crates.below(known, PROGRAM), PROGRAM]
+    order = [*crates.below(known, name), name]
     rooms = Rooms(TOP)
     made = Build(known, order, rooms, pause)
     with locked([os.path.join(TOP, "crates", it) for it in order], pause), rooms, ended(made):
-        made.until(len(order) - 1)
+        made.until(len(order) - (name == PROGRAM))
     with ended(made):
         made.until(len(order))
-    made.say("all %d crates are proved, and the program is built" % len(order))
+    made.say("all %d crates are proved, and %s is built" % (len(order), "the program" if name == PROGRAM else name))
 
 
 @contextlib.contextmanager
@@ -286,13 +286,26 @@ def noted() -> Iterator[None]:
             os.unlink(BEGUN)
 
 
-def run() -> None:
-    """Builds the program; a signal that ends this ends the process."""
+@contextlib.contextmanager
+def interruptible() -> Iterator[Signals]:
+    """A signal that ends what is done here ends the process."""
     try:
-        with Signals() as signals, noted():
-            build(signals.pause)
-            if not os.access(os.path.join(OUT, PROGRAM), os.X_OK):
-                raise Failure("rt run left no program at %s" % os.path.join(OUT, PROGRAM), NOT_BUILT)
+        with Signals() as signals:
+            yield signals
     except Interrupted as it:
         signal.signal(it.number, signal.SIG_DFL)
         os.kill(os.getpid(), it.number)
+
+
+def run() -> None:
+    """Builds the program; a signal that ends this ends the process."""
+    with interruptible() as signals, noted():
+        build(signals.pause)
+        if not os.access(os.path.join(OUT, PROGRAM), os.X_OK):
+            raise Failure("rt run left no program at %s" % os.path.join(OUT, PROGRAM), NOT_BUILT)
+
+
+def run_for(library: str) -> None:
+    """Builds a library; a signal that ends this ends the process."""
+    with interruptible() as signals:
+        build(signals.pause, library)

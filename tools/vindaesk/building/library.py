@@ -1,4 +1,4 @@
-"""Makes the library of C from the crate `vindaesk_c`, below out/native or below the folder that it is given:
+"""Makes the libraries of C from the crate `vindaesk_c`, below out/native or below the folder that it is given:
 
     PYTHONPATH=tools python3 -m vindaesk.building.library [FOLDER]
 
@@ -6,10 +6,11 @@
     FOLDER/lib/libvindaesk.a, libvindaesk.so, libvindaesk.so.0
     FOLDER/lib/pkgconfig/vindaesk.pc
 
-Both libraries have the one object of the crate and the one of the kit that asks the C library for memory, and show no
-symbol but those of the header. It needs the kit, `cc` and binutils; `rt lib` proves the crate, and each below it that
-`rt` itself has not built before.
+Both libraries have the one object of the crate, the one of the kit that asks the C library for memory and what these need
+of libgcc, and show no symbol but those of the header. The kit's own tools make them, so that they are the same bytes wherever that is done.
+Crates that are not built yet are proved first.
 """
+import functools
 import os
 import re
 import shutil
@@ -21,29 +22,23 @@ from typing import List, Optional, Sequence
 from ..common import ending, files, places
 from ..common.failures import Failure, NOT_BUILT
 from ..common.places import TOP
+from ..provenance.dist import ARCHIVE, LIBRARY
+from . import build, crates
 
-CRATE = os.path.join(TOP, "crates", "vindaesk_c")
+NAME = "vindaesk_c"
 FOLDER = os.path.join(TOP, "out", "native")
 HEADER = os.path.join(TOP, "include", "vindaesk.h")
-# the version of the interface: another one can't take its place
-SONAME = "libvindaesk.so.0"
+DESCRIPTION = os.path.join(TOP, "include", "vindaesk.pc.in")
+# the name by which programs are linked with the shared library
+LINKED = "libvindaesk.so"
 EXPORTED = re.compile(r"^uint8_t (vindaesk_\w+)\(", re.M)
-DESCRIPTION = """prefix=${pcfiledir}/../..
-includedir=${prefix}/include
-libdir=${prefix}/lib
-
-Name: vindaesk
-Description: Android's view tree without the device, proved
-Version: %s
-Cflags: -I${includedir}
-Libs: -L${libdir} -lvindaesk
-"""
+HARDENED = ("-z", "relro", "-z", "now", "-z", "noexecstack", "-z", "defs")
 
 
-def called(words: List[str], folder: str) -> bytes:
+def called(words: List[str], folder: str, executable: Optional[str] = None) -> bytes:
     """What a command writes in a folder; where it fails, the failure has its last lines."""
     try:
-        ended = subprocess.run(words, cwd=folder, stdout=subprocess.PIPE, stderr=subprocess.STDOUT)
+        ended = subprocess.run(words, executable=executable, cwd=folder, stdout=subprocess.PIPE, stderr=subprocess.STDOUT)
     except FileNotFoundError:
         raise Failure("there is no %s on PATH" % words[0], NOT_BUILT)
     if ended.returncode:
@@ -52,58 +47,93 @@ def called(words: List[str], folder: str) -> bytes:
     return ended.stdout
 
 
+@functools.lru_cache(maxsize=None)
+def kit() -> str:
+    """The folder of the Rattle kit."""
+    if not shutil.which("rt"):
+        raise Failure("there is no rt on PATH", NOT_BUILT)
+    return os.path.dirname(called(["rt", "doc"], TOP).decode().strip())
+
+
+def tool(words: List[str], folder: str) -> None:
+    """Calls a tool of LLVM, all of which are in one file of the kit."""
+    called(words, folder, os.path.join(kit(), "toolchain", "bin", "clang"))
+
+
 def exported() -> List[str]:
     """The functions that the header declares."""
     return EXPORTED.findall(files.read(HEADER).decode())
 
 
-def requests() -> str:
-    """The kit's archive of the functions that ask for memory."""
-    found = shutil.which("rt")
-    if found is None:
-        raise Failure("there is no rt on PATH", NOT_BUILT)
-    kit = os.path.dirname(called(["rt", "doc"], TOP).decode().strip())
-    return os.path.join(kit, "c", "liblibc_c.a")
+def words_of(top: str, to: str) -> List[str]:
+    """How the kit's compiler proves and compiles the crate over the libraries of a checkout, as `rt` calls it."""
+    known, at = crates.read(top), kit()
+    uses = {it: os.path.join(top, "crates", it, "out", "rlib") for it in crates.below(known, NAME)}
+    words = [os.path.join(at, "bin", "rattle"), "build", "--crate-name", NAME, os.path.join("src", "lib.rt")]
+    words += ["--crate-type", "staticlib", "--extern", "std=" + os.path.join(at, "rlibs", "std.rlib")]
+    words += [it for name in known[NAME].uses for it in ("--extern", "%s=%s" % (name, os.path.join(uses[name], name + ".rlib")))]
+    words += [it for folder in (os.path.join(at, "rlibs"), *uses.values()) for it in ("-L", "dependency=" + folder)]
+    words += ["--antt-project", os.path.join(at, "rattle", "logic", "antt-project.json")]
+    words += ["--logic-built", os.path.join(at, "logic_built"), "--links", NAME + "="]
+    return [*words, "--backend", "llvm", "--toolchain", os.path.join(at, "toolchain"), "-o", to]
 
 
-def joined(folder: str) -> str:
-    """One object of the crate and of the kit's requests for memory; other symbols than the header's are local."""
-    archive = os.path.join(CRATE, "out", "libvindaesk_c.a")
-    called(["ar", "x", archive, "vindaesk_c.o"], folder)
-    called(["ar", "x", requests(), "heap.pic.o"], folder)
-    called(["ld", "-r", "-o", "vindaesk.o", "vindaesk_c.o", "heap.pic.o"], folder)
-    kept = ["--keep-global-symbol=" + name for name in exported()]
-    called(["objcopy", *kept, "vindaesk.o"], folder)
-    return os.path.join(folder, "vindaesk.o")
+def compiled(top: str, to: str) -> None:
+    """Proves the crate again and compiles it, over the libraries that `rt ci` has left in a checkout: `rt ci` itself
+    makes no archive."""
+    called(words_of(top, to), os.path.join(top, "crates", NAME))
 
 
-def make(folder: str) -> None:
-    """Proves the crate where that is not done yet, and makes the library in a folder."""
-    called(["rt", "lib"], CRATE)
-    library, package = os.path.join(folder, "lib"), os.path.join(folder, "lib", "pkgconfig")
-    for it in (package, os.path.join(folder, "include")):
-        os.makedirs(it, exist_ok=True)
+def built() -> str:
+    """The archive of the crate in this checkout, with all that it uses proved and built where that is not done yet."""
+    build.run_for(NAME)
+    return os.path.join(TOP, "crates", NAME, "out", "lib%s.a" % NAME)
+
+
+def link(archive: str, folder: str) -> None:
+    """Makes both libraries in a folder of an archive of the crate."""
+    requests = os.path.join(kit(), "c", "liblibc_c.a")
     with tempfile.TemporaryDirectory(prefix="vindaesk-library-") as work:
-        joined(work)
-        called(["ar", "rcsD", "libvindaesk.a", "vindaesk.o"], work)
-        flags = ["-nostartfiles", "-Wl,-soname," + SONAME, "-Wl,-z,relro,-z,now,-z,noexecstack", "-Wl,--build-id=sha1"]
-        called(["cc", "-shared", *flags, "-o", SONAME, "vindaesk.o"], work)
-        for name in ("libvindaesk.a", SONAME):
-            files.replace(os.path.join(library, name), files.read(os.path.join(work, name)))
-    link = os.path.join(library, "libvindaesk.so")
-    if os.path.lexists(link):
-        os.unlink(link)
-    os.symlink(SONAME, link)
-    files.replace(os.path.join(folder, "include", "vindaesk.h"), files.read(HEADER))
-    version = places.version().split(" ")[1]
-    files.replace(os.path.join(package, "vindaesk.pc"), (DESCRIPTION % version).encode())
+        tool(["llvm-ar", "x", os.path.abspath(archive), NAME + ".o"], work)
+        tool(["llvm-ar", "x", requests, "heap.pic.o"], work)
+        # libgcc has what no instruction does, as a division of 128 bits
+        libgcc = os.path.join(kit(), "toolchain", "lib", "libgcc.a")
+        tool(["ld.lld", "-r", "-o", "vindaesk.o", NAME + ".o", "heap.pic.o", libgcc], work)
+        tool(["llvm-objcopy", *("--keep-global-symbol=" + it for it in exported()), "vindaesk.o"], work)
+        tool(["llvm-ar", "rcsD", ARCHIVE, "vindaesk.o"], work)
+        libc = os.path.join(kit(), "toolchain", "lib", "libc.so.6")
+        words = ["ld.lld", "-shared", "-soname", LIBRARY, *HARDENED, "--build-id=sha1", "--hash-style=gnu"]
+        tool([*words, "-o", LIBRARY, "vindaesk.o", libc], work)
+        for name in (ARCHIVE, LIBRARY):
+            files.replace(os.path.join(folder, name), files.read(os.path.join(work, name)))
+
+
+def description() -> bytes:
+    """What `pkg-config` reads."""
+    return files.read(DESCRIPTION).replace(b"@VERSION@", places.version().split(" ")[1].encode())
+
+
+def make(folder: str, archive: str) -> None:
+    """Makes all that is below a folder."""
+    library, package, include = (os.path.join(folder, *it) for it in (["lib"], ["lib", "pkgconfig"], ["include"]))
+    for it in (package, include):
+        os.makedirs(it, exist_ok=True)
+    link(archive, library)
+    linked = os.path.join(library, LINKED)
+    files.remove(linked)
+    os.symlink(LIBRARY, linked)
+    files.replace(os.path.join(include, "vindaesk.h"), files.read(HEADER))
+    files.replace(os.path.join(package, "vindaesk.pc"), description())
 
 
 def main(words: Optional[Sequence[str]] = None) -> int:
     given = sys.argv[1:] if words is None else words
+    if len(given) > 1 or list(given) in (["-h"], ["--help"]):
+        print(__doc__.rstrip(), file=sys.stderr if len(given) > 1 else sys.stdout)
+        return 2 if len(given) > 1 else 0
     folder = os.path.abspath(given[0]) if given else FOLDER
-    make(folder)
-    print("%s: include/vindaesk.h, lib/libvindaesk.a, lib/libvindaesk.so and lib/pkgconfig/vindaesk.pc" % folder)
+    make(folder, built())
+    print("%s: include/vindaesk.h, lib/%s, lib/%s and lib/pkgconfig/vindaesk.pc" % (folder, ARCHIVE, LINKED))
     return 0
 
 

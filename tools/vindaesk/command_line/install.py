@@ -37,7 +37,8 @@ def main(words: Optional[Sequence[str]] = None) -> int:
         prefix.remove(folder)
         print("removed from %s" % folder)
         return 0
-    package = contents.package(process.path(), version.commit())
-    prefix.install(folder, package, prefix.rest(catalogue.every()))
+    program = process.path()
+    package = contents.package(program, version.commit())
+    prefix.install(folder, package, prefix.rest(catalogue.every(), program))
     print("%s is installed; call %s" % (places.version(), os.path.join(folder, "bin", "vindaesk")))
     return 0

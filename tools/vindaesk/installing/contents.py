@@ -4,7 +4,9 @@ program and what the tools read in its folder `share`:
     bin/vindaesk, bin/vindaesk-TOOL       commands, in what is no wheel
     lib/vindaesk/entry.py                 how `vindaesk` begins
     lib/vindaesk/vindaesk/                the package of tools
-    lib/vindaesk/vindaesk/share/          the program, VERSION, COMMIT, PROVENANCE, and the pages that `explain` reads
+    lib/vindaesk/vindaesk/share/          the program, the shared library of C, VERSION, COMMIT, PROVENANCE, and the
+                                          pages that `explain` reads
+    include/, lib/, lib/pkgconfig/        what programs in C are compiled with, in what is no wheel
     share/man/man1/, share/bash-completion/, share/zsh/, share/fish/
 """
 import gzip
@@ -13,9 +15,10 @@ import os
 from dataclasses import dataclass
 from typing import Dict, Iterable, List
 
-from ..common import files
+from ..common import files, places
 from ..common.failures import Failure, NOT_RUN
 from ..common.places import PACKAGE, TOP
+from ..provenance.dist import ARCHIVE, LIBRARY as LIBRARY_OF_C
 from . import completions, manual
 from .commands import Command
 
@@ -24,8 +27,10 @@ PROGRAM = "view_tool"
 # what the tools read beside their modules
 READ = ("VERSION", "docs/SCRIPT.md", "docs/FORMATS.md", "docs/COMING-FROM-ANDROID.md")
 PROVENANCE = "dist/PROVENANCE"
+# what programs in C are compiled with
+HEADER, DESCRIPTION = "include/vindaesk.h", "include/vindaesk.pc.in"
 # what users read
-PAGES = ("README.md", "LICENSE", "CHANGELOG.md", "docs", "examples")
+PAGES = ("README.md", "LICENSE", "CHANGELOG.md", "docs", "examples", "bindings")
 # what is no source, and of the sources what is for a checkout alone
 MADE = ("__pycache__", "share", "vindaesk.egg-info")
 SKIPPED = (*MADE, "installing", "install.py", "release.py", "catalogue.py")
@@ -49,10 +54,11 @@ PYTHON, ANY_PYTHON = "exec python3 ", "/usr/bin/env python3"
 
 @dataclass(frozen=True)
 class File:
-    """A file of a package, and whether it can be called."""
+    """A file of a package, and whether it can be called; or a symbolic link, which has no bytes, and where it leads."""
 
     body: bytes
     is_command: bool = False
+    leads_to: str = ""
 
 
 Contents = Dict[str, File]
@@ -87,12 +93,34 @@ def moved(contents: Contents, folder: str) -> Contents:
 def shared(program: str, commit: str) -> Contents:
     """What the package's folder `share` has."""
     found: Contents = {PROGRAM: File(files.read(program), is_command=True)}
+    if os.path.exists(beside(program, LIBRARY_OF_C)):
+        found[LIBRARY_OF_C] = File(files.read(beside(program, LIBRARY_OF_C)))
     for path in READ:
         found.update(below(TOP, path))
     if os.path.exists(os.path.join(TOP, PROVENANCE)):
         found["PROVENANCE"] = File(files.read(os.path.join(TOP, PROVENANCE)))
     found["COMMIT"] = File(commit.encode() + b"\n")
     return found
+
+
+def beside(program: str, name: str) -> str:
+    """The path of a file beside the program."""
+    return os.path.join(os.path.dirname(program), name)
+
+
+def for_c(program: str) -> Contents:
+    """What programs in C are compiled with, below a prefix that has lib/vindaesk too, where the libraries are beside the
+    program."""
+    if not all(os.path.exists(beside(program, it)) for it in (ARCHIVE, LIBRARY_OF_C)):
+        return {}
+    description = files.read(os.path.join(TOP, DESCRIPTION))
+    return {
+        HEADER: File(files.read(os.path.join(TOP, HEADER))),
+        "lib/" + ARCHIVE: File(files.read(beside(program, ARCHIVE))),
+        "lib/" + LIBRARY_OF_C: File(b"", leads_to=os.path.join("vindaesk", "vindaesk", "share", LIBRARY_OF_C)),
+        "lib/libvindaesk.so": File(b"", leads_to=LIBRARY_OF_C),
+        "lib/pkgconfig/vindaesk.pc": File(description.replace(b"@VERSION@", places.version().split(" ")[1].encode())),
+    }
 
 
 def package(program: str, commit: str) -> Contents:
@@ -159,7 +187,10 @@ def write(contents: Contents, folder: str) -> None:
     for path, it in contents.items():
         whole = os.path.abspath(os.path.join(folder, path))
         make_folder(os.path.dirname(whole))
-        with open(whole + NEW, "wb") as file:
-            file.write(it.body)
-        os.chmod(whole + NEW, 0o755 if it.is_command else 0o644)
+        if it.leads_to:
+            os.symlink(it.leads_to, whole + NEW)
+        else:
+            with open(whole + NEW, "wb") as file:
+                file.write(it.body)
+            os.chmod(whole + NEW, 0o755 if it.is_command else 0o644)
         os.replace(whole + NEW, whole)

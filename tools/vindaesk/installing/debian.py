@@ -54,7 +54,7 @@ CHANGELOG = """vindaesk (%(version)s) unstable; urgency=medium
  -- %(maintainer)s  %(date)s
 """
 # a program that was stripped would be another one than that of dist/, which the proof built
-OVERRIDES = """# byte for byte the program that its proof built, as PROVENANCE beside it says
+OVERRIDES = """# byte for byte what its proof built, as PROVENANCE beside it says
 vindaesk: unstripped-binary-or-object *
 """
 # what dh_python3 would write for private modules: they are compiled when the package is set up, or when Python is newer
@@ -98,10 +98,10 @@ def documents(date: int) -> Contents:
     return contents.moved({**pages, **{path: File(body) for path, body in made.items()}}, DOC)
 
 
-def all_files(package: Contents, commands: List[Command], date: int) -> Contents:
-    """All files of the package, by their paths below the root."""
+def all_files(package: Contents, for_c: Contents, commands: List[Command], date: int) -> Contents:
+    """All files of the package, by their paths below the root, with those for programs in C."""
     found = contents.moved(contents.library(package), "usr/lib/vindaesk")
-    found.update(contents.moved(contents.scripts(commands, PYTHON), "usr"))
+    found.update(contents.moved({**contents.scripts(commands, PYTHON), **for_c}, "usr"))
     for path, it in contents.help_files(commands, date).items():
         if path.startswith("share/man/"):
             path, it = path + ".gz", File(packed(it.body))
@@ -119,12 +119,15 @@ def control(found: Contents, needs: Needs) -> Contents:
     size = sum(len(it.body) + 1023 >> 10 for it in found.values())
     words = {"version": version(), "architecture": ARCHITECTURE, "maintainer": MAINTAINER, "size": size,
              "depends": depends}
-    sums = ["%s  %s\n" % (hashlib.md5(it.body).hexdigest(), path) for path, it in sorted(found.items())]
+    own = [(path, it) for path, it in sorted(found.items()) if not it.leads_to]
+    sums = ["%s  %s\n" % (hashlib.md5(it.body).hexdigest(), path) for path, it in own]
     return contents.moved({
         "control": File((CONTROL % words).encode()),
         "md5sums": File("".join(sums).encode()),
         "postinst": File(AFTER_UNPACKING.encode(), is_command=True),
         "prerm": File(BEFORE_REMOVAL.encode(), is_command=True),
+        # the loader has a list of the libraries that there are
+        "triggers": File(b"activate-noawait ldconfig\n"),
     }, "DEBIAN")
 
 

@@ -73,11 +73,12 @@ def put_library(prefix: str, library: Contents) -> None:
         os.rename(os.path.join(made, "new"), place)
 
 
-def rest(commands: List[Command]) -> Contents:
-    """What is below a prefix besides the library, by its paths there."""
+def rest(commands: List[Command], program: str) -> Contents:
+    """What is below a prefix besides the library, by its paths there, with what programs in C are compiled with."""
     date = sources.date(os.path.join(TOP, "VERSION"))
     pages = contents.moved(contents.pages(), PAGES)
-    return {**contents.scripts(commands, contents.ANY_PYTHON), **contents.help_files(commands, date), **pages}
+    scripts, help_files = contents.scripts(commands, contents.ANY_PYTHON), contents.help_files(commands, date)
+    return {**scripts, **help_files, **pages, **contents.for_c(program)}
 
 
 def install(prefix: str, package: Contents, other: Contents) -> None:

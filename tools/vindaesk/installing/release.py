@@ -13,10 +13,10 @@ SYSTEM = "x86_64-linux"
 SUMS = "SHA256SUMS"
 
 
-def write_tarball(out: str, package: contents.Contents, commands: List[Command], date: int) -> str:
-    """Writes the tarball into a folder; its path."""
+def write_tarball(out: str, found: contents.Contents, date: int) -> str:
+    """Writes the tarball of files into a folder; its path."""
     stem = "%s-%s" % (places.version().replace(" ", "-"), SYSTEM)
-    found = contents.moved({**contents.prefixed(package, commands, date), **contents.pages()}, stem)
+    found = contents.moved({**found, **contents.pages()}, stem)
     path = os.path.join(out, stem + ".tar.gz")
     files.replace(path, tarball.written(found, date))
     return path
@@ -37,10 +37,10 @@ def write(folder: str, program: str, commit: str, commands: List[Command]) -> Li
     with tempfile.TemporaryDirectory(prefix="." + name + ".", dir=above) as place:
         made, before = os.path.join(place, "new"), os.path.join(place, "old")
         os.mkdir(made)
-        package = contents.package(program, commit)
+        package, for_c = contents.package(program, commit), contents.for_c(program)
         paths = [
-            write_tarball(made, package, commands, date),
-            debian.write(made, debian.all_files(package, commands, date), asked, date),
+            write_tarball(made, {**contents.prefixed(package, commands, date), **for_c}, date),
+            debian.write(made, debian.all_files(package, for_c, commands, date), asked, date),
             wheel.write(made, program, commit, date),
         ]
         files.replace(os.path.join(made, SUMS), sums(paths))

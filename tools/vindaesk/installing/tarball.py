@@ -14,6 +14,8 @@ def written(contents: Contents, date: int) -> bytes:
             entry = tarfile.TarInfo(path)
             entry.size = len(file.body)
             entry.mode = 0o755 if file.is_command else 0o644
+            if file.leads_to:
+                entry.type, entry.linkname, entry.mode = tarfile.SYMTYPE, file.leads_to, 0o777
             entry.mtime = date
             entry.uname = entry.gname = "root"
             tar.addfile(entry, io.BytesIO(file.body))

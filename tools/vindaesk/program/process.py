@@ -3,11 +3,12 @@ import functools
 import os
 import signal
 import subprocess
-from typing import IO, Iterator, List, Tuple
+from typing import IO, Iterator, List, Optional, Tuple
 
 from ..common.failures import Failure
 from ..provenance import choice
 from . import statuses
+
 
 def path() -> str:
     """The program: the one that the variable VINDAESK_PROGRAM names, or the one of this place (choice.py)."""
@@ -29,7 +30,21 @@ def failed(status: int) -> Failure:
 
 
 def ran(words: List[str], given: bytes, folder: str) -> Tuple[bytes, int]:
-    """What the program writes over a script, and its status: below 0 for a signal, as `subprocess` has it."""
+    """What the program writes over a script, and its status: below 0 for a signal, as `subprocess` has it. Where the
+    library beside the program can say it, no process is started."""
+    return answered(words, given, folder) or ran_alone(words, given, folder)
+
+
+def answered(words: List[str], given: bytes, folder: str) -> Optional[Tuple[bytes, int]]:
+    """What the library beside the program says in its place, where it can (in_process.py)."""
+    # its import takes longer than many a tool that runs nothing
+    from . import in_process
+
+    return in_process.answered(words, given, folder)
+
+
+def ran_alone(words: List[str], given: bytes, folder: str) -> Tuple[bytes, int]:
+    """What the program writes in a process of its own, and its status."""
     with subprocess.Popen(
         [path(), *words], stdin=subprocess.PIPE, stdout=subprocess.PIPE, stderr=subprocess.DEVNULL, cwd=folder
     ) as started:
@@ -52,6 +67,15 @@ def nameless() -> IO[bytes]:
 def lines_of(script: bytes, folder: str, form: str = "run") -> Iterator[bytes]:
     """Each line that the program writes over a script, as it comes; a run that does not reach its end is a failure. The
     form is `run`, or `stack` for a script of windows."""
+    answer = answered([form], script, folder)
+    if answer is None:
+        yield from lines_alone(script, folder, form)
+    else:
+        yield from answer[0].split(b"\n")[:-1]
+
+
+def lines_alone(script: bytes, folder: str, form: str) -> Iterator[bytes]:
+    """The same from the program in a process of its own."""
     with nameless() as given:
         given.write(script)
         given.seek(0)

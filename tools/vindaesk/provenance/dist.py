@@ -1,5 +1,5 @@
-"""The folder dist/: the program of a release as its proof built it, SHA256SUMS, and PROVENANCE, which says of which
-sources it is.
+"""The folder dist/: the program and the libraries of C of a release as their proof built them, SHA256SUMS, and
+PROVENANCE, which says of which sources they are.
 
 PROVENANCE has lines of a word and a value:
 
@@ -24,10 +24,11 @@ from .sources import FILES, FOLDER as FOLDER_OF_SOURCES, Listing
 
 FOLDER = os.path.join(TOP, "dist")
 PROGRAM = os.path.join(FOLDER, "view_tool")
+# the shared library of C, whose name has the version of its interface, and the static one
+LIBRARY, ARCHIVE = "libvindaesk.so.0", "libvindaesk.a"
 SUMS = os.path.join(FOLDER, "SHA256SUMS")
 PROVENANCE = os.path.join(FOLDER, "PROVENANCE")
-# what SHA256SUMS lists
-SUMMED = ("PROVENANCE", "view_tool")
+NEEDED = ("PROVENANCE", "view_tool")
 MACHINE = "x86_64"
 KEPT = "dist"
 
@@ -70,12 +71,17 @@ def is_of_commit(wanted: dict[str, list[str]]) -> bool:
     return ids == noted and git.lines("status", "--porcelain", "--untracked-files=all", "--", *where) == []
 
 
+def summed() -> list[str]:
+    """The files that SHA256SUMS lists."""
+    return sorted([*NEEDED, *(it for it in (ARCHIVE, LIBRARY) if os.path.exists(os.path.join(FOLDER, it)))])
+
+
 def sums() -> str:
     """What SHA256SUMS has to be, in the form of `sha256sum`."""
     import hashlib
 
     lines = []
-    for name in SUMMED:
+    for name in summed():
         with open(os.path.join(FOLDER, name), "rb") as file:
             lines.append("%s  %s\n" % (hashlib.sha256(file.read()).hexdigest(), name))
     return "".join(lines)
@@ -92,12 +98,12 @@ def fault() -> str:
     for line in found:
         if line not in wanted:
             return "dist/%s has not the checksum that dist/SHA256SUMS has for it" % line.split("  ")[1]
-    return "" if len(wanted) == len(found) else "dist/SHA256SUMS lists other files than %s" % " and ".join(SUMMED)
+    return "" if len(wanted) == len(found) else "dist/SHA256SUMS lists other files than %s" % " and ".join(summed())
 
 
 def check() -> None:
     """Sees to it that the files of dist/ are those that were released; that they are is kept until one changes."""
-    state, latest = memory.state_of([SUMS, *(os.path.join(FOLDER, it) for it in SUMMED)])
+    state, latest = memory.state_of([SUMS, *(os.path.join(FOLDER, it) for it in summed())])
     if memory.recalled(KEPT, state) is not None:
         return
     wrong = fault()

@@ -4,6 +4,7 @@ import java.nio.ByteBuffer;
 import java.nio.ByteOrder;
 import java.nio.charset.StandardCharsets;
 import java.util.Collections;
+import java.util.Locale;
 import java.util.Map;
 
 /**
@@ -47,10 +48,26 @@ public final class Vindaesk {
     private static final int USAGE = 2;
     private static final int NO_MEMORY = 5;
     private static final int LONG = 7;
-    private static final int RUN = 0;
-    private static final int STACK = 1;
-    private static final int DUMP = 2;
     private static final int LENGTHS = 16;
+    private static final byte[] NOTHING = {};
+    private static final int[] NO_IDS = {};
+
+    /** A function of the library, by its place; the shim has them in the same order. */
+    private enum Function {
+        RUN,
+        STACK,
+        FOCUS,
+        DUMP,
+        LOOKUP
+    }
+
+    /** A side of a view. */
+    public enum Side {
+        LEFT,
+        RIGHT,
+        UP,
+        DOWN
+    }
 
     static {
         System.loadLibrary("vindaesk_jni");
@@ -65,28 +82,51 @@ public final class Vindaesk {
 
     /** Carries out a script; its lines {@code inflate} read these files, by their names. */
     public static Answer run(String script, Map<String, byte[]> files) {
-        return answer(RUN, script.getBytes(StandardCharsets.UTF_8), files);
+        return answer(Function.RUN, bytes(script), NOTHING, NOTHING, files);
     }
 
     /** Carries out a script for a stack of windows. */
     public static Answer stack(String script, Map<String, byte[]> files) {
-        return answer(STACK, script.getBytes(StandardCharsets.UTF_8), files);
+        return answer(Function.STACK, bytes(script), NOTHING, NOTHING, files);
+    }
+
+    /**
+     * Carries out a script, and then says which view gets the focus next, from a view to a side of it. The view is named
+     * as in a line of a script: {@code v2}, or {@code @7f010001}.
+     */
+    public static Answer focus(String script, Side side, String view, Map<String, byte[]> files) {
+        byte[] word = bytes(side.name().toLowerCase(Locale.ROOT));
+        return answer(Function.FOCUS, bytes(script), word, bytes(view), files);
     }
 
     /** Prints a compiled layout file. */
     public static Answer dump(String name, byte[] file) {
-        return answer(DUMP, name.getBytes(StandardCharsets.UTF_8), Collections.singletonMap(name, file));
+        return answer(Function.DUMP, bytes(name), NOTHING, NOTHING, Collections.singletonMap(name, file));
     }
 
-    private static Answer answer(int call, byte[] given, Map<String, byte[]> files) {
+    /** Prints what 1 to 64 resources hold in a compiled table of resources, one line each. */
+    public static Answer lookup(String name, byte[] table, int... ids) {
+        byte[][] given = {bytes(name), NOTHING, NOTHING, packed(Collections.singletonMap(name, table))};
+        return answer(Function.LOOKUP, given, ids);
+    }
+
+    private static byte[] bytes(String text) {
+        return text.getBytes(StandardCharsets.UTF_8);
+    }
+
+    private static Answer answer(Function function, byte[] first, byte[] side, byte[] view, Map<String, byte[]> files) {
+        return answer(function, new byte[][] {first, side, view, packed(files)}, NO_IDS);
+    }
+
+    private static Answer answer(Function function, byte[][] given, int[] ids) {
         int[] status = new int[1];
-        byte[] page = call(call, given, packed(files), status);
+        byte[] page = call(function.ordinal(), given, ids, status);
         switch (status[0]) {
             case ACCEPTED:
             case REFUSED:
                 return new Answer(status[0], page);
             case USAGE:
-                throw new IllegalArgumentException("no layout file can have this name");
+                throw new IllegalArgumentException("no file or view can have this name, or there are no ids or too many");
             case LONG:
                 throw new IllegalArgumentException("the script has more than 16777216 bytes");
             case NO_MEMORY:
@@ -100,17 +140,19 @@ public final class Vindaesk {
     private static byte[] packed(Map<String, byte[]> files) {
         int size = 0;
         for (Map.Entry<String, byte[]> file : files.entrySet()) {
-            int name = file.getKey().getBytes(StandardCharsets.UTF_8).length;
-            size = Math.addExact(size, Math.addExact(LENGTHS + name, file.getValue().length));
+            size = Math.addExact(size, Math.addExact(LENGTHS + bytes(file.getKey()).length, file.getValue().length));
         }
         ByteBuffer buffer = ByteBuffer.allocate(size).order(ByteOrder.LITTLE_ENDIAN);
         for (Map.Entry<String, byte[]> file : files.entrySet()) {
-            byte[] name = file.getKey().getBytes(StandardCharsets.UTF_8);
+            byte[] name = bytes(file.getKey());
             buffer.putLong(name.length).putLong(file.getValue().length).put(name).put(file.getValue());
         }
         return buffer.array();
     }
 
-    /** The page of a call, and its status in {@code status[0]}; null where there is no page. */
-    private static native byte[] call(int call, byte[] given, byte[] files, int[] status);
+    /**
+     * The page of a call, and its status in {@code status[0]}; null where there is no page. What is given: the script or
+     * the name, the side, the view, and the buffer of files.
+     */
+    private static native byte[] call(int function, byte[][] given, int[] ids, int[] status);
 }
