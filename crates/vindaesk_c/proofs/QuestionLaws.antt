@@ -1,12 +1,10 @@
 -- The words of a question.
 use Rattle.std.proofs.Common.{◌≡◌, ℕ, Bool, true, false, refl, ap, sym, ◌∙◌, inl, inr, List, [], ◌∷◌, length, arith}
-use Rattle.std.specs.Prelude.{◌==◌, ◌&&◌, nat_lt, nat_le, Option, Some, None, is_some, if◌then◌else◌, Err, ◌⊎◌, ◌≢◌, codes, string_bytes}
+use Rattle.std.specs.Prelude.{◌==◌, ◌&&◌, nat_lt, nat_le, Option, Some, None, is_some, if◌then◌else◌, Err, ◌⊎◌, ◌≢◌}
 use Rattle.std.specs.Char.{is_ascii_digit, is_ascii_graphic, is_ascii_hexdigit}
 use Rattle.std.specs.List.{list_all}
 use Rattle.std.specs.Result.{result_ok}
 use Rattle.std.specs.Str.{IsUtf8}
-use Rattle.std.specs.declared.alloc.Global.{Global}
-use Rattle.std.specs.declared.string.String.{String}
 use Rattle.std.proofs.lemmas.Bool.{cases_Bool}
 use Rattle.std.proofs.lemmas.Bool.Decides.{nat_tests}
 use Rattle.std.proofs.lemmas.Str.{IsUtf8-from_ascii}
@@ -21,7 +19,7 @@ use Rattle.script_lines.proofs.readings.CommandLaws.{and-left, and-right}
 use Rattle.script_lines.proofs.spelled.SpelledNames.{all_graphic}
 use Rattle.script_lines.proofs.spelled.SpelledWords.{ascii}
 use Rattle.vindaesk_c.specs.Questions.{asked, can_ask}
-use Rattle.whole_tool.specs.Usage.{Unknown, name_from, question_usage, side_of, usage}
+use Rattle.whole_tool.specs.Usage.{Unknown, name_from, question_usage, side_of}
 
 digit_graphic : (b : ℕ) → is_ascii_digit b ≡ true → is_ascii_graphic b ≡ true
 digit_graphic b h = grind (arith, nat_tests)
@@ -96,7 +94,3 @@ some_question (Some side) (Some view) h k = λ e. cc (e)
 pub asks : (side view : List ℕ) → can_ask side view ≡ true → asked side view ≢ Unknown
 unfolding can_ask
 asks side view h = some_question (side_of side) (name_from view) (and-left (is_some (side_of side)) (is_some (name_from view)) h) (and-right (is_some (side_of side)) (is_some (name_from view)) h)
-
-pub focus_form : (word side view : String Global) → string_bytes word ≡ codes "focus"
-    → usage (word ∷ side ∷ view ∷ []) ≡ question_usage (side_of (string_bytes side)) (name_from (string_bytes view))
-focus_form word side view called = rw called refl
