@@ -9,13 +9,13 @@ from running import TOP, Check, Checks
 # each has a function `checks`
 MODULES = (
     "examples", "pictures", "pages", "names", "promises", "layers", "broken", "limits", "tables", "launcher", "commands", "gate", "itself",
-    "tools", "starts", "many", "golden", "hostile", "plugin", "grammar", "apps", "apps_report", "app_goldens", "fuzz_apps",
-    "resources", "fuzz_resources", "driving", "facts", "serving", "lints", "lint_rules", "lint_formats", "browser",
-    "previews", "languages",
-    "farms", "installed", "packages", "shells", "release_checks", "package", "house", "words", "spelling", "stored",
+    "tools", "starts", "many", "golden", "hostile", "plugin", "grammar", "apps", "apps_report", "app_goldens",
+    "fuzz_apps", "resources", "fuzz_resources", "driving", "facts", "serving", "lints", "lint_rules", "lint_formats",
+    "browser", "previews", "languages", "farms", "installed", "packages", "shells", "release_checks", "package",
+    "house", "words", "spelling", "stored", "native",
 )
 # those that are run only where they are asked for
-ON_REQUEST = ("memory", "out_of_memory", "native", "engines")
+ON_REQUEST = ("memory", "out_of_memory", "engines")
 # what takes longest, by its name: ci/checks --slowest 40 | sed -n 's/^[0-9.]* seconds: //p' > ci/slow.txt
 SLOW = os.path.join(TOP, "ci", "slow.txt")
 

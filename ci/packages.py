@@ -494,6 +494,6 @@ def finds_what_a_program_needs() -> str:
 def checks() -> Checks:
     yield from named("packages", (
         names_each_tool, knows_each_value, has_no_import_of_what_is_left_out, shows_each_argument,
-        has_clean_manual_pages, finds_what_a_program_needs, runs_from_a_tarball, installs_a_wheel, unpacks_for_debian, installs_for_debian,
-        passes_lintian, refuses_other_sources, has_their_sums, has_the_same_bytes_elsewhere
+        has_clean_manual_pages, finds_what_a_program_needs, runs_from_a_tarball, builds_with_a_tarball,
+        installs_a_wheel, unpacks_for_debian, installs_for_debian, passes_lintian, refuses_other_sources, has_their_sums, has_the_same_bytes_elsewhere
     ))
