@@ -216,7 +216,7 @@ def statuses() -> str:
 
 
 def tools_call_it() -> str:
-    """A tool has the library beside the program in place of the program, and the program where it is told so."""
+    """A tool has the library beside the program in place of the program, and the program where the variable says so."""
     with tempfile.TemporaryDirectory() as place:
         program = os.path.join(place, "view_tool")
         files.replace(program, b"#!/bin/sh\nexit 5\n")
