@@ -216,19 +216,20 @@ def statuses() -> str:
 
 
 def tools_call_it() -> str:
-    """A tool has the library beside the program in place of the program, and the program where the variable says so."""
-    with tempfile.TemporaryDirectory() as place:
-        program = os.path.join(place, "view_tool")
-        files.replace(program, b"#!/bin/sh\nexit 5\n")
-        os.chmod(program, 0o755)
-        shutil.copy(shared(), os.path.join(place, dist.LIBRARY))
-        words = [sys.executable, os.path.join(TOP, "tools", "tree"), os.path.join(EXAMPLES, "first.script")]
-        kept = {name: value for name, value in os.environ.items() if name != native.VARIABLE}
-        kept["VINDAESK_PROGRAM"] = program
-        for more, ending in (("", (0, b"v1 FrameLayout 0 0 100 50\n  v2 View 0 0 10 20\n")), (native.NONE, (5, b""))):
-            ended = subprocess.run(words, env={**kept, native.VARIABLE: more}, stdout=subprocess.PIPE,
-                                   stderr=subprocess.DEVNULL)
-            if (ended.returncode, ended.stdout) != ending:
+    """A tool has the library beside the program in place of the program from its second run on, and the program alone where
+    the variable says so: the program here takes one run."""
+    words = [sys.executable, os.path.join(TOP, "tools", "tree"), "--jobs", "1",
+             *(os.path.join(EXAMPLES, it) for it in ("first.script", "card.script"))]
+    for more, wanted in (("", 0), (native.NONE, 1)):
+        with tempfile.TemporaryDirectory() as place:
+            program, used = os.path.join(place, "view_tool"), os.path.join(place, "used")
+            text = "#!/bin/sh\n[ -e '%s' ] && exit 5\n: > '%s'\nexec '%s' \"$@\"\n" % (used, used, PROGRAM)
+            files.replace(program, text.encode())
+            os.chmod(program, 0o755)
+            shutil.copy(shared(), os.path.join(place, dist.LIBRARY))
+            ended = subprocess.run(words, env={**os.environ, "VINDAESK_PROGRAM": program, native.VARIABLE: more},
+                                   stdout=subprocess.PIPE, stderr=subprocess.DEVNULL)
+            if ended.returncode != wanted or (b"Meeting" in ended.stdout) != (wanted == 0):
                 return "with %s=%s: status %d, %r" % (native.VARIABLE, more, ended.returncode, ended.stdout)
     return ""
 

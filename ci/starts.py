@@ -11,15 +11,11 @@ OF_PYTHON = frozenset(
     "__future__ _ast _collections _colorize _compat_pickle _functools _locale _opcode _operator _posixsubprocess "
     "_sre _struct _typing _weakrefset annotationlib argparse ast collections contextlib copyreg enum errno fcntl "
     "functools gettext heapq io itertools keyword locale math msvcrt operator os re reprlib select selectors signal "
-    "sre_compile sre_constants sre_parse subprocess sys threading time types typing warnings "
-    # of the readers of layouts
-    "_bisect _bz2 _compression _json _lzma _random _sha2 _sha512 bisect bz2 copy dataclasses dis fnmatch importlib inspect json "
-    "linecache lzma opcode org random shutil struct tempfile token tokenize weakref zlib".split(" "))
+    "sre_compile sre_constants sre_parse subprocess sys threading time types typing warnings".split(" "))
 # modules of the package, beside the packages that they are in
 OWN = frozenset(
     "command_line.arguments command_line.many command_line.tree command_line.uses common.ending common.failures "
-    "common.files common.messages common.places common.progress layouts.app_elements layouts.attributes "
-    "layouts.dimensions layouts.documents layouts.elements program.process program.statuses provenance.built "
+    "common.files common.messages common.places common.progress program.process program.statuses provenance.built "
     "provenance.choice provenance.dist provenance.memory provenance.sources scripts.names scripts.replies "
     "scripts.resource_names scripts.script views.facts views.placement views.view_tree".split(" "))
 

@@ -33,6 +33,16 @@ class AppElement:
         return tuple(dict.fromkeys(found))
 
     @property
+    def has_exact_bounds(self) -> bool:
+        """Whether its bounds are those that Android gives."""
+        return not self.reasons(BOUNDS)
+
+    @property
+    def has_exact_picture(self) -> bool:
+        """Whether what is shown of it is what Android shows."""
+        return not self.reasons(PICTURE)
+
+    @property
     def place(self) -> str:
         """File, line and column, as compilers write them."""
         return ":".join([self.file, *(str(it) for it in (self.line, self.column) if it)])

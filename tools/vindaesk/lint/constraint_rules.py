@@ -1,7 +1,7 @@
 """Rules on what places views. What has no effect is tried: the program lays the tree out without it."""
 from typing import Iterator, Optional, Tuple
 
-from ..views.facts import RULES
+from ..views.element_facts import RULES
 from ..views.view_tree import View
 from .page import Page
 from .registry import Severity, rule

@@ -1,5 +1,6 @@
 """Finds the program and runs it for a tool."""
 import functools
+import itertools
 import os
 import signal
 import subprocess
@@ -8,6 +9,9 @@ from typing import IO, Iterator, List, Optional, Tuple
 from ..common.failures import Failure
 from ..provenance import choice
 from . import statuses
+
+# how many runs there were in this process
+RUNS = itertools.count()
 
 
 def path() -> str:
@@ -36,8 +40,10 @@ def ran(words: List[str], given: bytes, folder: str) -> Tuple[bytes, int]:
 
 
 def answered(words: List[str], given: bytes, folder: str) -> Optional[Tuple[bytes, int]]:
-    """What the library beside the program says in its place, where it can (in_process.py)."""
-    # its import takes longer than many a tool that runs nothing
+    """What the library beside the program says in its place, where it can (in_process.py). The first run is the program's,
+    since the library takes longer to be loaded."""
+    if next(RUNS) == 0:
+        return None
     from . import in_process
 
     return in_process.answered(words, given, folder)

@@ -2,7 +2,6 @@
 from typing import Dict, List, NamedTuple, Optional, Tuple
 
 from ..common.failures import Failure, WRONG
-from ..layouts.app_elements import BOUNDS
 from ..scripts import replies
 from ..scripts.replies import REASONS, Part, Refused
 from ..scripts.script import Script, Window
@@ -212,7 +211,7 @@ def text_line(it: Placed) -> str:
 def mark(view: View) -> str:
     """Of a view of an app's layout its element; after `~` where its bounds are not exact, with the reasons."""
     of_app = view.of_app
-    return "" if of_app is None else "  %s%s" % ("~ " if of_app.reasons(BOUNDS) else "", of_app)
+    return "" if of_app is None else "  %s%s" % ("" if of_app.has_exact_bounds else "~ ", of_app)
 
 
 def as_text(views: List[Placed]) -> str:

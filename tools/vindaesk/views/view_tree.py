@@ -1,13 +1,11 @@
 """The views of a script, line by line: what lines make of them that the reply of `bounds` does not say."""
+from __future__ import annotations
+
 import os
 import re
-from typing import Dict, FrozenSet, Iterator, List, Optional, Sequence, Set, Tuple
+from typing import TYPE_CHECKING, Dict, FrozenSet, Iterator, List, Optional, Sequence, Set, Tuple
 
 from ..common.failures import Failure
-from ..layouts import app_elements, documents, elements
-from ..layouts.app_elements import AppElement
-from ..layouts.documents import Value
-from ..layouts.elements import Element
 from ..scripts import names, script
 from ..scripts.names import Ids
 from ..scripts.replies import Answer, Part
@@ -15,8 +13,13 @@ from ..scripts.script import Line
 from . import facts
 from .facts import Origin, Settings, Source
 
-TEXT_LINE = re.compile(rb" *text +[^ ]+ (.*)", re.DOTALL)
-TEXT_RESOURCE = re.compile(rb" *res +[^ ]+ +text (.*)", re.DOTALL)
+if TYPE_CHECKING:
+    from ..layouts.app_elements import AppElement
+    from ..layouts.documents import Value
+    from ..layouts.elements import Element
+
+TEXT_LINE = rb" *text +[^ ]+ (.*)"
+TEXT_RESOURCE = rb" *res +[^ ]+ +text (.*)"
 VISIBILITIES = ["visible", "invisible", "gone"]
 CLEAR = "#00000000"
 # lines whose reply says what they made
@@ -172,6 +175,9 @@ class Tree:
         name = words[1].decode()
         place = self.view(words[3]) if len(words) == 4 else None
         first, last = (int(word[1:]) for word in reply.split(b" ")[1:3])
+        # loaded where a script has a layout file, since that takes a tenth of a start
+        from ..layouts import app_elements, elements
+
         read = elements.read(name, self.folder)
         if len(read) != last - first + 1:
             raise Failure("the layout file %s changed in the meantime" % name)
@@ -188,6 +194,8 @@ class Tree:
 
     def dress(self, view: View, element: Element) -> None:
         """Gives a new view what the attributes of its element say."""
+        from . import element_facts
+
         found = element.attributes
         if "id" in found:
             self.set_id(view, found["id"].word)
@@ -201,12 +209,14 @@ class Tree:
             view.answer = "click"
         if "textColor" in found and view.text is not None:
             view.given["ink"] = "#%08x" % self.colour(found["textColor"])
-        view.given.update(facts.settings_of(found))
-        view.rules.update(facts.rules_of(found))
+        view.given.update(element_facts.settings_of(found))
+        view.rules.update(element_facts.rules_of(found))
 
     def resolved(self, element: Element) -> Dict[int, str]:
         """The values of the resources that an element names, as sources have them, by their ids."""
-        named = {it.word for it in element.attributes.values() if it.kind == documents.REFERENCE and it.word}
+        from ..layouts.documents import REFERENCE
+
+        named = {it.word for it in element.attributes.values() if it.kind == REFERENCE and it.word}
         return {it: text for it in named for text in [self.resource(it)] if text is not None}
 
     def resource(self, number: int) -> Optional[str]:
@@ -217,6 +227,8 @@ class Tree:
 
     def colour(self, value: Value) -> int:
         """The colour that a value is, or names."""
+        from ..layouts import elements
+
         is_reference, number = elements.reference(value)
         if not is_reference:
             return value.word
@@ -224,6 +236,8 @@ class Tree:
 
     def words(self, value: Value) -> str:
         """The text that a value is, or names."""
+        from ..layouts import elements
+
         is_reference, number = elements.reference(value)
         if not is_reference:
             return value.text or ""
@@ -328,9 +342,9 @@ def values_of(words: List[bytes]) -> Dict[str, str]:
     return {name: value for name, value in facts.of_line([it.decode() for it in words]).items() if value is not None}
 
 
-def text_of(form: "re.Pattern[bytes]", line: bytes) -> str:
+def text_of(form: bytes, line: bytes) -> str:
     """The text at the end of a line, without its escapes."""
-    found = form.fullmatch(script.without_return(line))
+    found = re.fullmatch(form, script.without_return(line), re.DOTALL)
     return script.unescaped(found[1].decode()) if found else ""
 
 
