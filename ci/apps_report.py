@@ -136,7 +136,7 @@ def marks_what_is_not_exact() -> str:
         why = unlike(it.call("page", "made/player.script", "a.html"), 0, b"", "")
         why = why or ("" if ('"app":"~ %s"' % said).encode() in it.read("a.html") else "the page has no mark")
         found = it.call("lint", "made/settings.script")
-        why = why or ("" if b"res/layout/settings.xml:34: v13 " in found[1] else "lint says %r" % found[1])
+        why = why or ("" if b"res/layout/settings.xml:34: warning touch-target: v13 " in found[1] else "lint says %r" % found[1])
         return why or wrong_reports(it)
 
 

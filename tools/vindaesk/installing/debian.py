@@ -20,6 +20,8 @@ ARCHITECTURE = "amd64"
 MAINTAINER = "Vindaesk maintainers <maintainers@users.noreply.vindaesk.example>"
 PYTHON = "/usr/bin/python3"
 DOC = "usr/share/doc/vindaesk"
+# what `pkg-config` reads, below a prefix, and below that of Debian
+DESCRIPTION, OF_MACHINE = "lib/pkgconfig/vindaesk.pc", "lib/x86_64-linux-gnu/pkgconfig/vindaesk.pc"
 # pages that are there under Debian's names, or in no package
 RENAMED = ("LICENSE", "CHANGELOG.md")
 CONTROL = """Package: vindaesk
@@ -98,10 +100,19 @@ def documents(date: int) -> Contents:
     return contents.moved({**pages, **{path: File(body) for path, body in made.items()}}, DOC)
 
 
+def of_machine(for_c: Contents) -> Contents:
+    """The files for programs in C, with what `pkg-config` reads in the folder of this kind of machine, as Debian has it."""
+    found = dict(for_c)
+    described = found.pop(DESCRIPTION, None)
+    if described:
+        found[OF_MACHINE] = File(described.body.replace(b"${pcfiledir}/../..", b"${pcfiledir}/../../.."))
+    return found
+
+
 def all_files(package: Contents, for_c: Contents, commands: List[Command], date: int) -> Contents:
     """All files of the package, by their paths below the root, with those for programs in C."""
     found = contents.moved(contents.library(package), "usr/lib/vindaesk")
-    found.update(contents.moved({**contents.scripts(commands, PYTHON), **for_c}, "usr"))
+    found.update(contents.moved({**contents.scripts(commands, PYTHON), **of_machine(for_c)}, "usr"))
     for path, it in contents.help_files(commands, date).items():
         if path.startswith("share/man/"):
             path, it = path + ".gz", File(packed(it.body))

@@ -88,16 +88,18 @@ def source_of(origin: Origin, kind: str) -> Source:
     at = Place(files.named(line.file), line.number, 1 + len(line.text) - len(line.text.lstrip(b" ")))
     if element is None:
         return Source(kind, (at,), ignored=origin.ignored)
+    places = (Place(origin.file, element.line), at)
+    of_app = origin.of_app
+    if of_app:
+        # the attributes of the file are those that `tools/app` gave it, and not those of the app
+        own = Place(of_app.file, of_app.line, of_app.column)
+        return Source(of_app.name, (own, *places), {}, origin.ignored, of_app.is_added, of_app.has_exact_bounds,
+                      of_app.has_exact_picture)
     # loaded for views of layout files alone, since that takes a tenth of a start
     from .element_facts import attributes_of
 
     made = attributes_of(element.attributes, origin.names or Names(), origin.resolved)
-    places = (Place(origin.file, element.line), at)
-    of_app = origin.of_app
-    if of_app is None:
-        return Source(element.whole, places, made, origin.ignored)
-    return Source(of_app.name, (Place(of_app.file, of_app.line, of_app.column), *places), made, origin.ignored, of_app.is_added,
-                  of_app.has_exact_bounds, of_app.has_exact_picture)
+    return Source(element.whole, places, made, origin.ignored)
 
 
 def of_line(words: List[str]) -> Settings:
