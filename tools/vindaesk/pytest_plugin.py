@@ -8,7 +8,7 @@
         assert_bounds("@id/reply", 148, 0, 288, 48)
         assert_picture("card.png")
 
-Selection, processes, repeats and reports are those of pytest: -k, -n of pytest-xdist, --lf, --junitxml. docs/TOOLS.md
+Selection, processes, repeats and reports are those of pytest: -k, -n of pytest-xdist, --lf, --junitxml. docs/TESTING.md
 has more.
 """
 import json
