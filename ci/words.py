@@ -1,5 +1,5 @@
 """Finds the words that docs/STYLE.md replaces, in comments, in pages and in the messages of the launcher and the tools,
-and those that no name of crates/ has.
+and those that no name of crates/ has; and pages with more words than they may have.
 
 What is in backquotes or in a block of a page is a name or an example, and is not looked at there.
 """
@@ -8,7 +8,7 @@ import os
 import re
 import tokenize
 from functools import partial
-from typing import Iterable, Iterator, List, Tuple, Union
+from typing import Dict, Iterable, Iterator, List, Tuple, Union
 
 from running import TOP, Checks
 
@@ -171,8 +171,38 @@ def example() -> str:
     return "".join("; '%s' is taken" % text for text in missed) + "".join("; '%s' is not" % text for text in found)
 
 
+# the most words of a page, and of the references; lines of README
+MOST, MOST_OF_REFERENCES, README_LINES = 3500, 5000, 150
+REFERENCES = ("docs/SCRIPT.md", "docs/LAYOUT.md", "docs/FORMATS.md")
+# the most words of all pages; it may only become lower
+MOST_OF_ALL = 52000
+
+
+def too_long(lengths: Dict[str, int]) -> str:
+    """Which pages have more words than they may, and whether all together have. `lengths` is by path."""
+    found = ["%s has %d words" % (path, count) for path, count in sorted(lengths.items())
+             if count > (MOST_OF_REFERENCES if path in REFERENCES else MOST)]
+    whole = sum(lengths.values())
+    return "; ".join([*found, *(["all pages have %d words, more than %d" % (whole, MOST_OF_ALL)] if whole > MOST_OF_ALL else [])])
+
+
+def pages_are_short() -> str:
+    pages = ["README.md", "CONTRIBUTING.md", *below("docs", ".md")]
+    lengths = {}
+    for path in pages:
+        with open(os.path.join(TOP, path), encoding="utf-8") as file:
+            text = file.read()
+        lengths[path] = len(text.split())
+        if path == "README.md" and text.count("\n") > README_LINES:
+            return "README.md has %d lines, more than %d" % (text.count("\n"), README_LINES)
+    if too_long({"docs/A.md": MOST}) or not too_long({"docs/A.md": MOST + 1}) or not too_long({"docs/A.md": MOST_OF_ALL + 1}):
+        return "too long a page is not found"
+    return too_long(lengths)
+
+
 def checks() -> Checks:
     yield "words: the patterns themselves", example
+    yield "words: no page is too long", pages_are_short
     for name in sorted(os.listdir(os.path.join(TOP, "crates"))):
         yield "words of crates/" + name, partial(problem, list(below("crates/" + name, tuple(MARKS))))
     yield "words of the pages", partial(problem, ["README.md", "CHANGELOG.md", *below("docs", ".md"), *below("ci", ".md")])
