@@ -37,7 +37,7 @@ def is_timed(path: str) -> bool:
 def entry_of(path: str, found: os.stat_result) -> tuple[str, int, int, int, int]:
     """The path of a file or folder below the top, its size, its times in nanoseconds, and its number. The time of a folder
     is the one at which it last got or lost something."""
-    return path, 0 if path.endswith("/") else found.st_size, found.st_mtime_ns, found.st_ctime_ns, found.st_ino
+    return path, found.st_size if path[-1] != "/" else 0, found.st_mtime_ns, found.st_ctime_ns, found.st_ino
 
 
 class Listing:
@@ -78,8 +78,10 @@ class Listing:
         result, kept = memory.read(KEPT)
         try:
             entries, *others = marshal.loads(kept)
+            # some thousand files: a join of paths for each would take as long as the look at it
+            top, stat = self.top + os.sep, os.stat
             for it in entries:
-                if entry_of(it[0], os.stat(os.path.join(self.top, it[0]))) != it:
+                if entry_of(it[0], stat(top + it[0])) != it:
                     return False
             if others != [self.untimed(), self.beside()]:
                 return False
