@@ -352,7 +352,7 @@ def takes_configurations_of_the_call() -> str:
         words = ("--window", "40x20,80x20", "--dpi", "160", "--direction", "rtl", "--values", "x.lines", "--picture")
         names = ["a@40x20-160dpi-rtl-x", "a@80x20-160dpi-rtl-x"]
         accepted = "".join("accepted: ./%s\n" % name for name in names) + "2 passed, 0 failed\n"
-        why = unlike(it.call("runall", ".", *words, "--accept"), 0, accepted.encode(), "")
+        why = unlike(it.call("runall", ".", *words, "--accept", "--jobs", "1"), 0, accepted.encode(), "")
         why = why or ("" if b"v2 70 0 80 10" in it.read(names[1] + ".answer") else "another answer")
         said = {("--window", "9"): "'9' is no size in dp, as 360x640", ("--direction", "up"): "'up' is not ltr or rtl",
                 ("--picture",): "--picture needs one of --window", ("--dpi", "9"): "'9' is no number from 40 to 1000"}

@@ -4,7 +4,7 @@ import threading
 import time
 from typing import Callable, Dict, List, Optional, Tuple
 
-# how long there is between two looks, in seconds; more where a look takes long
+# how long there is between two looks, in seconds; more where a look takes much of the processor's time
 PAUSE = 0.015
 SHARE = 20
 
@@ -31,11 +31,11 @@ def follow(files: Callable[[], List[str]], changed: Callable[[], None], ended: t
     known = stamps(files())
     pause = PAUSE
     while not ended.wait(pause):
-        begun = time.monotonic()
+        begun = time.thread_time()
         now = stamps(files())
         is_other = any(now[path] != known.get(path, now[path]) for path in now)
         known = now
         if is_other:
             changed()
             continue
-        pause = max(PAUSE, SHARE * (time.monotonic() - begun))
+        pause = max(PAUSE, SHARE * (time.thread_time() - begun))
