@@ -81,8 +81,9 @@ def unlike_rows(wanted: List[Element], had: List[Row]) -> str:
 
 def sums_differ(layout: Any) -> str:
     """Whether the sums of a layout are not those of its rows."""
-    views = [it for it in layout["elements"] if it["no_view"] is None]
-    exact = [it for it in views if not any(note["effect"] == "bounds" for note in it["notes"])]
+    rows = [(it["no_view"] is None, not any(note["effect"] == "bounds" for note in it["notes"])) for it in layout["elements"]]
+    views = [it for it in rows if it[0] or not it[1]]
+    exact = [it for it in views if it[1]]
     sums = layout["sums"]
     return "" if (sums["views"], sums["exact"]) == (len(views), len(exact)) else "the sums are %s" % sums
 
@@ -145,6 +146,7 @@ def wrong_reports(it: Place) -> str:
     why = ""
     bodies = {
         b"{": "app.json is no report that can be read", b'{"a": 1}': "", b"[]": "", b"\xff": "no view is marked",
+        b'{"version": 1}': "it has no layouts",
         b'{"version": 2, "layouts": []}': "it is of the version 2", b'{"version": 1, "layouts": [{}]}': "no view is marked",
     }
     for body, said in bodies.items():
@@ -169,7 +171,7 @@ def check_names_the_source() -> str:
 def lint_names_the_source() -> str:
     with place() as it:
         found = it.call("app", TRIPS, "settings", "--lint", "--config", "mdpi")
-        return unlike(found, 0, None, "") or ("" if b"res/layout/settings.xml:" in found[1] else "it writes %r" % found[1])
+        return unlike(found, 1, None, "") or ("" if b"res/layout/settings.xml:" in found[1] else "it writes %r" % found[1])
 
 
 def takes_configurations() -> str:
@@ -199,6 +201,9 @@ def takes_rows() -> str:
             "A | Button | direct | - | exact": "map.txt:1: 'Button' is none of View, TextView",
             "\nA | View | brdr | - | exact": "map.txt:2: there is no rule 'brdr'",
             "A | View | direct | x y | exact": "map.txt:1: 'x y' is no attribute of a theme",
+            "A | View | direct a | - | exact": "map.txt:1: the rule 'direct' takes no further words: 'a'",
+            "A | View | box 200 | - | exact": "map.txt:1: the rule 'box' takes a width and a height in dp",
+            "A | View | linear up | - | exact": "map.txt:1: the rule 'linear' takes 'vertical', 'horizontal' or nothing",
         }
         for text, said in rows.items():
             it.put("map.txt", text)
@@ -217,6 +222,10 @@ def refuses_wrong_calls() -> str:
             (TRIPS, "hom"): "the app has no layout 'hom'; did you mean 'home'?",
             (TRIPS, "home", "--config", "lnad"): "lnad",
             (TRIPS, "home", "--theme", "None"): "there is no theme 'None'",
+            (TRIPS, "home", "--state", "pressed,foo"): "there is no state 'foo'; the states are active, ",
+            (TRIPS, "home", "--config", "night-de"): "is after one that it has to be before; in Android's order it is 'de-night'",
+            (TRIPS, "home", "--config", "land-port"): "is after one that it has to be before; one thing is said twice",
+            (TRIPS, "home", "--out", "/proc/x"): "the folder /proc/x cannot be made: ",
             (TRIPS, "--picture", "a.png"): "a picture or a page is that of one layout: name it",
             (TRIPS, "home", "--framework", "no.apk"): "no.apk cannot be read: No such file",
         }

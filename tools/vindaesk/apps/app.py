@@ -144,7 +144,7 @@ class OpenApp:
             views = made.expansion.layout(file, made.theme)
             root = self.root(views, made, request)
             found.records = made.expansion.records
-            writer.check(root, name)
+            writer.check(root, file.path)
             placing.place(root, Measurer(window, request.density))
             found.compiled = writer.compiled(root, name)
         except Failure as failure:

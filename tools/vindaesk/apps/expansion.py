@@ -274,6 +274,9 @@ class Expansion:
         if file is None:
             record.why_no_view = "its layout is not in the app"
             record.leave_out("layout", "the layout is not in the app", Effect.BOUNDS)
+            if place.parent is not None:
+                why = "the include in line %d is left out: its layout is not in the app" % element.line
+                place.parent.record.leave_out("", why, Effect.BOUNDS)
             return []
         record.use("layout")
         theme = self.themed(element.attributes, place, record)

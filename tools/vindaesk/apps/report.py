@@ -104,8 +104,8 @@ class Record:
 
     @property
     def is_view(self) -> bool:
-        """Whether the element became a view, or should have."""
-        return not self.why_no_view
+        """Whether the element became a view, or should have: one that is left out with an effect on bounds counts."""
+        return not self.why_no_view or not self.is_exact
 
     @property
     def is_exact(self) -> bool:

@@ -5,6 +5,7 @@ import os
 from typing import Dict, List, Sequence
 
 from ..common import files
+from ..common.failures import NOT_RUN, Failure
 from ..common.messages import printable
 from ..layouts.app_elements import REPORT, VERSION
 from . import report, writer
@@ -75,7 +76,11 @@ def summary(screens: Sequence[Screen]) -> List[str]:
 
 def write(folder: str, screens: Sequence[Screen]) -> None:
     """Writes all of it into a folder, which is made where it is not there."""
-    os.makedirs(folder, exist_ok=True)
+    try:
+        os.makedirs(folder, exist_ok=True)
+    except OSError as error:
+        why = error.strerror or str(error)
+        raise Failure("the folder %s cannot be made: %s" % (printable(folder), why), NOT_RUN)
     ids: Dict[int, str] = {}
     for it in screens:
         if it.why:

@@ -12,6 +12,7 @@ from ..resources.qualifiers import parse_qualifiers
 from ..resources.resources import Resources
 from ..resources.values import Type, Value
 from . import source_values, source_xml
+from .binary_xml import is_compiled
 from .element import Element
 from .platform_names import ID_OF, NUMBER_OF
 from .source_xml import Names
@@ -89,9 +90,14 @@ def has_resources(folder: str) -> bool:
 
 
 def is_source(path: str) -> bool:
-    """Whether a folder is the source of an app: it, or one in it, is a `res` folder of sources."""
-    if not os.path.isdir(path) or os.path.exists(os.path.join(path, "resources.arsc")):
+    """Whether a folder is the source of an app: it, or one in it, is a `res` folder of sources. One with a table of
+    resources is an app that was unpacked, unless its manifest is a text."""
+    if not os.path.isdir(path):
         return False
+    if os.path.exists(os.path.join(path, "resources.arsc")):
+        manifest = beginning(os.path.join(path, MANIFEST))
+        if not manifest or is_compiled(manifest):
+            return False
     return has_resources(path) or next(folders_in(path), None) is not None
 
 

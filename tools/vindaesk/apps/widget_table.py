@@ -5,6 +5,7 @@ from typing import Dict, List, NamedTuple, Optional
 
 from ..common import files
 from ..common.failures import NOT_RUN, Failure
+from ..common.messages import printable
 
 OWN = os.path.join(os.path.dirname(__file__), "widgets.txt")
 SIX = ("View", "TextView", "FrameLayout", "LinearLayout", "RelativeLayout", "ScrollView")
@@ -14,6 +15,12 @@ MAX_TABLE = 1 << 20
 # packages of which a class needs no package in the table, or in a layout
 PACKAGES = ("android.", "androidx.", "com.google.android.material.", "com.android.internal.")
 STYLE = re.compile(r"(android|app):\w+")
+# what rules take after their names, as a pattern and in words; others take nothing
+ARGUMENTS = {
+    "box": (re.compile("[0-9]{1,4} +[0-9]{1,4}"), "a width and a height in dp, each 0 to 9999, as 'box 48 48'"),
+    "linear": (re.compile("(vertical|horizontal)?"), "'vertical', 'horizontal' or nothing"),
+    "text": (re.compile("(field|says .+)?"), "'field', 'says' with a text, or nothing"),
+}
 
 
 class Row(NamedTuple):
@@ -28,6 +35,14 @@ class Row(NamedTuple):
     why: str
 
 
+def check_arguments(rule: str, arguments: str, place: str) -> None:
+    """Words that a rule does not take are a failure."""
+    form, taken = ARGUMENTS.get(rule, (None, "no further words"))
+    if (form.fullmatch(arguments) is None) if form else bool(arguments):
+        had = ": '%s'" % printable(arguments) if arguments else ""
+        raise Failure("%s: the rule '%s' takes %s%s" % (place, rule, taken, had), NOT_RUN)
+
+
 def row_of(line: str, place: str, rules: List[str]) -> List[Row]:
     """The rows of a line, one for each class that it names."""
     cells = [it.strip() for it in line.split("|")]
@@ -39,6 +54,7 @@ def row_of(line: str, place: str, rules: List[str]) -> List[Row]:
         raise Failure("%s: '%s' is none of %s" % (place, kind, ", ".join(SIX)), NOT_RUN)
     if rule not in rules:
         raise Failure("%s: there is no rule '%s'; the rules are %s" % (place, rule, ", ".join(sorted(rules))), NOT_RUN)
+    check_arguments(rule, arguments.strip(), place)
     wanted = [] if styles == "-" else [it.strip() for it in styles.split(",")]
     for it in wanted:
         if not STYLE.fullmatch(it):

@@ -7,18 +7,20 @@ are put in place, and each class becomes one of the six that the program has; do
 Without --out, --picture and so on it prints how many views are exact, and with --report what is not. --out writes for
 each layout NAME.xml, compiled, and NAME.script, and for all of them ids.txt and app.json.
 
-The status is 1 where a layout cannot be made, or with --strict where a view is not exact; the others are made all
+The status is 1 where a layout cannot be made, or with --strict where a view is not exact, or where --lint finds something; the others are made all
 the same. It is 2 where the app cannot be read; then nothing is written."""
 import argparse
 import json
 from typing import List, Optional, Sequence, Tuple
 
-from ..apps import app, report, results
+from ..apps import app, report, results, states
 from ..apps.app import OpenApp, Request, Screen
 from ..apps.expansion import Options
 from ..common import failures, files, messages, progress
 from ..common.failures import Failure
+from ..resources.configuration import Configuration
 from ..resources.devices import device
+from ..resources.qualifiers import parse_qualifiers, write_qualifiers
 from . import app_views, arguments
 from .uses import Purpose, Use
 
@@ -28,23 +30,19 @@ MOST_ITEMS = 100
 MOST_LAYOUTS = 4096
 
 
-def states(word: str) -> List[str]:
-    """The names of states, as pressed,focused."""
-    return ["state_" + it for it in word.split(",") if it]
-
-
 def reader() -> argparse.ArgumentParser:
     """The arguments."""
     found = arguments.parser(__doc__)
     found.add_argument("app", metavar="APP", help="an APK, or a folder")
-    found.add_argument("names", metavar="LAYOUT", nargs="*", help="names of layouts; or further APKs of a split app")
+    found.add_argument("names", metavar="LAYOUT", nargs="*", default=[],
+                       help="names of layouts; or further APKs of a split app")
     found.add_argument("--config", metavar="QUALIFIERS", default="",
                        help="the device, as de-rDE-land-night-xhdpi-v30 over a phone of 360 by 640 dp, 480 dpi, en-US, "
                        "API level 23")
     found.add_argument("--framework", metavar="APK",
                        help="Android's own resources, as framework-res.apk or android.jar")
     found.add_argument("--theme", metavar="NAME", default="", help="the theme; without it that of the manifest")
-    found.add_argument("--state", metavar="STATE,..", type=states, default=[],
+    found.add_argument("--state", metavar="STATE,..", default="",
                        help="drawables and colours are in these states, as pressed,checked")
     found.add_argument("--map", metavar="FILE", action="append", default=[],
                        help="further rows of the table of classes")
@@ -77,15 +75,28 @@ def parts_of(given: argparse.Namespace) -> Tuple[List[str], List[str]]:
     return [given.app, *parts], [it for it in given.names if it not in parts]
 
 
+def device_of(qualifiers: str) -> Configuration:
+    """The device of qualifiers in Android's order; Failure for others."""
+    wanted = device(qualifiers)
+    try:
+        parse_qualifiers(qualifiers)
+    except Failure as failure:
+        right = write_qualifiers(parse_qualifiers(qualifiers, is_ordered=False))
+        is_other = sorted(right.lower().split("-")) == sorted(qualifiers.lower().split("-"))
+        hint = "in Android's order it is '%s'" % right if is_other else "one thing is said twice"
+        raise Failure("%s; %s" % (failure, hint))
+    return wanted
+
+
 def request_of(given: argparse.Namespace) -> Request:
     """How the layouts are made."""
     options = Options(given.design, given.inflate_stubs, given.items)
     try:
-        wanted = device(given.config)
+        wanted = device_of(given.config)
     except Failure as failure:
         raise Failure(str(failure), failures.NOT_RUN)
     return Request(
-        wanted, given.theme, frozenset(given.state), options, tuple(given.map), not given.no_window,
+        wanted, given.theme, states.named(given.state), options, tuple(given.map), not given.no_window,
         given.pixels
     )
 
@@ -111,11 +122,12 @@ def made(opened: OpenApp, names: List[str], request: Request) -> List[Screen]:
     return found
 
 
-def shown(screens: List[Screen], given: argparse.Namespace) -> None:
-    """Prints what was asked for."""
+def shown(screens: List[Screen], given: argparse.Namespace) -> bool:
+    """Prints what was asked for; returns whether a lint was asked for, and found something."""
     if given.json:
         print(json.dumps(results.json_of(screens), indent=1, ensure_ascii=False))
-        return
+        return False
+    has_findings = False
     for it in screens:
         if given.report and not it.why:
             for line in report.lines_of(it.records):
@@ -124,9 +136,11 @@ def shown(screens: List[Screen], given: argparse.Namespace) -> None:
             print(messages.printable(line))
         for line in app_views.lint_lines(it) if given.lint and not it.why else ():
             print(messages.printable(line))
+            has_findings = True
     if not (given.tree or given.lint):
         for line in results.summary(screens):
             print(messages.printable(line))
+    return has_findings
 
 
 def written(screens: List[Screen], given: argparse.Namespace) -> None:
@@ -164,5 +178,5 @@ def main(words: Optional[Sequence[str]] = None) -> int:
         if it.why:
             messages.say(it.why)
     written(screens, given)
-    shown(screens, given)
-    return status_of(screens, given.strict)
+    has_findings = shown(screens, given)
+    return failures.WRONG if has_findings else status_of(screens, given.strict)

@@ -75,7 +75,11 @@ def layouts_of(path: str, size: int, time: int) -> Dict[str, Elements]:
             raise ValueError("it has more than %d bytes" % MAX_REPORT)
         with open(path, "rb") as file:
             whole = json.loads(file.read().decode())
-        if not isinstance(whole, dict) or "layouts" not in whole:
+        if not isinstance(whole, dict) or not {"layouts", "version"} & set(whole):
+            return {}
+        if "layouts" not in whole and isinstance(whole["version"], int):
+            raise ValueError("it has no layouts")
+        if "layouts" not in whole:
             return {}
         if whole["version"] != VERSION:
             raise ValueError("it is of the version %s, and not %d" % (whole["version"], VERSION))

@@ -11,12 +11,13 @@ docs/APPS.md says what is exact of such a layout, and what is not."""
 import contextlib
 import os
 import tempfile
-from typing import FrozenSet, Iterator, List, Optional, Sequence, Tuple, Union
+from typing import Iterable, Iterator, List, Optional, Sequence, Tuple, Union
 
 from ..apps import app as apps
 from ..apps import report, writer
 from ..apps.app import Request, Screen
 from ..apps.expansion import Options
+from ..apps.states import named
 from ..common import files
 from ..common.failures import NOT_RUN, Failure
 from ..resources.devices import device
@@ -68,16 +69,16 @@ def app(
     theme: str = "",
     framework: Optional[str] = None,
     pixels: bool = False,
-    states: FrozenSet[str] = frozenset(),
+    states: Union[str, Iterable[str]] = (),
     options: Options = Options(),
     maps: Tuple[str, ...] = (),
     seconds: float = SECONDS,
 ) -> Iterator[AppSession]:
     """A session over a layout of an app, for as long as it is used: an APK, several split ones, or a folder.
     `config` has further qualifiers of the device, as `v30`, which come after the others in the order of Android's
-    folders. What is wrong with the app or the layout is a Failure."""
+    folders; `states` are names, as "pressed,checked" or a list. What is wrong with the app or the layout is a Failure."""
     wanted = device(qualifiers_of(locale, night, land, density, config))
-    request = Request(wanted, theme, states, options, maps, in_pixels=pixels)
+    request = Request(wanted, theme, named(states), options, maps, in_pixels=pixels)
     with apps.opened([path] if isinstance(path, str) else list(path), framework) as opened:
         screen = opened.screen(layout, request)
     if screen.why:
