@@ -57,6 +57,7 @@ def test_a_layout_that_is_not_there_is_reported(tmp_path: Path) -> None:
     text = "<FrameLayout %s><include layout='@layout/none' /></FrameLayout>" % FULL
     (_, _, children), records = mapped(tmp_path, text)
     assert not children and records[1].notes[0].reason == "the layout is not in the app"
+    assert [(it.is_view, it.is_exact) for it in records] == [(True, False), (True, False)]
 
 
 def test_the_layout_of_a_stub_takes_its_place_where_that_is_asked_for(tmp_path: Path) -> None:
