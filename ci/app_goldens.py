@@ -66,7 +66,9 @@ def refuses_wrong_files() -> str:
         why = ""
         for text, said in WRONG.items():
             put(it, text)
-            why = why or unlike(it.call("runall", "."), 2, None, said)
+            status, out, _ = it.call("runall", ".")
+            is_right = status == 1 and out.startswith(b"failed: ./a.app.toml\n") and said in out.decode()
+            why = why or ("" if is_right else "status %d, %r" % (status, out))
         return why
 
 

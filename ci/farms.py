@@ -208,6 +208,43 @@ def breaks_of_cases() -> str:
         return "" if kinds == ["error", "failure", "error", "error", "failure"] else "the report has %s" % kinds
 
 
+# files of cases that cannot be run, and what is said of each; the second is also in a report
+BROKEN = {
+    "a.app.toml": ('app = "no.apk"\n', "no.apk cannot be read: No such file or directory"),
+    "b.app.toml": ('app = "cut.apk"\n', "cut.apk"),
+    "c.app.toml": ('app = "trips.apk"\nlayouts = ["hom"]\n', "the app has no layout 'hom'; did you mean 'home'?"),
+    "d.app.toml": ('app = "trips.apk"\nbogus = 1\n', "; there are app, layouts, config, theme, framework, matrix, window"),
+    "e.args": ("", "./e.args has no words"),
+    "f.script": (RED, "./f.toml:1:3: ']' is expected"),
+    "g.args": ("lookup\n", "./g.args: the program does not know these arguments: lookup"),
+}
+
+
+def broken_cases() -> str:
+    """A file from which no case can be made is an error of that case alone, also in the report."""
+    with farm(2) as it:
+        for name, (text, _) in BROKEN.items():
+            it.put(name, text)
+        with open(os.path.join(TOP, "examples", "trips", "trips.apk"), "rb") as file:
+            app = file.read()
+        it.put("trips.apk", app)
+        it.put("cut.apk", app[:1000])
+        it.put("f.toml", "[a")
+        os.symlink("nowhere", os.path.join(it.folder, "y.script"))
+        os.mkfifo(os.path.join(it.folder, "z.script"))
+        status, lines, said = ended(it, ".", "--junit", "j.xml")
+        wanted = [*BROKEN, "y.script", "z.script"]
+        if (status, said, lines[-1]) != (1, "", "2 passed, %d failed" % len(wanted)):
+            return "status %d, %s%s" % (status, lines, said)
+        found = dict(reported(it))
+        if [found.get(name) for name in wanted] != ["error"] * len(wanted):
+            return "the report has %s" % found
+        told = {name: text for name, (_, text) in BROKEN.items()}
+        told.update({name: "./%s is no file" % name for name in ("y.script", "z.script")})
+        return first("" if text in lines[lines.index("failed: ./" + name) + 1] else "%s: %s" % (name, lines)
+                     for name, text in told.items())
+
+
 def full_disk() -> str:
     """Standard output that is full, and a report that cannot be written whole: the other one is written all the
     same."""
@@ -460,7 +497,7 @@ def fits_schemas() -> str:
 
 def checks() -> Checks:
     yield from named("farms", (
-        fits_schemas, a_process_dies, is_told_to_end, is_killed, goes_on_after_a_kill, few_files, breaks_of_cases,
+        fits_schemas, a_process_dies, is_told_to_end, is_killed, goes_on_after_a_kill, few_files, breaks_of_cases, broken_cases,
         full_disk, results_as_they_end, follows_links, shows_odd_names, parts_by_names, protocol_of_bazel, merges_parts,
         keeps_what_passed, keeps_no_failures, changes_meanwhile, several_at_once
     ))

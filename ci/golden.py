@@ -371,7 +371,8 @@ def keeps_the_sum() -> str:
         it.put("b.answer", "x")
         started = it.start("tools/runall", ".")
         out, said = started.communicate(timeout=20)
-        why = why or ("" if out == b"1 passed, 0 failed\n" and b"./b.script is no file, and is not run" in said else "%r" % out)
+        wanted = b"failed: ./b.script\n./b.script is no file\n1 passed, 1 failed\n"
+        why = why or ("" if (out, said, started.returncode) == (wanted, b"", 1) else "%r" % out)
         os.unlink(os.path.join(it.folder, "a.answer"))
         os.mkfifo(os.path.join(it.folder, "a.answer"))
         started = it.start("tools/runall", "a.script")

@@ -5,11 +5,11 @@ import os
 import random
 import tempfile
 import time
-from typing import Iterator, List, Optional, Tuple
+from typing import Callable, Iterator, List, Optional, Tuple
 
 from running import PROGRAM, TOP, run
 from tools import place
-from vindaesk.session import LineRefused, NoAnswer, NoRoom, NotFound, OtherView, Session, Stack, Way
+from vindaesk.session import Failure, LineRefused, NoAnswer, NoRoom, NotFound, OtherView, Session, Stack, Way, app
 from vindaesk.session.focus import walk
 
 EXAMPLES = os.path.join(TOP, "examples")
@@ -417,3 +417,38 @@ def test_focus_has_a_time_limit() -> None:
             assert str(late).endswith("within 0.3 seconds to: focus up v1")
         else:
             raise AssertionError("answered")
+
+
+def test_wrong_values() -> None:
+    """What a call is given and does not take is one sentence, and the session goes on."""
+    calls: List[Tuple[Callable[[Session], object], type, str]] = [
+        (lambda s: s.find(text=3), TypeError, "text is a text, and not 3"),  # type: ignore[arg-type]
+        (lambda s: s.find_all(id=5), TypeError, "id is a text, and not 5"),  # type: ignore[arg-type]
+        (lambda s: s.find(clickable="yes"), TypeError, "clickable is True or False"),  # type: ignore[arg-type]
+        (lambda s: s.window("a", 1), TypeError, "width is a whole number, and not 'a'"),  # type: ignore[arg-type]
+        (lambda s: s.down(0, "a", 1), TypeError, "x is a whole number"),  # type: ignore[arg-type]
+        (lambda s: s.screenshot("no.png", 0), ValueError, "scale is 1 to 8, and not 0"),
+        (lambda s: s.screenshot("no.png", 99), ValueError, "scale is 1 to 8, and not 99"),
+        (lambda s: Session("/nonexist"), Failure, "there is no folder /nonexist"),
+        (lambda s: Session(seconds=-1), ValueError, "seconds is more than 0, and not -1"),
+        (lambda s: Session(seconds=float("nan")), ValueError, "seconds is more than 0"),
+    ]
+    with card() as s:
+        for call, kind, said in calls:
+            try:
+                call(s)
+            except (TypeError, ValueError, Failure) as error:
+                assert type(error) is kind and said in str(error), error
+            else:
+                raise AssertionError(said)
+        assert s.find(text="Reply").name == "v6"
+
+
+def test_unknown_id_of_an_app() -> None:
+    with app(os.path.join(EXAMPLES, "trips", "trips.apk"), layout="home") as s:
+        try:
+            s.id("nope")
+        except NotFound as missing:
+            assert str(missing) == "no view of the layout has the id 'nope'"
+        else:
+            raise AssertionError("found")

@@ -3,9 +3,10 @@ from __future__ import annotations
 
 # the longest script that the program reads
 MAX_SCRIPT = 16777216
+WRONG_ARGUMENTS = 2
 # each status with what happened, and with what that means for the run
 SENTENCES = {
-    2: ("it does not know these arguments", ""),
+    WRONG_ARGUMENTS: ("it does not know these arguments", ""),
     3: ("the script could not be read further", "; the lines before were carried out"),
     4: ("the answer could not be written further", " (is the disk full, or has the reader ended?)"),
     5: ("out of memory", "; what was written before holds"),
@@ -21,4 +22,4 @@ def short(status: int) -> str:
 
 def explained(status: int) -> str:
     """What there is to say of a run that ended before its end; nothing of any other, or of wrong arguments."""
-    return "status %d: %s%s" % (status, *SENTENCES[status]) if status in SENTENCES and status != 2 else ""
+    return "status %d: %s%s" % (status, *SENTENCES[status]) if status in SENTENCES and status != WRONG_ARGUMENTS else ""

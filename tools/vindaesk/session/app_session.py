@@ -22,6 +22,9 @@ from ..common import files
 from ..common.failures import NOT_RUN, Failure
 from ..resources.devices import device
 from ..scripts import names, script
+from ..scripts.grammar import guess
+from . import checked
+from .errors import NotFound
 from .session import SECONDS, Session
 
 
@@ -37,11 +40,13 @@ class AppSession(Session):
                 self.line(line.decode())
 
     def id(self, name: str) -> str:
-        """The id of a view by its name in the app, as lines name it. A name that no view has is a KeyError."""
+        """The id of a view by its name in the app, as lines name it. A name that no view has is a NotFound."""
+        checked.text("name", name)
         for number, it in self.screen.ids.items():
             if it.rpartition("/")[2] == name:
                 return "@%08x" % number
-        raise KeyError(name)
+        known = tuple(it.rpartition("/")[2] for it in self.screen.ids.values())
+        raise NotFound("no view of the layout has the id '%s'%s" % (name, guess(name, known)))
 
     def notes(self) -> List[str]:
         """What of the layout is not exact, a line each."""

@@ -14,6 +14,7 @@ from ..program import process
 from ..program.statuses import MAX_SCRIPT
 from ..scripts.names import Ids
 from ..scripts.script import MAX_LINE
+from . import checked
 from .errors import LineRefused, NoAnswer, NoRoom
 
 # always refused, so that its refusal ends the replies of the line before
@@ -29,6 +30,8 @@ class Channel:
 
     def __init__(self, form: str, folder: str, ids: Ids, seconds: float):
         """Starts the program in a folder."""
+        checked.seconds(seconds)
+        checked.folder(folder)
         self._ids = ids
         self._seconds = seconds
         self._process = subprocess.Popen(

@@ -3,6 +3,7 @@ from dataclasses import dataclass, fields
 from typing import Dict, List, Optional, Sequence
 
 from ..scripts.grammar import guess
+from . import checked
 from .errors import NotFound
 from .results import Node
 
@@ -20,6 +21,11 @@ class By:
     cls: Optional[str] = None
     clickable: Optional[bool] = None
     below: Optional[str] = None
+
+    def __post_init__(self) -> None:
+        for name in ("text", "text_contains", "id", "cls"):
+            checked.text(name, getattr(self, name))
+        checked.flag("clickable", self.clickable)
 
     def matches(self, it: Node) -> bool:
         """Whether a view is so, except where it is."""

@@ -6,7 +6,7 @@ from ..pictures import frames, png
 from ..views import placement
 from ..views.placement import Box, Placed
 from ..views.view_tree import View
-from . import finding
+from . import checked, finding
 from .carrier import Carrier
 from .finding import By
 from .results import Bounds, Node, Viewed, called, node_of
@@ -112,4 +112,5 @@ class Looking(Carrier):
 
     def screenshot(self, path: str, scale: int = 1) -> None:
         """Writes that as a PNG file, whole or not at all; a pixel is `scale` by `scale`."""
+        checked.scale(scale)
         files.replace(path, png.written(self.picture(), scale))

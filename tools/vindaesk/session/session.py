@@ -23,7 +23,7 @@ from types import TracebackType
 from typing import List, Optional, Type
 
 from ..scripts import names, script
-from . import focus, recording, renewal
+from . import checked, focus, recording, renewal
 from .channel import Channel
 from .results import Frame, Inflated, Viewed, Word, called, escaped, frame_of, word_of
 from .touching import Touching
@@ -41,10 +41,13 @@ class Editing(Touching):
 
     def window(self, width: int, height: int) -> None:
         """Opens a new window, each side 1 to 4096 pixels."""
+        checked.number("width", width)
+        checked.number("height", height)
         self.line("window %d %d" % (width, height))
 
     def dpi(self, dots: int) -> None:
         """Sets the density for layout files, in dots an inch; it is 160 at the start, where a dp is a pixel."""
+        checked.number("dots", dots)
         self.line("dpi %d" % dots)
 
     def res(self, name: str, kind: str, *values: Word) -> None:
@@ -84,6 +87,7 @@ class Editing(Touching):
     def frames(self, count: int) -> List[Frame]:
         """Carries out a number of frames. They are asked for together, so that none waits for the answer of the one
         before: quicker than as many calls of `frame`."""
+        checked.number("count", count)
         found: List[Frame] = []
         while len(found) < count:
             found += [frame_of(it) for it in self._repeated(b"frame", min(TOGETHER, count - len(found)))]

@@ -16,7 +16,7 @@ from typing import Dict, List, Optional, Set, Type
 from ..common import files
 from ..pictures import frames, png
 from ..scripts import names
-from . import recording
+from . import checked, recording
 from .channel import Channel
 from .errors import LineRefused
 from .results import Way
@@ -119,6 +119,8 @@ class Stack:
 
     def open(self, number: int, x: int, y: int) -> StackWindow:
         """Opens a window, 0 to 7, on top of the others with its corner at a place of the stack, or moves one there."""
+        for name, value in (("number", number), ("x", x), ("y", y)):
+            checked.number(name, value)
         self._line("at %d %d %d" % (number, x, y))
         self.corners[number] = x, y
         if number not in self.windows:
@@ -169,6 +171,7 @@ class Stack:
 
     def screenshot(self, path: str, width: int, height: int, scale: int = 1) -> None:
         """Writes that as a PNG file."""
+        checked.scale(scale)
         files.replace(path, png.written(self.picture(width, height), scale))
 
     def record(self, path: str) -> None:

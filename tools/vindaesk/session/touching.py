@@ -3,6 +3,7 @@ import contextlib
 from typing import Iterator, Optional, Sequence, Tuple
 
 from ..common.failures import Failure
+from . import checked
 from .errors import LineRefused, OtherView
 from .looking import Looking
 from .results import Viewed, Way, called
@@ -13,16 +14,24 @@ MAX_PLACE = 1048576
 Point = Tuple[int, int]
 
 
+def numbers(pointer: int, x: int, y: int) -> None:
+    """A pointer and its place are numbers."""
+    for name, value in (("pointer", pointer), ("x", x), ("y", y)):
+        checked.number(name, value)
+
+
 class Touching(Looking):
     """The gestures of docs/TOUCH.md, whose rules know no time: how long a pointer stays down makes no difference. One
     that is refused midway lifts its pointers."""
 
     def down(self, pointer: int, x: int, y: int) -> Way:
         """A pointer goes down at a place of the window."""
+        numbers(pointer, x, y)
         return Way(self.line("down %d %d %d" % (pointer, x, y)))
 
     def move(self, pointer: int, x: int, y: int) -> Way:
         """It moves there."""
+        numbers(pointer, x, y)
         return Way(self.line("move %d %d %d" % (pointer, x, y)))
 
     def up(self, pointer: int) -> Way:

@@ -13,13 +13,14 @@ ANSWER, STATUS, PICTURE = ENDINGS = (".answer", ".status", ".png")
 
 
 class Case(NamedTuple):
-    """A case: its path without the ending, the ending of what is run, its configuration, where it has one, and its path
-    below the folder that was named in the call, which is the same on each machine."""
+    """A case: its path without the ending, the ending of what is run, its configuration, where it has one; its path below
+    the folder that was named in the call, which is the same on each machine; and why it cannot be run, or nothing."""
 
     stem: str
     ending: str
     configuration: Optional[Configuration] = None
     below: str = ""
+    broken: str = ""
 
     def file(self, ending: str) -> str:
         """One of its files."""

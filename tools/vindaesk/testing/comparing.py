@@ -1,4 +1,5 @@
 """What a case results in today beside what is stored."""
+import os
 from typing import List, Optional, Tuple
 
 from ..common import files
@@ -6,10 +7,12 @@ from ..common.failures import Failure
 from ..pictures import difference, png
 from ..pictures.png import Picture
 from ..program import process
+from ..program.statuses import WRONG_ARGUMENTS
 from ..scripts.script import Window
 from . import kinds, problems
 from .calls import Limits
-from .case import ANSWER, PICTURE, STATUS, Case, Pictures, Written, stored, written_status
+from .case import ANSWER, ARGUMENTS, PICTURE, STATUS, Case, Pictures, Written, stored, written_status
+from .kind_scripts import words_of
 from .problems import Problem, Sort
 
 # the statuses of runs that reached their end
@@ -34,10 +37,18 @@ def missing(case: Case, ending: str) -> Problem:
     return Problem(Sort.MISSING, "it has no %s; --accept writes one" % name)
 
 
+def of_status(case: Case, status: int) -> Problem:
+    """Why the program did not reach its end."""
+    path = case.stem + ARGUMENTS
+    if status != WRONG_ARGUMENTS or not os.path.exists(path):
+        return Problem(Sort.ENDED, str(process.failed(status)))
+    return Problem(Sort.ENDED, "%s: the program does not know these arguments: %s" % (path, " ".join(words_of(case.stem, ""))))
+
+
 def text_problem(case: Case, written: Written) -> Optional[Problem]:
     """How the answer of today or its status is not the stored one."""
     if written.status not in ENDED and not (case.has(ANSWER) and written.status == written_status(case)):
-        return Problem(Sort.ENDED, str(process.failed(written.status)))
+        return of_status(case, written.status)
     if not case.has(ANSWER):
         return missing(case, ANSWER)
     wanted, status = stored(case.file(ANSWER)), written_status(case)
@@ -50,6 +61,8 @@ def text_problem(case: Case, written: Written) -> Optional[Problem]:
 
 def answer_problem(case: Case, seconds: float) -> Checked:
     """How the answer or the status of today is not the stored one."""
+    if case.broken:
+        return Problem(Sort.BROKEN, case.broken), False
     limits = Limits(seconds, MORE)
     try:
         limits = limits_of(case, seconds)
@@ -115,7 +128,7 @@ def written_files(case: Case, limits: Limits) -> Optional[Problem]:
     written = kind.written(case, limits)
     status = written.status
     if status not in ENDED and not (case.has(STATUS) and written_status(case) == status):
-        return Problem(Sort.ENDED, str(process.failed(status)))
+        return of_status(case, status)
     if kind.has_picture(case):
         files.replace(case.file(PICTURE), png.written(kind.picture(case, stored_size(case))))
     files.replace(case.file(ANSWER), written.answer)
@@ -126,6 +139,8 @@ def written_files(case: Case, limits: Limits) -> Optional[Problem]:
 
 def accept(case: Case, seconds: float) -> Optional[Problem]:
     """Writes what a case results in today into its files; why that cannot be done, or nothing."""
+    if case.broken:
+        return Problem(Sort.BROKEN, case.broken)
     limits = Limits(seconds, MAX_ACCEPTED)
     try:
         return written_files(case, limits)

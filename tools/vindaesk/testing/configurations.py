@@ -33,6 +33,7 @@ from ..views.screens import LEAST_DPI, MOST_DPI, PLAIN_DPI
 
 FOLDER = "vindaesk.toml"
 VALUES = "resources.lines"
+MATRIX = "matrix"
 MAX_FILE = 1 << 16
 MAX_COUNT = 1000
 # what may be a part of the name of a file
@@ -57,7 +58,8 @@ class Configuration(NamedTuple):
 
     def failure(self, why: str) -> Failure:
         """What is wrong with it."""
-        return Failure("%s:%d: %s: %s" % (self.file, self.line, self.name, why), NOT_RUN)
+        named = self.name + ": " if self.name else ""
+        return Failure("%s:%d: %s%s" % (self.file, self.line, named, why), NOT_RUN)
 
 
 KEYS = tuple(it for it in Configuration._fields if it not in ("name", "file", "line"))
@@ -92,12 +94,13 @@ def fitted(key: str, value: object) -> object:
     return value if isinstance(value, bool) else None
 
 
-def settings_of(entries: Dict[str, Entry], file: str) -> Dict[str, object]:
-    """What the keys of a table set."""
+def settings_of(entries: Dict[str, Entry], file: str, others: Sequence[str] = ()) -> Dict[str, object]:
+    """What the keys of a table set, in which there may be other keys too, which were taken out."""
     found: Dict[str, object] = {}
     for key, entry in entries.items():
         if key not in KEYS:
-            near = guess(key, KEYS) or "; there are %s" % ", ".join(KEYS)
+            known = (*others, *KEYS)
+            near = guess(key, known) or "; there are %s" % ", ".join(known)
             raise Failure("%s:%d: there is no key '%s'%s" % (file, entry.line, key, near), NOT_RUN)
         value = fitted(key, entry.value)
         if value is None:
@@ -140,11 +143,11 @@ def combined(parts: Sequence[Tuple[Table, Dict[str, object]]], common: Dict[str,
     return Configuration(name, file=file, line=line)._replace(**made)
 
 
-def of_tables(tables: List[Table], file: str) -> List[Configuration]:
-    """The configurations of a file's tables."""
+def of_tables(tables: List[Table], file: str, others: Sequence[str] = ()) -> List[Configuration]:
+    """The configurations of a file's tables, of which the first may have had other keys too."""
     entries = dict(tables[0].entries)
-    matrix = entries.pop("matrix", None)
-    common = settings_of(entries, file)
+    matrix = entries.pop(MATRIX, None)
+    common = settings_of(entries, file, (*others, MATRIX))
     named = {table.name: table for table in tables[1:]}
     own = {name: settings_of(table.entries, file) for name, table in named.items()}
     axes = axes_of(matrix, named, file) if matrix else []
@@ -172,7 +175,9 @@ def of_script(path: str) -> List[Configuration]:
     """The configurations in which a script is tried; none where it is tried as it is."""
     stem = os.path.splitext(path)[0]
     for name in (stem + ".toml", os.path.join(os.path.dirname(path), FOLDER)):
-        if os.path.isfile(name):
+        if os.path.lexists(name):
+            if not os.path.isfile(name):
+                raise Failure("%s is no file" % name, NOT_RUN)
             found = os.stat(name)
             return of_file(name, (found.st_mtime_ns, found.st_size))
     return []

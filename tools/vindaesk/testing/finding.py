@@ -3,7 +3,8 @@ import os
 from typing import Dict, Iterable, Iterator, List, NoReturn, Optional, Set, Tuple
 
 from ..common.failures import Failure, NOT_RUN
-from . import kinds
+from . import kinds, problems
+from .calls import Limits
 from .case import ENDINGS, Case
 from .configurations import Configuration
 
@@ -28,11 +29,21 @@ def files_in(path: str) -> Iterator[str]:
             yield os.path.join(folder, name)
 
 
+def cases_of_file(path: str, given: Optional[List[Configuration]]) -> List[Case]:
+    """The cases of a file; where they cannot be known, one that says why."""
+    try:
+        return kinds.cases_of(path, given)
+    except Exception as error:
+        ending = kinds.ending_of(path) or ""
+        why = problems.of_exception(error, Limits(0, 0)).text
+        return [Case(path[: len(path) - len(ending)], ending, broken=why)]
+
+
 def cases_in(path: str, given: Optional[List[Configuration]] = None) -> Iterator[Case]:
     """The cases of a folder and of those below it, by their names; or those of a single file."""
     base = path if os.path.isdir(path) else os.path.dirname(path) or "."
     for file in files_in(path):
-        for case in kinds.cases_of(file, given):
+        for case in cases_of_file(file, given):
             yield case._replace(below=os.path.relpath(case.name(), base))
 
 

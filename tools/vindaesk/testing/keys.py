@@ -101,6 +101,8 @@ class Keys:
 
     def of(self, case: Case) -> Optional[str]:
         """The key of a case; None where there is something that cannot be read, so that its result is not kept."""
+        if case.broken:
+            return None
         try:
             return self.made(case)
         except (Failure, OSError, Unkept):

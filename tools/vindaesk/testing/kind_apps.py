@@ -91,7 +91,8 @@ def given_in(path: str, stamp: Tuple[int, int]) -> Given:
         raise Failure('%s: it names no app, as app = "home.apk"' % path, NOT_RUN)
     folder = os.path.dirname(path)
     framework = [os.path.join(folder, it) for it in own["framework"]]
-    found = configurations.of_tables(tables, path) if len(tables) > 1 else [plain_of(entries, path)]
+    has_tables = len(tables) > 1 or configurations.MATRIX in entries
+    found = configurations.of_tables(tables, path, OWN) if has_tables else [plain_of(entries, path)]
     config, theme = ("".join(own[it]) for it in ("config", "theme"))
     apps = tuple(os.path.join(folder, it) for it in own["app"])
     return Given(apps, own["layouts"], config, theme, framework[0] if framework else None, tuple(found))
@@ -99,7 +100,7 @@ def given_in(path: str, stamp: Tuple[int, int]) -> Given:
 
 def plain_of(entries: Dict[str, Entry], path: str) -> Configuration:
     """The configuration of a file without tables."""
-    found: Dict[str, Any] = configurations.settings_of(entries, path)
+    found: Dict[str, Any] = configurations.settings_of(entries, path, (*OWN, configurations.MATRIX))
     return Configuration("", file=path, line=1)._replace(**found)
 
 

@@ -2,6 +2,7 @@
 import os
 from typing import FrozenSet, List, Optional
 
+from ..common.failures import Failure, NOT_RUN
 from ..scripts import names
 from . import answers, calls
 from .calls import Call, Limits
@@ -18,8 +19,12 @@ class Calls(Kind):
 
     def cases_of(self, path: str, given: Optional[List[Configuration]]) -> List[Case]:
         stem = path[: -len(ARGUMENTS)]
-        has_script = any(os.path.exists(stem + it) for it in (SCRIPT, STACK))
-        return [Case(stem, ARGUMENTS)] if os.path.isfile(path) and not has_script else []
+        if any(os.path.lexists(stem + it) for it in (SCRIPT, STACK)):
+            return []
+        if not os.path.isfile(path):
+            raise Failure("%s is no file" % path, NOT_RUN)
+        words_of(stem, "")
+        return [Case(stem, ARGUMENTS)]
 
     def written(self, case: Case, limits: Limits) -> Written:
         folder, words = case.folder(), words_of(case.stem, "")

@@ -2,6 +2,7 @@
 import os
 from typing import FrozenSet, List, Optional
 
+from ..common.failures import Failure, NOT_RUN
 from ..scripts import names
 from . import answers, calls
 from .calls import Call, Limits
@@ -20,9 +21,12 @@ class Layouts(Kind):
 
     def cases_of(self, path: str, given: Optional[List[Configuration]]) -> List[Case]:
         stem = path[: -len(LAYOUT)]
-        is_case = os.path.isfile(path) and os.path.exists(stem + ANSWER)
-        is_beside = any(os.path.exists(stem + it) for it in (SCRIPT, STACK, ARGUMENTS))
-        return [Case(stem, LAYOUT)] if is_case and not is_beside else []
+        is_beside = any(os.path.lexists(stem + it) for it in (SCRIPT, STACK, ARGUMENTS))
+        if is_beside or not os.path.exists(stem + ANSWER):
+            return []
+        if not os.path.isfile(path):
+            raise Failure("%s is no file" % path, NOT_RUN)
+        return [Case(stem, LAYOUT)]
 
     def written(self, case: Case, limits: Limits) -> Written:
         folder = case.folder()

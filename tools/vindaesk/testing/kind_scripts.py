@@ -4,7 +4,6 @@ import os
 from typing import FrozenSet, List, Optional, Tuple
 
 from ..common.failures import Failure, NOT_RUN
-from ..common.messages import say
 from ..pictures import frames
 from ..pictures.png import Picture
 from ..scripts import names, script
@@ -25,7 +24,7 @@ MAX_ARGUMENTS = 1 << 16
 def words_of(stem: str, otherwise: str) -> List[str]:
     """The words of a case's call: those of NAME.args, if there is one. They are in one line, or one in each."""
     path = stem + ARGUMENTS
-    if not os.path.exists(path):
+    if not os.path.lexists(path):
         return [otherwise]
     *lines, last = os.fsdecode(stored(path)[:MAX_ARGUMENTS]).split("\n")
     lines += [last] if last else []
@@ -68,8 +67,7 @@ class Scripts(Kind):
     def cases_of(self, path: str, given: Optional[List[Configuration]]) -> List[Case]:
         stem = path[: -len(self.ENDING)]
         if not os.path.isfile(path):
-            say("%s is no file, and is not run" % path)
-            return []
+            raise Failure("%s is no file" % path, NOT_RUN)
         of = given
         if given is None:
             of = configurations.of_script(path) if self.is_single(stem) else []

@@ -34,4 +34,6 @@ def cases_of(path: str, given: Optional[List[Configuration]] = None) -> List[Cas
 
 def is_new(case: Case) -> bool:
     """Whether one of the files that a case should have is not there yet."""
+    if case.broken:
+        return False
     return not case.has(ANSWER) or (of(case).has_picture(case) and not case.has(PICTURE))

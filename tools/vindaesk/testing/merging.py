@@ -10,6 +10,8 @@ from . import junit
 from .case import Case
 from .problems import Sort
 
+# what a report begins with
+SUITES = ("testsuite", "testsuites")
 NOWHERE = "no report has it: was its part run to its end?"
 
 
@@ -61,6 +63,9 @@ def merged(paths: Sequence[str], cases: Sequence[Case]) -> Merged:
             suite = ElementTree.fromstring(files.read(path))
         except (Failure, ElementTree.ParseError) as error:
             wrong.append(str(error) if isinstance(error, Failure) else "%s is no whole report: %s" % (path, error))
+            continue
+        if suite.tag not in SUITES:
+            wrong.append("%s is no report of JUnit: it begins with <%s>" % (path, suite.tag))
             continue
         parts |= {it.get("value", "") for it in suite.iter("property") if it.get("name") == junit.PART}
         for testcase in suite.iter("testcase"):

@@ -21,6 +21,7 @@ class Sort(enum.Enum):
     MISSING = "NothingStored"
     OUTPUT = "LongOutput"
     SOURCE = "NotReadable"
+    BROKEN = "BrokenCase"
     TIME = "Timeout"
     ENDED = "ProgramEnded"
     RUNNER = "RunnerError"
@@ -28,7 +29,7 @@ class Sort(enum.Enum):
 
     def is_error(self) -> bool:
         """Whether nothing is known of the case, so that a report calls it an error, and not a failure."""
-        return self in (Sort.TIME, Sort.ENDED, Sort.RUNNER, Sort.NOT_RUN)
+        return self in (Sort.BROKEN, Sort.TIME, Sort.ENDED, Sort.RUNNER, Sort.NOT_RUN)
 
 
 class Problem(NamedTuple):
