@@ -213,7 +213,7 @@ BROKEN = {
     "a.app.toml": ('app = "no.apk"\n', "no.apk cannot be read: No such file or directory"),
     "b.app.toml": ('app = "cut.apk"\n', "cut.apk"),
     "c.app.toml": ('app = "trips.apk"\nlayouts = ["hom"]\n', "the app has no layout 'hom'; did you mean 'home'?"),
-    "d.app.toml": ('app = "trips.apk"\nbogus = 1\n', "; there are app, layouts, config, theme, framework, matrix, window"),
+    "d.app.toml": ('app = "trips.apk"\nbogus = 1\n', "; there are app, layouts, config, theme, framework, matrix, "),
     "e.args": ("", "./e.args has no words"),
     "f.script": (RED, "./f.toml:1:3: ']' is expected"),
     "g.args": ("lookup\n", "./g.args: the program does not know these arguments: lookup"),
@@ -497,7 +497,8 @@ def fits_schemas() -> str:
 
 def checks() -> Checks:
     yield from named("farms", (
-        fits_schemas, a_process_dies, is_told_to_end, is_killed, goes_on_after_a_kill, few_files, breaks_of_cases, broken_cases,
-        full_disk, results_as_they_end, follows_links, shows_odd_names, parts_by_names, protocol_of_bazel, merges_parts,
+        fits_schemas, a_process_dies, is_told_to_end, is_killed, goes_on_after_a_kill, few_files, breaks_of_cases,
+        broken_cases, full_disk, results_as_they_end, follows_links, shows_odd_names, parts_by_names, protocol_of_bazel,
+        merges_parts,
         keeps_what_passed, keeps_no_failures, changes_meanwhile, several_at_once
     ))

@@ -20,9 +20,13 @@ def run(path: str) -> None:
     """Runs the tool whose name is that of a file, and ends with its status."""
     from vindaesk.common import ending
 
-    # as `importlib.import_module` does, which takes a millisecond to be loaded
-    module = __import__("vindaesk.command_line." + os.path.basename(os.path.realpath(path)), fromlist=["main"])
-    ending.call(module.main)
+    def main(words: object) -> int:
+        # as `importlib.import_module` does, which takes a millisecond to be loaded; signals are taken meanwhile too
+        name = "vindaesk.command_line." + os.path.basename(os.path.realpath(path))
+        status: int = __import__(name, fromlist=["main"]).main(words)
+        return status
+
+    ending.call(main)
 
 
 def start() -> None:

@@ -13,8 +13,8 @@ ANSWER, STATUS, PICTURE = ENDINGS = (".answer", ".status", ".png")
 
 
 class Case(NamedTuple):
-    """A case: its path without the ending, the ending of what is run, its configuration, where it has one; its path below
-    the folder that was named in the call, which is the same on each machine; and why it cannot be run, or nothing."""
+    """A case: its path without the ending, the ending of what is run, its configuration, where it has one; its path
+    below the folder that was named in the call, which is the same on each machine; and why it cannot be run."""
 
     stem: str
     ending: str

@@ -42,7 +42,8 @@ def of_status(case: Case, status: int) -> Problem:
     path = case.stem + ARGUMENTS
     if status != WRONG_ARGUMENTS or not os.path.exists(path):
         return Problem(Sort.ENDED, str(process.failed(status)))
-    return Problem(Sort.ENDED, "%s: the program does not know these arguments: %s" % (path, " ".join(words_of(case.stem, ""))))
+    words = " ".join(words_of(case.stem, ""))
+    return Problem(Sort.ENDED, "%s: the program does not know these arguments: %s" % (path, words))
 
 
 def text_problem(case: Case, written: Written) -> Optional[Problem]:
