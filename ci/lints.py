@@ -139,6 +139,40 @@ def takes_apps() -> str:
         return unlike(it.call("lint", trips, "--layout", "setting"), 2, b"", "did you mean 'settings'?")
 
 
+BROKEN = '''<LinearLayout xmlns:android="http://schemas.android.com/apk/res/android"
+    android:layout_width="match_parent" android:layout_height="match_parent">
+    <TextView android:layout_width="7xx" android:layout_height="wrap_content" android:text="@string/none" />
+    <ImageView android:layout_width="48dp" android:contentDescription="@string/there" />
+    <ImageView android:layout_width="48dp" android:layout_height="48dp" />
+</LinearLayout>
+'''
+IN_BROKEN = [
+    'res/layout/bad.xml:3:5: error wrong-value: v3 TextView: android:layout_width="7xx": its value is of a type that it cannot have',
+    'res/layout/bad.xml:3:5: error missing-resource: v3 TextView: android:text="@string/none": the project has no such resource',
+    "res/layout/bad.xml:4:5: error required-size: v4 ImageView: it has no android:layout_height, and Android refuses it",
+]
+
+
+def finds_broken_sources() -> str:
+    """What aapt or Android refuses in a source is an error, in a project and of a file by itself, which has no resources;
+    a view has the name of its element; and what is no XML has a place."""
+    with place() as it:
+        for folder in ("res", "res/layout", "res/values"):
+            os.mkdir(os.path.join(it.folder, folder))
+        it.put("res/values/texts.xml", '<resources><string name="there">There</string></resources>')
+        for name in ("res/layout/bad.xml", "bad.xml"):
+            it.put(name, BROKEN)
+            status, out, _ = it.call("lint", name, "--severity", "error")
+            found = [line.rpartition(" (")[0] for line in out.decode().splitlines()]
+            wanted = [line for line in IN_BROKEN if "/" in name or "missing-resource" not in line]
+            if (status, found) != (1, [line.replace("res/layout/bad.xml", name) for line in wanted]):
+                return "%s: status %d, %s" % (name, status, found)
+        out = it.call("lint", "bad.xml", "--only", "content-description")[1]
+        why = "" if out.startswith(b"bad.xml:5:5: warning content-description: v5 ImageView: ") else "%r" % out
+        it.put("broken.xml", '<View xmlns:android="x"')
+        return why or unlike(it.call("lint", "broken.xml"), 1, b"", "lint: broken.xml:1:1: it is no XML: unclosed token\n")
+
+
 def own_rules() -> str:
     with place() as it:
         it.put("own.py", OWN)
@@ -177,5 +211,5 @@ def wrong_scripts() -> str:
 
 def checks() -> Checks:
     yield from named("the lint", (
-        finds, measures_texts, lays_out_a_matrix, takes_apps, own_rules, wrong_scripts,
+        finds, measures_texts, lays_out_a_matrix, takes_apps, finds_broken_sources, own_rules, wrong_scripts,
     ))

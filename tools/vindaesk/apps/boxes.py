@@ -41,6 +41,10 @@ class Box(NamedTuple):
         return self.padding[1] + self.padding[3]
 
 
+# the reason of a note on a size that is missing
+NO_SIZE = "it has no %s: wrap_content here; Android refuses it"
+
+
 def put_sizes(draft: Draft) -> None:
     """Width and height. Android refuses a view without them, except in a table or a grid."""
     for name in SIZES:
@@ -50,7 +54,7 @@ def put_sizes(draft: Draft) -> None:
         is_wide = draft.parent == "TableLayout" and name == "layout_width"
         draft.put(name, whole(MATCH if is_wide else WRAP))
         if draft.parent not in (*TABLE_PARENTS, "GridLayout") and draft.view.parent is not None:
-            draft.record.approximate("", "it has no %s: wrap_content here; Android refuses it" % name, Effect.BOUNDS)
+            draft.record.approximate("", NO_SIZE % name, Effect.BOUNDS)
 
 
 def is_too_new(draft: Draft, name: str) -> bool:

@@ -24,6 +24,8 @@ MAX_MARGIN = 1048575
 MAX_WEIGHT = 65535
 MAX_TEXT = 32767
 SIZES = ("layout_width", "layout_height")
+# the reason of a note on a value of another type
+UNFIT = "its value is of a type that it cannot have"
 
 
 @dataclass
@@ -184,7 +186,7 @@ class Draft:
     def unfit(self, name: str, effect: Effect = Effect.BOUNDS) -> None:
         """An attribute has a value of another type."""
         key = name if ":" in name else "android:" + name
-        self.record.leave_out(key, "its value is of a type that it cannot have", effect)
+        self.record.leave_out(key, UNFIT, effect)
 
     def number(self, name: str, words: Dict[str, int], effect: Effect = Effect.BOUNDS) -> Optional[int]:
         """A whole number, or words that mean one."""

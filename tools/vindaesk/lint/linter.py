@@ -18,8 +18,6 @@ from .seen import Seen
 from .subjects import Subject
 
 # what is added where bounds may be others on a device
-NOT_EXACT = "; its bounds are not exact"
-
 NOT_EXACT = " (its bounds are not exact)"
 
 
@@ -77,6 +75,7 @@ def found_in(subject: Subject, configurations: Sequence[Configuration], chosen: 
                 it.view.known_source = laid.sources.get(it.view.number, it.view.known_source)
             if cycles.NAME in chosen:
                 add(known, cycles.found_in(laid, subject), laid.name)
+            add(known, (it for it in laid.broken if it.rule in chosen), laid.name)
             if laid.page:
                 add(known, findings_of(laid.page, chosen, subject.file), laid.name)
     return sorted(known.values(), key=lambda it: it.number)

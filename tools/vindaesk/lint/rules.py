@@ -1,13 +1,13 @@
 """The rules of `tools/lint`, in the order in which pages list them: each module adds its own to the registry."""
 from . import (
-    constraint_rules, cycles, direction_rules, length_rules, picture_rules, placement_rules, structure_rules, text_rules,
-    touch_rules,
+    constraint_rules, cycles, direction_rules, length_rules, picture_rules, placement_rules, source_rules, structure_rules,
+    text_rules, touch_rules,
 )
 from .registry import RULES, Rule, Severity, rule
 
 MODULES = (
     placement_rules, text_rules, touch_rules, picture_rules, structure_rules, constraint_rules, cycles, direction_rules,
-    length_rules,
+    length_rules, source_rules,
 )
 __all__ = ["MODULES", "RULES", "Rule", "Severity", "rule"]
 

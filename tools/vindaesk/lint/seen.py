@@ -61,5 +61,5 @@ class Seen(NamedTuple):
         return found
 
     def name(self) -> str:
-        """Number, class, id and text of the view, as messages have them."""
-        return placement.title(self.view, MOST_TEXT)
+        """Number, element, id and text of the view, as messages have them."""
+        return placement.title(self.view, MOST_TEXT, self.element)

@@ -3,7 +3,7 @@ after the other."""
 import contextlib
 import os
 import tempfile
-from typing import Dict, Iterator, List, NamedTuple, Optional
+from typing import Dict, Iterator, List, NamedTuple, Optional, Sequence
 
 from ..common import files
 from ..common.failures import WRONG, Failure
@@ -14,6 +14,7 @@ from ..views import placement, screens
 from ..views.facts import Place, Source
 from ..views.screens import Screen
 from .asking import Run
+from .findings import Finding
 from .matrix import Configuration, width_in_dp
 from .page import Page
 
@@ -22,12 +23,14 @@ CYCLE = 18
 
 class Laid(NamedTuple):
     """A subject in a configuration: the page, none where the tree was refused; the name of the configuration; what was
-    refused for a cycle, by the number of its line; and the sources of views that are known without lines."""
+    refused for a cycle, by the number of its line; the sources of views that are known without lines; and what is broken
+    in sources."""
 
     page: Optional[Page]
     name: str
     cycles: Dict[int, Refusal]
     sources: Dict[int, Source]
+    broken: Sequence[Finding] = ()
 
 
 class Subject:

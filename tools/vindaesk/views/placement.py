@@ -99,11 +99,12 @@ def quoted(text: str) -> str:
     return '"%s"' % text.translate(ESCAPES)
 
 
-def title(view: View, most: int = MAX_TEXT) -> str:
-    """Number, class, id and text of a view, as messages have them; a text of more characters than some is cut."""
+def title(view: View, most: int = MAX_TEXT, kind: str = "") -> str:
+    """Number, class, or what is given for it, id and text of a view, as messages have them; a text of more characters than
+    some is cut."""
     whole = view.text or ""
     text = quoted(whole if len(whole) <= most else whole[:most] + " ..") if whole else None
-    return " ".join(filter(None, ["v%d" % view.number, view.kind, id_of(view), text]))
+    return " ".join(filter(None, ["v%d" % view.number, kind or view.kind, id_of(view), text]))
 
 
 def seen(views: List[Placed]) -> List[Placed]:
