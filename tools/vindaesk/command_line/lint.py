@@ -95,6 +95,11 @@ def listed(found: Dict[str, Rule]) -> str:
     return "".join(lines)
 
 
+def folder_of(path: str) -> str:
+    """The folder of a file of a baseline, from which its paths start."""
+    return os.path.dirname(os.path.abspath(path))
+
+
 def main(words: Optional[Sequence[str]] = None) -> int:
     parser = reader()
     given = parser.parse_args(words)
@@ -107,13 +112,13 @@ def main(words: Optional[Sequence[str]] = None) -> int:
         parser.error("the following arguments are required: PATH")
     known = baseline.read(given.baseline) if given.baseline else {}
     work = Work(given, configurations(given), wanted, Apps(given.framework or ""))
-    found, status = lint_work.done(work, given.jobs)
+    outcome = lint_work.done(work, given.jobs)
     if given.write_baseline:
-        files.replace(given.write_baseline, baseline.written(found).encode())
-        return status
-    new, gone = baseline.without(found, known)
+        files.replace(given.write_baseline, baseline.written(outcome.found, folder_of(given.write_baseline)).encode())
+        return outcome.status
+    new, gone = baseline.without(outcome.found, known, folder_of(given.baseline or ""))
     if gone:
         what = "%d finding%s of %s %s there no more" % (gone, "s"[gone == 1 :], given.baseline, "is" if gone == 1 else "are")
         messages.say(what + "; --write-baseline writes it anew")
-    files.write("-", formats.FORMATS[given.format](new, wanted).encode("utf-8", "replace"))
-    return status or (failures.WRONG if new else 0)
+    files.write("-", formats.FORMATS[given.format](new, wanted, outcome.failed).encode("utf-8", "replace"))
+    return outcome.status or (failures.WRONG if new else 0)

@@ -17,11 +17,13 @@ from .lint_paths import Apps, Unit
 
 
 class Outcome(NamedTuple):
-    """How a unit ended: what was found, the status, and what was said on standard error."""
+    """How a unit ended: what was found, the status, what was said on standard error, and why it could not be looked at, or
+    which of its lines were refused."""
 
     found: List[Finding]
     status: int
     said: str = ""
+    failed: Tuple[str, ...] = ()
 
 
 class Work(NamedTuple):
@@ -36,18 +38,21 @@ class Work(NamedTuple):
         """Looks at a unit. What cannot be looked at stops nothing else."""
         found: List[Finding] = []
         status = 0
+        failed: List[str] = []
         try:
             if isinstance(unit, Failure):
                 raise unit
             for it in lint_paths.subjects(unit, self.given, self.apps):
                 found += linter.found_in(it, self.configurations, self.rules)
                 status = status or it.status()
+                failed += it.refusals()
         except Failure as failure:
             if failure.status not in (failures.WRONG, failures.NOT_RUN):
                 raise
-            messages.say(in_words(unit, str(failure)))
+            failed.append(in_words(unit, str(failure)))
+            messages.say(failed[-1])
             status = failure.status
-        return Outcome(found, status)
+        return Outcome(found, status, failed=tuple(failed))
 
     def in_silence(self, unit: Union[Unit, Failure]) -> Outcome:
         """The same, with what is said kept."""
@@ -56,8 +61,9 @@ class Work(NamedTuple):
             outcome = self.look_at(unit)
             return outcome._replace(said=sys.stderr.getvalue())
         except Failure as failure:
-            messages.say(in_words(unit, str(failure)))
-            return Outcome([], failure.status, sys.stderr.getvalue())
+            why = in_words(unit, str(failure))
+            messages.say(why)
+            return Outcome([], failure.status, sys.stderr.getvalue(), (why,))
         finally:
             sys.stderr = before
 
@@ -66,6 +72,11 @@ def in_words(unit: Union[Unit, Failure], why: str) -> str:
     """Why a unit cannot be looked at, with its path before it."""
     path = files.named(unit.path) if isinstance(unit, Unit) else ""
     return why if why.startswith(path) else "%s: %s" % (path, why)
+
+
+def lost(why: str) -> Outcome:
+    """How a unit ended whose process did."""
+    return Outcome([], failures.WRONG, why + "\n", (why,))
 
 
 def outcomes(work: Work, units: Sequence[Union[Unit, Failure]], jobs: int) -> Generator[Outcome, None, None]:
@@ -82,23 +93,25 @@ def outcomes(work: Work, units: Sequence[Union[Unit, Failure]], jobs: int) -> Ge
     pool = Pool(lambda at: work.in_silence(units[at]), min(jobs, len(units)), math.inf)
     with contextlib.closing(pool.results(range(len(units)))) as results:
         for place, it in results:
-            is_lost = isinstance(it, Lost)
-            waiting[place] = Outcome([], failures.WRONG, in_words(units[place], it.why) + "\n") if is_lost else it
+            waiting[place] = lost(in_words(units[place], it.why)) if isinstance(it, Lost) else it
             while ended in waiting:
                 yield waiting.pop(ended)
                 ended += 1
 
 
-def done(work: Work, jobs: int) -> Tuple[List[Finding], int]:
-    """All that is found, and the status: that of the only unit, else 1 where one has another than 0."""
+def done(work: Work, jobs: int) -> Outcome:
+    """All that is found and failed, and the status: that of the only unit, else 1 where one has another than 0."""
     units = list(lint_paths.units(work.given, work.apps))
     found: List[Finding] = []
+    failed: List[str] = []
     statuses = []
     for it in progress.counted(outcomes(work, units, jobs), len(units), "layouts"):
         if it.said:
             progress.clear()
             sys.stderr.write(it.said)
         found += it.found
+        failed += it.failed
         statuses.append(it.status)
     work.apps.close()
-    return found, statuses[0] if len(statuses) == 1 else failures.WRONG if any(statuses) else 0
+    status = statuses[0] if len(statuses) == 1 else failures.WRONG if any(statuses) else 0
+    return Outcome(found, status, failed=tuple(failed))

@@ -1,6 +1,9 @@
 """A baseline: the findings that a project has already, so that only new ones are reported. Each entry is a rule, a file and
-a view by a name that edits elsewhere do not change, with how often it is found; lines and numbers are in none."""
+a view by a name that edits elsewhere do not change, with how often it is found; lines and numbers are in none. Paths start
+from the folder of the baseline."""
 import json
+import os
+import posixpath
 from typing import Dict, List, Sequence, Tuple
 
 from ..common import files
@@ -14,23 +17,31 @@ MAX_FILE = 1 << 26
 Key = Tuple[str, str, str]
 
 
-def key_of(it: Finding) -> Key:
-    """What makes a finding the same in another run."""
-    return it.place.file, it.rule, it.stable_name
+def path_from(file: str, folder: str) -> str:
+    """The path of a file from a folder, with `/`, however it was typed. Standard input is no file."""
+    if file == files.named("-"):
+        return file
+    return os.path.relpath(file, folder).replace(os.sep, "/")
 
 
-def counted(found: Sequence[Finding]) -> Dict[Key, int]:
+def key_of(it: Finding, folder: str = "") -> Key:
+    """What makes a finding the same in another run; the file from a folder, or from the one where the tool runs."""
+    return path_from(it.place.file, folder or os.curdir), it.rule, it.stable_name
+
+
+def counted(found: Sequence[Finding], folder: str) -> Dict[Key, int]:
     """How often each is found."""
     counts: Dict[Key, int] = {}
     for it in found:
-        counts[key_of(it)] = counts.get(key_of(it), 0) + 1
+        key = key_of(it, folder)
+        counts[key] = counts.get(key, 0) + 1
     return counts
 
 
-def written(found: Sequence[Finding]) -> str:
-    """The file of a baseline."""
+def written(found: Sequence[Finding], folder: str) -> str:
+    """The file of a baseline in a folder."""
     rows = [{"file": file, "rule": rule, "view": view, "count": count}
-            for (file, rule, view), count in sorted(counted(found).items())]
+            for (file, rule, view), count in sorted(counted(found, folder).items())]
     lines = ",\n".join("  " + json.dumps(it, ensure_ascii=False) for it in rows)
     return '{"version": %d, "findings": [\n%s\n]}\n' % (VERSION, lines)
 
@@ -43,7 +54,7 @@ def row_of(row: object) -> Tuple[Key, int]:
     count = row.get("count")
     if not all(isinstance(it, str) for it in texts) or not isinstance(count, int) or count < 1:
         raise ValueError("an entry has file, rule and view, and a count of 1 or more: %s" % json.dumps(row)[:80])
-    return (str(texts[0]), str(texts[1]), str(texts[2])), count
+    return (posixpath.normpath(str(texts[0])), str(texts[1]), str(texts[2])), count
 
 
 def read(path: str) -> Dict[Key, int]:
@@ -57,13 +68,14 @@ def read(path: str) -> Dict[Key, int]:
         raise Failure("%s is no baseline: %s; --write-baseline writes one" % (path, error), NOT_RUN)
 
 
-def without(found: Sequence[Finding], known: Dict[Key, int]) -> Tuple[List[Finding], int]:
-    """The findings that a baseline does not have, and how many of its own are found no more."""
+def without(found: Sequence[Finding], known: Dict[Key, int], folder: str) -> Tuple[List[Finding], int]:
+    """The findings that a baseline in a folder does not have, and how many of its own are found no more."""
     left = dict(known)
     new: List[Finding] = []
     for it in found:
-        if left.get(key_of(it), 0):
-            left[key_of(it)] -= 1
+        key = key_of(it, folder)
+        if left.get(key, 0):
+            left[key] -= 1
         else:
             new.append(it)
     return new, sum(left.values())

@@ -13,7 +13,8 @@ JSON_VERSION = 1
 LEVELS = {Severity.ERROR: "error", Severity.WARNING: "warning", Severity.NOTE: "notice"}
 
 Rules = Dict[str, Rule]
-Written = Callable[[Sequence[Finding], Rules], str]
+# what is found by which rules, and why something could not be looked at, a sentence each
+Written = Callable[[Sequence[Finding], Rules, Sequence[str]], str]
 
 
 def line_of(it: Finding) -> str:
@@ -22,8 +23,8 @@ def line_of(it: Finding) -> str:
     return messages.printable("%s: %s %s: %s%s" % (it.place, it.severity.word, it.rule, it.message, around))
 
 
-def text(found: Sequence[Finding], rules: Rules) -> str:
-    """A line for each."""
+def text(found: Sequence[Finding], rules: Rules, failed: Sequence[str] = ()) -> str:
+    """A line for each; what failed is on standard error."""
     return "".join(line_of(it) + "\n" for it in found)
 
 
@@ -41,29 +42,32 @@ def record(it: Finding) -> Dict[str, object]:
     return made
 
 
-def as_json(found: Sequence[Finding], rules: Rules) -> str:
+def as_json(found: Sequence[Finding], rules: Rules, failed: Sequence[str] = ()) -> str:
     """One object, a finding a line."""
     lines = ",\n".join("  " + json.dumps(record(it), ensure_ascii=False) for it in found)
-    return '{"version": %d, "findings": [\n%s\n]}\n' % (JSON_VERSION, lines)
+    why = json.dumps(list(failed), ensure_ascii=False)
+    return '{"version": %d, "failures": %s, "findings": [\n%s\n]}\n' % (JSON_VERSION, why, lines)
 
 
-def commands(found: Sequence[Finding], rules: Rules) -> str:
+def commands(found: Sequence[Finding], rules: Rules, failed: Sequence[str] = ()) -> str:
     """A workflow command of GitHub for each."""
-    return "".join(github.command(LEVELS[it.severity], it.place, it.rule, it.message) + "\n" for it in found)
+    lines = [github.command("error", None, "lint", it) for it in failed]
+    lines += [github.command(LEVELS[it.severity], it.place, it.rule, it.message) for it in found]
+    return "".join(it + "\n" for it in lines)
 
 
-def as_sarif(found: Sequence[Finding], rules: Rules) -> str:
+def as_sarif(found: Sequence[Finding], rules: Rules, failed: Sequence[str] = ()) -> str:
     """A log of SARIF."""
     from . import sarif
 
-    return sarif.written(found, rules)
+    return sarif.written(found, rules, failed)
 
 
-def as_junit(found: Sequence[Finding], rules: Rules) -> str:
+def as_junit(found: Sequence[Finding], rules: Rules, failed: Sequence[str] = ()) -> str:
     """A report in the form of JUnit."""
     from . import junit
 
-    return junit.written(found, rules)
+    return junit.written(found, rules, failed)
 
 
 # those of which a module of their own is loaded where they are asked for

@@ -4,6 +4,7 @@ The escapes are those of GitHub's toolkit (`packages/core/src/command.ts`): `%`,
 too in a property.
 """
 import os
+from typing import Optional
 
 from ..common.messages import printable
 from ..views.facts import Place
@@ -19,8 +20,9 @@ def escaped(text: str, marks: "tuple[str, ...]" = IN_MESSAGE) -> str:
     return text
 
 
-def command(level: str, place: Place, title: str, message: str) -> str:
-    """The command for a finding; the level is `error`, `warning` or `notice`."""
-    properties = [("file", os.path.normpath(place.file)), ("line", place.line), ("col", place.column), ("title", title)]
+def command(level: str, place: Optional[Place], title: str, message: str) -> str:
+    """The command for a finding, or for what has no place; the level is `error`, `warning` or `notice`."""
+    where = [("file", os.path.normpath(place.file)), ("line", place.line), ("col", place.column)] if place else []
+    properties = [*where, ("title", title)]
     written = ["%s=%s" % (name, escaped(str(it), IN_PROPERTY)) for name, it in properties if it]
     return "::%s %s::%s" % (level, ",".join(written), escaped(printable(message)))

@@ -3,6 +3,7 @@ import re
 from typing import Dict, List, Sequence
 from xml.etree.ElementTree import Element, SubElement, tostring
 
+from ..common.messages import printable
 from .findings import Finding
 from .formats import Rules, line_of
 
@@ -24,9 +25,15 @@ def case(suite: Element, rule: str, file: str, found: List[Finding]) -> None:
         failure.text = plain("".join(line_of(it) + "\n" for it in found))
 
 
-def written(found: Sequence[Finding], rules: Rules) -> str:
-    """A report in the form of JUnit: each rule with each file in which it finds something is a test that fails, and each
-    rule that finds nothing one that passes."""
+def failed_case(suite: Element, number: int, why: str) -> None:
+    """Adds the error of something that could not be looked at."""
+    made = SubElement(suite, "testcase", classname="lint", name="failure %d" % number, time="0")
+    SubElement(made, "error", message=plain(printable(why)))
+
+
+def written(found: Sequence[Finding], rules: Rules, failed: Sequence[str] = ()) -> str:
+    """A report in the form of JUnit: each rule with each file in which it finds something is a test that fails, each rule
+    that finds nothing one that passes, and what could not be looked at an error."""
     by_rule: Dict[str, Dict[str, List[Finding]]] = {name: {} for name in rules}
     for it in found:
         by_rule[it.rule].setdefault(it.place.file, []).append(it)
@@ -36,7 +43,9 @@ def written(found: Sequence[Finding], rules: Rules) -> str:
             case(suite, name, file, at)
         if not by_file:
             case(suite, name, "", [])
-    failed = sum(map(len, by_rule.values()))
-    counts = {"tests": len(suite), "failures": failed, "errors": 0, "skipped": 0, "time": 0}
-    suite.attrib.update({name: str(count) for name, count in counts.items()})
+    for number, why in enumerate(failed, 1):
+        failed_case(suite, number, why)
+    count = sum(map(len, by_rule.values()))
+    counts = {"tests": len(suite), "failures": count, "errors": len(failed), "skipped": 0, "time": 0}
+    suite.attrib.update({name: str(at) for name, at in counts.items()})
     return '<?xml version="1.0" encoding="utf-8"?>\n' + tostring(suite, encoding="unicode") + "\n"

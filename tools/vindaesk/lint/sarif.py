@@ -70,11 +70,20 @@ def rule(it: Rule) -> Record:
     return made
 
 
-def written(found: Sequence[Finding], rules: Dict[str, Rule]) -> str:
+def invocation(failed: Sequence[str]) -> Record:
+    """How the run ended (3.20), with what could not be looked at (3.58)."""
+    made: Record = {"executionSuccessful": not failed}
+    if failed:
+        made["toolExecutionNotifications"] = [{"level": "error", "message": {"text": it}} for it in failed]
+    return made
+
+
+def written(found: Sequence[Finding], rules: Dict[str, Rule], failed: Sequence[str] = ()) -> str:
     """The whole log (3.13)."""
     places = {name: number for number, name in enumerate(rules)}
     results: List[Record] = [result(it, places[it.rule]) for it in found]
     driver: Record = {"name": "vindaesk-lint", "version": version().rpartition(" ")[2],
                       "rules": [rule(it) for it in rules.values()]}
-    run: Record = {"tool": {"driver": driver}, "columnKind": "unicodeCodePoints", "results": results}
+    run: Record = {"tool": {"driver": driver}, "columnKind": "unicodeCodePoints", "results": results,
+                   "invocations": [invocation(failed)]}
     return json.dumps({"$schema": SCHEMA, "version": "2.1.0", "runs": [run]}, indent=1, ensure_ascii=False) + "\n"

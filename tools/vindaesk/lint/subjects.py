@@ -51,6 +51,10 @@ class Subject:
         """The status by what was refused."""
         return 0
 
+    def refusals(self) -> List[str]:
+        """The lines that were refused, and why, a sentence each."""
+        return []
+
 
 def with_direction(parts: List[Part], direction: str) -> List[Part]:
     """The parts of a script with a line that sets the direction of the root, right after the one that makes it."""
@@ -106,6 +110,10 @@ class ScriptSubject(Subject):
     def status(self) -> int:
         """1 where a line was refused."""
         return self.refused.end()
+
+    def refusals(self) -> List[str]:
+        """The lines that were refused."""
+        return [self.refused.sentence(number, it) for (number, _), it in self.refused.known.items()]
 
 
 class CompiledSubject(Subject):
