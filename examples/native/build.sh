@@ -3,6 +3,10 @@
 # a release, set PKG_CONFIG_PATH to its folder lib/pkgconfig.
 set -e
 top=$(cd "$(dirname "$0")/../.." && pwd)
+pkg-config --exists vindaesk || {
+    echo "build.sh: pkg-config finds no vindaesk: set PKG_CONFIG_PATH to the folder lib/pkgconfig of a release" >&2
+    exit 1
+}
 lib=$(pkg-config --variable=libdir vindaesk)
 include=$(pkg-config --variable=includedir vindaesk)
 

@@ -150,11 +150,24 @@ def offered(text: Text, number: int, place: int) -> Tuple[str, List[Offer]]:
     if quote:
         last = LAST_PART.search(value)
         begun = last[0].lstrip() if last and not value.startswith(("@", "?")) else value
-        return begun, values_of(text, attribute)
+        kind = re.match(r"@(\w+)/", begun)
+        offers = values_of(text, attribute)
+        return begun, [it for it in offers if it.label.startswith(kind[0])] if kind else offers
     if not blank:
-        return element, [Offer(it, CLASS) for it in CLASSES.split(" ")]
+        return element, [Offer(it, CLASS) for it in classes_of(text)]
     given = set(re.findall(r"([\w.:-]+)\s*=", found[3]))
     return attribute, [Offer(it, PROPERTY, detail) for it, detail in attributes_of() if it not in given]
+
+
+def classes_of(text: Text) -> List[str]:
+    """The classes of elements: those of the program, and of an app's layout all that can be laid out."""
+    if Resources.of(text.path) is None:
+        return CLASSES.split(" ")
+    # loaded where there is an app, since that takes as long as a small script
+    from ..apps import rules
+    from ..apps.widget_table import Table
+
+    return list(Table(list(rules.RULES), []).rows)
 
 
 def attributes_of() -> List[Tuple[str, str]]:
@@ -172,6 +185,8 @@ def values_of(text: Text, attribute: str) -> List[Offer]:
     listed = there.names() if there else [name for it in known.listed.names for name in [known.name(it)] if name]
     if name == "id":
         return [Offer("@+id/", REFERENCE)]
+    if attribute == "style":
+        listed = [it for it in listed if it.startswith("@style/")]
     return [*(Offer(it, VALUE) for it in words), *(Offer(it, REFERENCE) for it in listed)]
 
 

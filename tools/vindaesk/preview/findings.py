@@ -2,13 +2,24 @@
 from typing import Dict, List
 
 from ..lint import linter, rules
+from ..lint.app_subjects import ScreenSubject
+from ..lint.findings import Finding
+from ..lint.matrix import Configuration
+from ..lint.registry import Severity
 from ..scripts.replies import Refused
-from ..scripts.script import Script
 from ..views.screens import Screen
+from .subjects import Layout
 
 
-def findings_of(made: Script) -> List[Dict[str, object]]:
+def found_in(layout: Layout) -> List[Finding]:
+    """The findings that lint reports without options. A layout of an app is looked at with the elements of its source."""
+    chosen = {name: it for name, it in rules.RULES.items() if it.severity >= Severity.WARNING}
+    if layout.screen:
+        return linter.found_in(ScreenSubject(layout.screen), [Configuration(direction=layout.direction)], chosen)
+    shown, _ = linter.laid_out(layout.script, Screen(), Refused(layout.script, is_silent=True))
+    return list(linter.findings_of(shown, chosen))
+
+
+def findings_of(layout: Layout) -> List[Dict[str, object]]:
     """The findings, each with the number of its view, the rule and the sentence."""
-    shown, _ = linter.laid_out(made, Screen(), Refused(made, is_silent=True))
-    return [{"view": it.number, "rule": it.rule, "sentence": it.sentence}
-            for it in linter.findings_of(shown, dict(rules.RULES))]
+    return [{"view": it.number, "rule": it.rule, "sentence": it.sentence} for it in found_in(layout)]

@@ -159,7 +159,7 @@ class Preview:
             layout = replace(layout, script=drawing.up_to(layout.script, frame))
             shown.layout, shown.drawn = layout, drawing.drawn(layout.script)
             shown.spots = spots_of(layout, shown.drawn)
-            shown.messages = ["%s:%d:%d: %s: %s" % it for it in shown.drawn.refused]
+            shown.messages = layout.refused(shown.drawn.refused)
             shown.messages += [shown.drawn.why] if shown.drawn.why else []
         except Exception as error:
             shown.messages = said(error).splitlines()
@@ -186,7 +186,7 @@ class Preview:
         if shown is None or shown.layout is None or shown.findings is not None or not shown.drawn.is_good:
             return
         try:
-            found, why = findings.findings_of(shown.layout.script), []
+            found, why = findings.findings_of(shown.layout), []
         except Exception as error:
             found, why = [], said(error).splitlines()
         with self.changed:

@@ -12,6 +12,7 @@ from ..apps.app import Request
 from ..common import files
 from ..common.failures import NOT_RUN, WRONG, Failure
 from ..layouts import compiler, source_reader
+from ..lint import refused_lines
 from ..resources.devices import device
 from ..scripts import names, script
 from ..scripts.grammar import NAME
@@ -33,6 +34,8 @@ STANDARD = (
 )
 AS_IT_IS = Configuration("as-it-is")
 COMPILED = source_reader.COMPILED
+# an element of a layout's source that the program refuses
+REFUSED_ELEMENT = re.compile(r"[^:]*: (.*?) in line ([0-9]+): (.*)", re.DOTALL)
 LAYOUT_FOLDER = re.compile(r"layout(-.+)?")
 
 
@@ -50,10 +53,29 @@ class Place:
 
 @dataclass
 class Layout:
-    """A layout in a configuration: its script, and the places of its views by their numbers."""
+    """A layout in a configuration: its script, and the places of its views by their numbers; of an app the layout as it
+    was made, and the direction that the configuration adds."""
 
     script: Script
     places: Dict[int, Place] = field(default_factory=dict)
+    screen: Optional[app.Screen] = None
+    direction: str = ""
+
+    def refused(self, found: Sequence[refused_lines.Finding]) -> List[str]:
+        """What the program refuses, with its places: of a layout's source those of its elements alone, since no user has
+        written the lines that lay it out."""
+        if self.places and not self.screen:
+            return [text for text in map(self.refused_element, found) if text]
+        return ["%s:%d:%d: %s: %s" % it for it in found]
+
+    def refused_element(self, found: refused_lines.Finding) -> str:
+        """The place in the source of an element that is refused, and why; nothing of a line that follows from that."""
+        said = REFUSED_ELEMENT.fullmatch(found.why)
+        if not said:
+            return ""
+        lines = {it.line: it for it in self.places.values() if it.element == said[1].split(" ")[0]}
+        at = lines.get(int(said[2]))
+        return "%s:%s:%d: %s: %s: %s" % (found.file, said[2], at.column if at else 1, found.title, said[1], said[3])
 
 
 class Subject:
@@ -239,7 +261,7 @@ class AppSubject(Subject):
         if wanted.direction:
             lines.insert(-1, b"direction v1 " + wanted.direction.encode())
         ids = kept_ids(Names(writer.list_of(made.ids), names.LIST), folder)
-        return Layout(Script(lines, folder, ids=ids), self.places_of(made.records))
+        return Layout(Script(lines, folder, ids=ids), self.places_of(made.records), made, wanted.direction or "")
 
     def places_of(self, records: Sequence[report.Record]) -> Dict[int, Place]:
         """Where the elements of views are, by the report of the layout."""

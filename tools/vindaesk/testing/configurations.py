@@ -58,8 +58,9 @@ class Configuration(NamedTuple):
 
     def failure(self, why: str) -> Failure:
         """What is wrong with it."""
+        place = "%s:%d: " % (self.file, self.line) if self.file else ""
         named = self.name + ": " if self.name else ""
-        return Failure("%s:%d: %s%s" % (self.file, self.line, named, why), NOT_RUN)
+        return Failure(place + named + why, NOT_RUN)
 
 
 KEYS = tuple(it for it in Configuration._fields if it not in ("name", "file", "line"))
