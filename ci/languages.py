@@ -200,6 +200,18 @@ def offers() -> str:
                 labels = [one["label"] for one in editor.at("completion", uri, number, len(text))]
                 if label not in labels:
                     return "%r: %s" % (text, labels[:5])
+            return offers_in_a_project(it, editor)
+
+
+def offers_in_a_project(it: Place, editor: Client) -> str:
+    """In a project all classes that can be laid out, and resources of the kind that is begun."""
+    shutil.copytree(os.path.join(EXAMPLES, "trips", "res"), os.path.join(it.folder, "res"))
+    begun = ('<Bu', '<View android:text="@string/', '<View style="@style/')
+    for number, (text, wanted) in enumerate(zip(begun, ("Button", "@string/", "@style/"))):
+        uri = editor.open(os.path.join(it.folder, "res/layout/l%d.xml" % number), text)
+        labels = [one["label"] for one in editor.at("completion", uri, 0, len(text))]
+        if not any(one.startswith(wanted) for one in labels) or number and not all(one.startswith(wanted) for one in labels):
+            return "%r: %s" % (text, labels[:5])
     return ""
 
 

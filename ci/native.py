@@ -298,6 +298,18 @@ def flat() -> str:
     return "" if after <= before + GROWTH else "%d kB after a tenth of the calls, %d kB at the end" % (before, after)
 
 
+def wrong_libraries() -> str:
+    """A variable that names no library is said by a tool, with the status 126."""
+    script = os.path.join(EXAMPLES, "card.script")
+    for named in ("/no/library", script):
+        ended = subprocess.run([os.path.join(TOP, "tools", "screenshot"), script, os.devnull], stdout=subprocess.DEVNULL,
+                               stderr=subprocess.PIPE, env={**os.environ, "VINDAESK_LIBRARY": named})
+        said = ended.stderr.decode()
+        if ended.returncode != 126 or "the library %s can't be loaded" % named not in said or said.count("\n") != 1:
+            return "%s: status %d, %r" % (named, ended.returncode, said)
+    return ""
+
+
 def java() -> str:
     """The examples in Java."""
     home = os.path.dirname(os.path.dirname(os.path.realpath(need("javac"))))
@@ -326,6 +338,7 @@ def checks() -> Checks:
         yield "native/stored cases", stored_cases
     yield "native/several threads", threads
     yield "native/the example in C", example
+    yield "native/a wrong library", wrong_libraries
     yield "native/random calls", partial(calls, ["fuzz", str(FUZZ), "1", *inputs()], r"status 9: [1-9]")
     yield "native/each request for memory refused", refused_memory
     yield "native/the memory of a process", flat

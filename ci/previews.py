@@ -190,6 +190,31 @@ def configurations() -> str:
     return ""
 
 
+def findings_are_those_of_lint() -> str:
+    """Of a layout of an app as many as lint has, and of these rules; an element that says so is passed over."""
+    with place() as it:
+        shutil.copytree(os.path.join(EXAMPLES, "trips", "res"), os.path.join(it.folder, "app", "res"))
+        home = "app/res/layout/home.xml"
+        rules = sorted(re.findall(r": warning ([\w-]+): (v[0-9]+)", it.call("lint", home)[1].decode()))
+        with previewed(it, home) as page:
+            page.row(lambda row: row["findings"] is not None, "phone")
+            found = sorted((one["rule"], "v%d" % one["view"]) for one in page.state("phone")["found"])
+    return "" if found == rules and rules else "lint has %s, the preview %s" % (rules, found)
+
+
+def places_are_those_of_the_source() -> str:
+    """A class that the program has not is at its element; a night without values has no empty place."""
+    with place() as it:
+        it.put("a.xml", SOURCE.replace("<TextView", "<Button"))
+        it.put("a.script", TOUCHED)
+        with previewed(it, "a.xml") as page:
+            said = page.row(lambda row: row["messages"])["messages"][0]
+        with previewed(it, "a.script") as page:
+            night = page.row(lambda row: row["messages"], "night")["messages"][0]
+    is_right = said.startswith("a.xml:5:5: 23 UnknownClass: Button: ") or "a.xml:5:5: 23 UnknownClass: Button: " in said
+    return "" if is_right and night.startswith("night: ") else "it says %r and %r" % (said, night)
+
+
 def changes_come_in_time() -> str:
     """From a saved file to the picture of 200 views, of tries the quickest, since others use the machine too; and files are
     looked at often enough for that."""
@@ -516,15 +541,28 @@ def follows_a_file(browser: chromium.Browser, it: Place) -> str:
     return ""
 
 
+def stays(browser: chromium.Browser) -> None:
+    """Waits until the picture stays where it is: messages that come move it."""
+    before: List[float] = []
+    for _ in range(100):
+        now = list(place_in(browser, 0, 0))
+        if now == before:
+            return
+        before = now
+        time.sleep(0.3)
+
+
 def is_touched(browser: chromium.Browser) -> str:
     """A click and a drag where the mouse touches."""
     browser.value("document.querySelector('#mode [value=touch]').click()")
+    stays(browser)
     browser.click(*place_in(browser, 80, 30))
     browser.until("[...document.querySelectorAll('#log li')].some(it => it.textContent.startsWith('up 0')) && live")
     said = texts(browser, "#log li")
     wanted = ("up 0 \u2192 v4 TextView \u201cSend\u201d took it", "down 0 80 30 \u2192 v4 TextView \u201cSend\u201d took it")
     if not all(any(line.startswith(it) for line in said) for it in wanted):
         return "of a click it shows %s" % said
+    stays(browser)
     browser.drag([place_in(browser, 80, y) for y in (100, 90, 70, 40)])
     browser.until("live.views[1].scroll === 52")
     browser.value("document.getElementById('reset').click()")
@@ -604,7 +642,8 @@ def looks(browser: chromium.Browser, is_dark: bool) -> str:
 
 def checks() -> Checks:
     yield from named("the preview", (
-        pictures_are_those_of_other_tools, configurations, changes_come_in_time, broken_files_keep_the_picture,
+        pictures_are_those_of_other_tools, configurations, findings_are_those_of_lint, places_are_those_of_the_source,
+        changes_come_in_time, broken_files_keep_the_picture,
         touches_are_answered, writes_back, refuses_to_write, hostile_requests, ends_cleanly, wrong_calls,
     ))
     yield "browser: shows a preview", shows
