@@ -176,7 +176,7 @@ def lint_names_the_source() -> str:
 
 def takes_configurations() -> str:
     with place() as it:
-        calls = {"": "BOOK", "de": "BUCHEN", "de-night-land": "BUCHEN"}
+        calls = {"": "BOOK", "de": "BUCHEN", "de-land-night": "BUCHEN"}
         for config, text in calls.items():
             found = it.call("app", TRIPS, "home", "--tree", "--config", config and config + "-mdpi")
             if '"%s"' % text not in found[1].decode():
@@ -222,7 +222,7 @@ def refuses_wrong_calls() -> str:
             (TRIPS, "hom"): "the app has no layout 'hom'; did you mean 'home'?",
             (TRIPS, "home", "--config", "lnad"): "lnad",
             (TRIPS, "home", "--theme", "None"): "there is no theme 'None'",
-            (TRIPS, "home", "--state", "pressed,foo"): "there is no state 'foo'; the states are active, ",
+            (TRIPS, "home", "--state", "pressed,foo"): "there is no state 'foo'; the states are accelerated, ",
             (TRIPS, "home", "--config", "night-de"): "is after one that it has to be before; in Android's order it is 'de-night'",
             (TRIPS, "home", "--config", "land-port"): "is after one that it has to be before; one thing is said twice",
             (TRIPS, "home", "--out", "/proc/x"): "the folder /proc/x cannot be made: ",

@@ -157,9 +157,14 @@ def tries(name: str, it: Tried) -> str:
     return why or ("the example is the same" if right == it.fails else "") or ("it finds %s" % found if found else "")
 
 
+# what is wrong with broken sources, which lints.py tries
+OF_BROKEN = {"wrong-value", "required-size", "missing-resource"}
+
+
 def has_all() -> str:
     """Each rule is tried."""
-    return "" if set(TRIED) == set(rules.RULES) else "in one list alone: %s" % sorted(set(TRIED) ^ set(rules.RULES))
+    tried = set(TRIED) | OF_BROKEN
+    return "" if tried == set(rules.RULES) else "in one list alone: %s" % sorted(tried ^ set(rules.RULES))
 
 
 def checks() -> Checks:
