@@ -302,7 +302,7 @@ def wrong_libraries() -> str:
     """A variable that names no library is said by a tool, with the status 126."""
     script = os.path.join(EXAMPLES, "card.script")
     for named in ("/no/library", script):
-        ended = subprocess.run([os.path.join(TOP, "tools", "screenshot"), script, os.devnull], stdout=subprocess.DEVNULL,
+        ended = subprocess.run([os.path.join(TOP, "tools", "tree"), script], stdout=subprocess.DEVNULL,
                                stderr=subprocess.PIPE, env={**os.environ, "VINDAESK_LIBRARY": named})
         said = ended.stderr.decode()
         if ended.returncode != 126 or "the library %s can't be loaded" % named not in said or said.count("\n") != 1:
