@@ -549,10 +549,12 @@ def shows_long_work() -> str:
         real = os.environ.get("VINDAESK_PROGRAM") or PROGRAM
         slow = it.stand_in("'%s' \"$@\" | while IFS= read -r it; do printf '%%s\\n' \"$it\"; sleep 0.4; done" % real)
         it.put("a.script", RED + "frame\n" * 8)
+        begun = []
         for words in (("tree", "a.script"), ("screenshot", "a.script", "--frames", "made"), ("page", "a.script", "-")):
             mine, theirs = pty.openpty()
-            started = it.start("tools/" + words[0], *words[1:], stderr=theirs, **slow)
+            begun.append((words, mine, it.start("tools/" + words[0], *words[1:], stderr=theirs, **slow)))
             os.close(theirs)
+        for words, mine, started in begun:
             started.communicate(timeout=SECONDS)
             shown = os.read(mine, 4096).decode()
             os.close(mine)
