@@ -28,6 +28,7 @@ import stored
 from running import PROGRAM, TOP, Checks, Skipped, difference, need, run
 from vindaesk.building import library
 from vindaesk.common import files
+from vindaesk.installing import contents
 from vindaesk.program import calls as forms, in_process, native
 from vindaesk.provenance import dist
 
@@ -53,9 +54,9 @@ Waiting = Callable[[bytes, int], Ending]
 
 def shared() -> str:
     """The path of the shared library."""
-    found = native.path()
-    if found is None:
-        raise Skipped(os.path.join(os.path.dirname(PROGRAM), dist.LIBRARY))
+    found = native.path() or contents.beside(PROGRAM, dist.LIBRARY)
+    if not os.path.exists(found):
+        raise Skipped(found)
     return found
 
 

@@ -14,13 +14,16 @@ import sys
 import tempfile
 from typing import Dict, Iterator, List, Optional, Sequence, TextIO, Tuple
 
-from running import PROGRAM, TOP, Checks, Skipped, difference, named, need, run
+from running import PROGRAM as BUILT, TOP, Checks, Skipped, difference, named, need, run
 from vindaesk.command_line import catalogue
 from vindaesk.common.failures import Failure
 from vindaesk.installing import contents, manual, needs, wheel
 from vindaesk.installing.commands import is_known
 from vindaesk.provenance import dist
 from vindaesk.provenance.sources import Listing
+
+# the program that is packed: where dist/ has the same one, that, since the libraries of C are beside it
+PROGRAM = dist.PROGRAM if os.path.dirname(contents.beside(BUILT, dist.LIBRARY)) == dist.FOLDER else BUILT
 
 SECONDS = 600
 DATE = "1700000000"

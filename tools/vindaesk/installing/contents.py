@@ -9,6 +9,7 @@ program and what the tools read in its folder `share`:
     include/, lib/, lib/pkgconfig/        what programs in C are compiled with, in what is no wheel
     share/man/man1/, share/bash-completion/, share/zsh/, share/fish/
 """
+import filecmp
 import gzip
 import io
 import os
@@ -18,6 +19,7 @@ from typing import Dict, Iterable, List
 from ..common import files, places
 from ..common.failures import Failure, NOT_RUN
 from ..common.places import PACKAGE, TOP
+from ..provenance import dist
 from ..provenance.dist import ARCHIVE, LIBRARY as LIBRARY_OF_C
 from . import completions, manual
 from .commands import Command
@@ -104,8 +106,10 @@ def shared(program: str, commit: str) -> Contents:
 
 
 def beside(program: str, name: str) -> str:
-    """The path of a file beside the program."""
-    return os.path.join(os.path.dirname(program), name)
+    """The path of a file that comes with a program: beside it, or in dist/ where that has the same program."""
+    path = os.path.join(os.path.dirname(program), name)
+    is_of_dist = not os.path.exists(path) and os.path.exists(dist.PROGRAM) and filecmp.cmp(program, dist.PROGRAM, shallow=False)
+    return os.path.join(dist.FOLDER, name) if is_of_dist else path
 
 
 def for_c(program: str) -> Contents:
