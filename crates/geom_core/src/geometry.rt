@@ -3,14 +3,14 @@ ghost use Rattle.std.specs.Prelude.{◌≡◌};
 ghost use Rattle.geom_core.specs.Rects.{around_of, hull_of, is_empty, larger_of, meet_of, overlap_of, smaller_of};
 
 /// A width and a height, in pixels.
-#[derive(Clone, Copy, Debug, PartialEq, Eq)]
+#[derive(Clone, Copy, PartialEq, Eq)]
 pub struct Size {
     pub w: i32,
     pub h: i32,
 }
 
 /// The edges of a rectangle, in pixels, in the coordinates of the view's parent. Right and bottom are exclusive.
-#[derive(Clone, Copy, Debug, PartialEq, Eq)]
+#[derive(Clone, Copy, PartialEq, Eq)]
 pub struct Rect {
     pub left: i32,
     pub top: i32,
@@ -19,7 +19,7 @@ pub struct Rect {
 }
 
 /// A width for each of four sides, in pixels: margins, which may be negative, or padding.
-#[derive(Clone, Copy, Debug, PartialEq, Eq)]
+#[derive(Clone, Copy, PartialEq, Eq)]
 pub struct Insets {
     pub left: i32,
     pub top: i32,

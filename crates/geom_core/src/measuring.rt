@@ -5,7 +5,7 @@ ghost use Rattle.geom_core.specs.Spec.{remaining_of, wrap_mode, child_spec_of, d
 use crate::limits::to_size;
 
 /// What the size in a spec means for the view that is measured.
-#[derive(Clone, Copy, Debug, PartialEq, Eq)]
+#[derive(Clone, Copy, PartialEq, Eq)]
 pub enum Mode {
     /// The view may have any size; the size in the spec is a hint.
     Unspecified,
@@ -16,7 +16,7 @@ pub enum Mode {
 }
 
 /// What a parent asks of a child on one axis. The size is in pixels.
-#[derive(Clone, Copy, Debug, PartialEq, Eq)]
+#[derive(Clone, Copy, PartialEq, Eq)]
 pub struct Spec {
     pub mode: Mode,
     pub size: i32,

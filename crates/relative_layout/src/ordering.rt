@@ -34,7 +34,7 @@ pub struct Orders {
 }
 
 /// Why there are no orders.
-#[derive(Debug, Drop)]
+#[derive(Drop)]
 pub enum OrderFault {
     /// Children that reach themselves by the rules of an axis, in list order.
     Cycle { down: bool, members: Vec<u32> },

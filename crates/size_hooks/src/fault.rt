@@ -1,5 +1,5 @@
 //! Why a hook is not armed.
 
 /// As many hooks are armed as may be.
-#[derive(Clone, Copy, Debug)]
+#[derive(Clone, Copy)]
 pub struct HookFault;

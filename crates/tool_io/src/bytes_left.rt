@@ -3,7 +3,7 @@ ghost use Rattle.std.specs.Prelude.{◌≡◌, ◌<◌, ◌≤◌, [], ◌++◌,
 use std::marker::Model;
 
 /// Bytes in memory that calls take from the front.
-#[derive(Debug, Drop)]
+#[derive(Drop)]
 pub(crate) struct BytesLeft {
     bytes: Vec<u8>,
     at: usize,

@@ -4,7 +4,7 @@ use crate::faults::Failed;
 use std::marker::Model;
 
 /// The calls on an object in memory: which are to fail, how many were made, how many have failed.
-#[derive(Debug, Drop)]
+#[derive(Drop)]
 pub(crate) struct Calls {
     fails: Vec<u64>,
     made: u64,

@@ -12,7 +12,7 @@ use std::rt::Files;
 
 /// A shelf of the files of the current folder, by their names there. A call fails for what is there
 /// and cannot be read, such as a folder. Contracts do not see its bytes.
-#[derive(Debug, Drop)]
+#[derive(Drop)]
 pub struct FolderShelf<R> {
     files: R,
     faults: u64,

@@ -8,7 +8,7 @@ use crate::steady_shelf::SteadyShelf;
 use std::marker::Model;
 
 /// A shelf of files in memory, which fails at the calls that it was made to fail at.
-#[derive(Debug, Drop)]
+#[derive(Drop)]
 pub struct MemoryShelf {
     files: SteadyShelf,
     calls: Calls,

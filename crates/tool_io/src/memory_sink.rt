@@ -11,7 +11,7 @@ use std::marker::Model;
 
 /// A sink that keeps the bytes in memory, and fails at the calls that it was made to fail at and
 /// when there is no memory for the bytes.
-#[derive(Debug, Drop)]
+#[derive(Drop)]
 pub struct MemorySink {
     gone: Vec<u8>,
     most: usize,

@@ -10,7 +10,7 @@ use crate::source::Source;
 use std::marker::Model;
 
 /// A source over bytes in memory, which fails at the calls that it was made to fail at.
-#[derive(Debug, Drop)]
+#[derive(Drop)]
 pub struct MemorySource {
     left: BytesLeft,
     calls: Calls,

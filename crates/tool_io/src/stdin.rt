@@ -9,7 +9,7 @@ use std::io::Read;
 use std::marker::Model;
 
 /// A source over a reader, such as standard input. Contracts do not see its bytes.
-#[derive(Debug, Drop)]
+#[derive(Drop)]
 pub struct StdinSource<R> {
     reader: R,
     faults: u64,

@@ -9,7 +9,7 @@ use std::io::Write;
 use std::marker::Model;
 
 /// A sink over a writer, such as standard output, which is flushed in each call. Contracts do not see its bytes.
-#[derive(Debug, Drop)]
+#[derive(Drop)]
 pub struct StdoutSink<W> {
     writer: W,
     faults: u64,

@@ -5,7 +5,7 @@ use crate::shelf::{Found, Shelf, ShelfFault};
 use std::marker::Model;
 
 /// A shelf of files in memory that never returns `ShelfFault::Failed`.
-#[derive(Debug, Drop)]
+#[derive(Drop)]
 pub struct SteadyShelf {
     files: Vec<(String, Vec<u8>)>,
 }

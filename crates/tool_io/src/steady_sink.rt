@@ -7,7 +7,7 @@ use std::marker::Model;
 
 /// A sink that drops the bytes, and never fails. Contracts see it as the greatest number of bytes
 /// that one call takes.
-#[derive(Debug, Drop)]
+#[derive(Drop)]
 pub struct SteadySink {
     most: usize,
 }

@@ -8,7 +8,7 @@ use crate::source::Source;
 use std::marker::Model;
 
 /// A source over bytes in memory that never fails.
-#[derive(Debug, Drop)]
+#[derive(Drop)]
 pub struct SteadySource {
     left: BytesLeft,
 }

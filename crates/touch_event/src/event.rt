@@ -23,7 +23,7 @@ pub enum Action {
 }
 
 /// Where a pointer is: how many pixels right of and below the corner of the view that the event is for.
-#[derive(Clone, Copy, Debug, PartialEq, Eq, Default)]
+#[derive(Clone, Copy, Default)]
 pub struct Point {
     pub id: u8,
     pub x: i32,

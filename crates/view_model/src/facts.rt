@@ -9,13 +9,13 @@ use geom_core::{Argb, Insets, MATCH, Size};
 /// left_of, right_of, above, below, align_left, align_top, align_right, align_bottom, start_of, end_of, align_start,
 /// align_end, which name a sibling's id (0 names none), and parent_left, parent_top, parent_right, parent_bottom,
 /// parent_start, parent_end, center, center_h, center_v, which are 1 for yes and 0 for no.
-#[derive(Clone, Copy, PartialEq, Eq)]
+#[derive(Clone, Copy)]
 pub struct Rules {
     pub values: [u32; 21],
 }
 
 /// All that is set of a view besides its class and its text. Lengths are in pixels.
-#[derive(Clone, Copy, PartialEq, Eq)]
+#[derive(Clone, Copy)]
 pub struct Facts {
     /// The number by which other views name it; 0 is none.
     pub id: u32,

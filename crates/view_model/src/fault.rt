@@ -6,7 +6,7 @@ use crate::refusal::Refusal;
 use std::alloc::{AllocError, AllocFailed};
 
 /// Why what a call was asked for is not done.
-#[derive(Debug, Drop)]
+#[derive(Drop)]
 pub enum Fault {
     Refused(Refusal),
     NoMemory,

@@ -1,7 +1,7 @@
 //! The class of a view, its visibility and how it answers events.
 
 /// The class of a view, by which it measures and lays out its children. A class is added here together with its rules.
-#[derive(Clone, Copy, Debug, PartialEq, Eq)]
+#[derive(Clone, Copy, PartialEq, Eq)]
 pub enum Class {
     /// A view with no content of its own, which has no children.
     View,
@@ -105,7 +105,7 @@ impl Class {
 }
 
 /// Whether a view is drawn, and whether it takes part in layout.
-#[derive(Clone, Copy, PartialEq, Eq)]
+#[derive(Clone, Copy)]
 pub enum Visibility {
     Visible,
     /// Not drawn, but measured and laid out.
@@ -115,7 +115,7 @@ pub enum Visibility {
 }
 
 /// How a view answers an event that reaches it.
-#[derive(Clone, Copy, PartialEq, Eq)]
+#[derive(Clone, Copy)]
 pub enum Answer {
     Off,
     Yes,
