@@ -24,6 +24,19 @@ impl Read for FailsSecond<'_> {
     }
 }
 
+/// A reader that has one byte at a time, as a pipe has whose writer waits for an answer.
+#[derive(Drop)]
+struct ByteByByte<'a> {
+    bytes: &'a [u8],
+}
+
+impl Read for ByteByByte<'_> {
+    fn read(&mut self, buf: &mut [u8]) -> io::Result<usize> {
+        let most = buf.len().min(1);
+        self.bytes.read(&mut buf[..most])
+    }
+}
+
 /// A device that takes at most three bytes a call, none at its second write, and fails at its second flush.
 #[derive(Drop)]
 struct Device {
@@ -67,6 +80,15 @@ fn a_failed_read_loses_no_byte(rt: HostRuntime) {
     ];
     assert_eq!(rt; reads, [Ok(4), Err(Failed), Ok(2)]);
     assert_eq!(rt; buf, *b"e\nam");
+}
+
+#[test]
+fn a_read_gives_what_is_there(rt: HostRuntime) {
+    let mut source = StdinSource::new(ByteByByte { bytes: b"frame\n" });
+    let mut buf = [0; 4];
+    let reads = [source.read(&mut buf), source.read(&mut buf)];
+    assert_eq!(rt; reads, [Ok(1), Ok(1)]);
+    assert_eq!(rt; buf[0], b'r');
 }
 
 #[test]

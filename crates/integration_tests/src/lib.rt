@@ -9,6 +9,8 @@ mod layout_files;
 #[cfg(test)]
 mod runs;
 #[cfg(test)]
+mod screen;
+#[cfg(test)]
 mod string_pools;
 #[cfg(test)]
 mod texts;

@@ -11,12 +11,12 @@ use whole_tool::tool;
 
 /// The words of a call, its script, and the numbers of the reads, writes and fetches that fail.
 #[derive(Drop)]
-struct Call<'a> {
-    words: &'a [&'a str],
-    script: &'a [u8],
-    reads: &'a [u64],
-    writes: &'a [u64],
-    fetches: &'a [u64],
+pub(crate) struct Call<'a> {
+    pub(crate) words: &'a [&'a str],
+    pub(crate) script: &'a [u8],
+    pub(crate) reads: &'a [u64],
+    pub(crate) writes: &'a [u64],
+    pub(crate) fetches: &'a [u64],
 }
 
 /// A call, and how it ends.
@@ -112,7 +112,7 @@ fn shelf_of(alloc: Global, fetches: &[u64]) -> Result<MemoryShelf, AllocError> {
 }
 
 /// How a call ends that reads and writes at most `most` bytes at a time.
-fn ended(
+pub(crate) fn ended(
     alloc: Global,
     call: &Call<'_>,
     most: usize,
@@ -130,7 +130,7 @@ fn ended(
     Ok((status, Vec::from_slice(alloc, sink.gone())?))
 }
 
-const NO_WORK: Work = Work {
+pub(crate) const NO_WORK: Work = Work {
     measured: 0,
     painted: 0,
 };
