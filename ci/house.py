@@ -8,6 +8,7 @@
     twice               a record or a data type whose name another one has too
     many parameters     a function with more than five, `self` not counted
     wide clause         a function with a line of its contract above 120 columns
+    wide definition     a file of definitions with a line above 120 columns
     long file           a file of more than 800 lines
     long function       a function whose body has more than 40 lines
 
@@ -179,6 +180,11 @@ def long_file(path: str) -> List[str]:
     return ["long file: " + below_top(path)] if read(path).count("\n") > MOST_LINES else []
 
 
+def wide_definition(path: str) -> List[str]:
+    is_wide = any(len(line) > MOST_COLUMNS for line in read(path).split("\n"))
+    return ["wide definition: " + below_top(path)] if is_wide else []
+
+
 def twice(files: Iterable[definitions.File]) -> Iterator[str]:
     """The types of definitions of which there is another one with the same name."""
     places: Dict[str, Set[str]] = {}
@@ -198,6 +204,7 @@ def found() -> List[str]:
     files = definitions.all_files()
     every = [line for path in code for line in of_code(path)]
     every += [line for path in specs for line in unused_in_definitions(path, read(path))]
+    every += [line for path in specs for line in wide_definition(path)]
     every += [line for path in code + specs + proofs for line in long_file(path)]
     every += twice(files)
     every += ["unreached: %s: %s" % (below_top(it.path), it.name) for it in definitions.unreached(files)]

@@ -37,5 +37,28 @@ def refuses_more_resources() -> str:
     return difference(b"line %d: refused 15 Full\n" % (MAX_RESOURCES + 1), 1, *over(["run"], script, {}))
 
 
+def reads_no_more_of_a_file_than_it_takes() -> str:
+    """A file of 3 GiB, in a process that may have 256 MiB."""
+    with tempfile.TemporaryDirectory() as folder:
+        with open(os.path.join(folder, "a.xml"), "wb") as file:
+            file.truncate(3 << 30)
+        words = ["bash", "-c", "ulimit -v 262144; exec \"$@\"", "bash", PROGRAM]
+        why = difference(b"file: refused 40 LongFile\n", 1, *run([*words, "dump", "a.xml"], b"", folder))
+        script = b"add root FrameLayout 1 1\ninflate a.xml into v1\n"
+        return why or difference(b"v1\nline 2: refused 40 LongFile\n", 1, *run([*words, "run"], script, folder))
+
+
+def ends_at_a_file_that_cannot_be_opened() -> str:
+    """A link that leads to itself, which is there: so it is not refused as missing."""
+    with tempfile.TemporaryDirectory() as folder:
+        os.symlink("a.xml", os.path.join(folder, "a.xml"))
+        why = difference(b"", 6, *run([PROGRAM, "dump", "a.xml"], b"", folder))
+        script = b"add root FrameLayout 1 1\ninflate a.xml into v1\n"
+        return why or difference(b"v1\n", 6, *run([PROGRAM, "run"], script, folder))
+
+
 def checks() -> Checks:
-    yield from named("limits", (takes_the_longest_script, refuses_a_longer_file, refuses_more_resources))
+    yield from named("limits", (
+        takes_the_longest_script, refuses_a_longer_file, refuses_more_resources, reads_no_more_of_a_file_than_it_takes,
+        ends_at_a_file_that_cannot_be_opened,
+    ))
