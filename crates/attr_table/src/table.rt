@@ -1,4 +1,8 @@
 //! The table of attributes: the name of each, what its value may be and what it sets.
+//!
+//! The table is here and once more in `specs/Attributes.antt`, and each row is proved to be the one there: so
+//! definitions read the list alone, and a mistake would have to be made twice. For an attribute that takes an id, the
+//! id is that of the reference whether it has a value or not; a reference to 0 is null.
 ghost use Rattle.std.specs.Prelude.{◌≡◌, ◌<◌, IfSome, Some, length, map, slice_get};
 ghost use Rattle.attr_table.specs.declared.table.TheConstants.{KNOWN};
 ghost use Rattle.attr_table.specs.Table.{attribute, place_in, place_of, slot_at, takes_at};

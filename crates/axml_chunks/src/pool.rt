@@ -1,4 +1,10 @@
 //! The string pool, and how it is read from its chunk.
+//!
+//! A pool keeps its strings in UTF-8, each checked when the pool is read and not on demand: a print begins after the
+//! whole file was read, fails only for the sink, and a refused file has one line. A pool whose sizes contradict each
+//! other is `BadPool` even with too many strings. Offsets of strings may lead to any place in the pool's chunk. The
+//! limit for text counts bytes of UTF-8, a string as often as it is listed, and is looked at only for a string that is
+//! a text.
 ghost use Rattle.std.specs.Prelude.{◌≡◌, ◌+◌, ◌*◌, ◌^◌, ◌<◌, ◌≤◌, length, map, IfOk, IfSome, OnOk, Ok, slice_get};
 ghost use Rattle.std.specs.Option.{option_map};
 ghost use Rattle.std.specs.String.{string_bytes};

@@ -1,4 +1,6 @@
 //! One string of a pool, in UTF-8 or UTF-16.
+//!
+//! A lone surrogate in UTF-16, and in UTF-8 a surrogate or a longer form than needed, is `BadString`.
 ghost use Rattle.std.specs.Prelude.{◌≡◌, ◌+◌, ◌*◌, ◌^◌, ◌<◌, ◌≤◌, length, IfSome, IfOk};
 ghost use Rattle.std.specs.Option.{option_map};
 ghost use Rattle.std.specs.String.{string_bytes};

@@ -1,4 +1,10 @@
 //! What each kind of chunk adds to a document.
+//!
+//! In an element that begins, a short header or body comes first, then a second outermost element, too many elements or
+//! attributes, its two names, and the place of its attributes. Elements end by the text of their name; namespaces are
+//! not compared. Character data and namespaces may be outside the outermost element; the value of character data is not
+//! checked. A string number without a string is reported at the field's place. A pool after an element comes too late:
+//! before it no number has a string.
 ghost use Rattle.std.specs.Prelude.{◌≡◌, ◌+◌, ◌-◌, ◌*◌, ◌^◌, ◌<◌, ◌≤◌, length, IfOk};
 ghost use Rattle.axml_chunks.specs.Chunks.{IsChunk};
 ghost use Rattle.axml_chunks.specs.Steps.{Does};

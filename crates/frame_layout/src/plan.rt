@@ -1,4 +1,11 @@
 //! The measuring of one frame layout.
+//!
+//! A child matches if it is shown and has `match` on at least one axis. If one of the group's specs is not `Exactly`,
+//! whichever it is, both axes of such a child are looked at in the second phase. The group's own size is that of the
+//! first.
+//!
+//! The plan has three numbers an axis and a count, and no list of the children's sizes: so it is proved for every order
+//! and size, and its memory does not grow.
 ghost use Rattle.std.specs.Prelude.{◌≡◌, ◌+◌, [], ◌∷◌, ◌++◌, List, None, if◌then◌else◌, min};
 ghost use Rattle.std.specs.Option.{option_map};
 ghost use Rattle.geom_core.specs.Limits.{IsSide};

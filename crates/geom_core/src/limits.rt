@@ -1,3 +1,4 @@
+//! The ranges that sizes and left and top edges keep.
 ghost use Rattle.std.specs.Prelude.{◌≡◌};
 ghost use Rattle.geom_core.specs.Limits.{IsSide, IsCoordinate, clamp_size, clamp_coordinate};
 

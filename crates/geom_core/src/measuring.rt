@@ -1,3 +1,4 @@
+//! Specs and dimensions: what a parent asks of a child on one axis, and what size a view makes of it.
 ghost use Rattle.std.specs.Prelude.{◌≡◌};
 ghost use Rattle.geom_core.specs.Limits.{IsSide};
 ghost use Rattle.geom_core.specs.Spec.{remaining_of, wrap_mode, child_spec_of, default_size_of, resolve_of};

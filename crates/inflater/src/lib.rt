@@ -1,7 +1,14 @@
 //! The views of a layout file: what each element is, and which are below which.
 //!
-//! `classes` names the classes of elements, `element` makes the view of one, `inflating` goes over all elements of a
-//! document, `fault` says why one is refused. The place of the views in a tree is not decided here.
+//! `inflate` (`inflating`) goes over all elements of a document and makes a `Grown` (`grown`): a `Sapling`, the views
+//! in preorder with their depths, and how many attributes were ignored. `classes` names the classes of elements,
+//! `element` makes the view of one, and `fault` says why one is refused, and which. The place of the views in a tree is
+//! not decided here: `ViewTree::graft` does that.
+//!
+//! `view_world` calls it for the line `inflate`; the attributes are read by `attr_table`.
+//!
+//!     let grown = inflate(alloc, &doc, &res, 160)?;    // or the number of the element that is refused
+//!     tree.graft(parent, grown.sapling)?;
 #![tactic(auto)]
 
 mod classes;

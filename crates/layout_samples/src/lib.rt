@@ -1,4 +1,11 @@
 //! A layout file for tests, in both encodings of its strings.
+//!
+//! `NARROW` has its strings in UTF-8, `WIDE` the same ones in UTF-16: a `View` with a width, a height and a style. The
+//! comment of each lists where its chunks begin, for tests that cut or change it there.
+//!
+//! Only `integration_tests` uses it. It has constants and no calls, so it has no contracts and no edits that must fail.
+//!
+//!     let doc = axml_reader::read(alloc, &NARROW)?;    // an element `View` with 3 attributes
 #![tactic(auto)]
 
 /// A layout file with its strings in UTF-8: a View with a width, a height and a style. Its chunks

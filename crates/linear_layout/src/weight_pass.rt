@@ -1,4 +1,6 @@
 //! The weight pass: what is left of the line is shared by weight. Lengths are in pixels.
+//!
+//! A child that the first pass leaves out has no length until this pass, whatever an earlier frame left with it.
 ghost use Rattle.std.specs.Prelude.{◌≡◌, ◌<◌, ◌≤◌, ◌+◌, ◌+ℤ◌, ◌^◌, unsigned_abs, [], ◌∷◌, ◌++◌, List, length};
 ghost use Rattle.std.specs.Option.{option_map};
 ghost use Rattle.view_model.specs.declared.limits.TheConstants.{MAX_VIEWS};

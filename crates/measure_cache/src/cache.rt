@@ -1,4 +1,7 @@
 //! The last sizes of a view.
+//!
+//! The sizes are in the view's node, 17 bytes each, and not on the heap, so that measuring takes no memory. They depend
+//! on the view and what is below it alone, so a request for layout empties them.
 ghost use Rattle.std.specs.Prelude.{◌≡◌, ◌<◌, []};
 ghost use Rattle.measure_cache.specs.Entries.{found, is_of, put_in};
 ghost use Rattle.measure_cache.specs.Kept.{entry_of, length_of, mode_number, numbered_mode};

@@ -1,4 +1,8 @@
 //! The anchors of a child of a relative layout: the siblings to which it is tied, found by their ids.
+//!
+//! Of children with one id the last counts; if that is the child itself, the rule has no effect. A start form that is
+//! set replaces the left form even if it names no child. A rule on a side of the parent and its start or end form are
+//! one rule, which holds if either is `yes`.
 ghost use Rattle.std.specs.Prelude.{◌≡◌, ℕ, IfSome};
 ghost use Rattle.measure_pass.specs.Measured.{kids_from};
 ghost use Rattle.measure_pass.specs.Replacing.{AreReplaced, IsAnchorBy, IsReplaced, MaySearch, instead_of};

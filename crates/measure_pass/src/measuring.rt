@@ -1,5 +1,8 @@
 //! Measuring a view through all views below it: what is common to all classes. `leaf`, `frame`, `linear`, `scroll` and
 //! `relative` measure what is below a view by its class, and `keeping` keeps the results.
+//!
+//! A size that comes from a cache leaves the mark `measure_first`: the children still have sizes for other specs. They
+//! are measured when layout reaches them, and not at once, since most such sizes are not the last ones of a frame.
 ghost use Rattle.std.specs.Prelude.{◌≡◌, ◌≤◌, ◌+◌, None, false, true};
 ghost use Rattle.geom_core.specs.Limits.{IsSide};
 ghost use Rattle.kept_views.specs.Kept.{Ready, owed};

@@ -1,4 +1,7 @@
 //! Gone siblings to which children of a relative layout are tied, and what is used instead of them.
+//!
+//! If an anchor is gone, its own rule of the same kind is followed from there, its start and end forms in place of left
+//! and right ones too.
 ghost use Rattle.std.specs.Prelude.{◌≡◌, None};
 
 use view_tree::Key;

@@ -1,8 +1,15 @@
-//! A picture in memory, into which rectangles of a colour are blended. Only making one takes memory.
+//! A picture in memory, into which rectangles of a colour are blended.
 //!
-//! `surface` has the picture itself, `cut` the part of one that a rectangle covers, `rows` how a colour is blended over
-//! the rows of such a part, `runs` over pixels side by side, `strip` over single pixels of a column, and `blending` over
-//! one pixel; `marks` how rows of one colour are kept, and `digest` the digest of all pixels.
+//! `surface` has `Surface`: `fill` blends a rectangle, `ink` the set pixels of a column, `digest` is the SHA-256 of all
+//! pixels. `cut` has the part of a picture that a rectangle covers, `rows` how a colour is blended over the rows of
+//! such a part, `runs` over pixels side by side, `strip` over single pixels of a column, and `blending` over one pixel;
+//! `marks` how rows of one colour are kept, and `digest` the digest. Only making a picture takes memory.
+//!
+//! `tree_painter` paints into one, `view_world` keeps it and prints pixels, and `stack_worlds` puts several together.
+//!
+//!     let mut picture = Surface::new(alloc, Size { w: 4, h: 2 })?;    // all black
+//!     picture.fill(Rect { left: 1, top: 0, right: 3, bottom: 1 }, Argb(0xffff_0000), work);
+//!     picture.pixel(2, 0)    // red; `work.painted` has risen by the 2 pixels of the rectangle
 #![tactic(auto)]
 
 mod blending;

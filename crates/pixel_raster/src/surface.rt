@@ -1,4 +1,7 @@
 //! A picture in memory.
+//!
+//! A pixel is a word of 32 bits with the alpha 255, and not three bytes: a fill writes words. A fill counts the pixels
+//! that it goes over, and not those that it changes: so work follows from rectangles, not from colours.
 ghost use Rattle.std.specs.Prelude.{◌≡◌, ◌<◌, ◌≤◌, ◌+◌, ◌-◌, ◌*◌, ◌^◌, IfOk, IsOk, OnErr, OnOk, length, min, replicate, true};
 ghost use Rattle.geom_core.specs.declared.color.TheConstants.{BLACK};
 ghost use Rattle.pixel_raster.specs.Bytes.{digest_of};

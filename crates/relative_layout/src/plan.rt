@@ -1,4 +1,11 @@
 //! The measuring of one relative layout.
+//!
+//! While a child's width is measured, its height is asked at most, even if it is a number. A side that a rule sets
+//! stays: the other follows from the length, also if the near side is cut to its limit, and a far side that follows is
+//! not cut again; centre counts only if no side is set. In a group whose size was not given, each child in the centre
+//! moves in the end, whatever its sides, and otherwise each at the far side of its parent, without its margin; they
+//! move by the group's measured size and their own of the second phase. A far side before the near one counts as the
+//! near one already there.
 ghost use Rattle.std.specs.Prelude.{◌≡◌, ◌+◌, [], ◌∷◌, ◌++◌, List};
 ghost use Rattle.geom_core.specs.Limits.{IsSide};
 ghost use Rattle.view_model.specs.declared.facts.Facts.{Facts as FactsValue};

@@ -1,4 +1,7 @@
 //! Restoring of offsets and texts.
+//!
+//! Layout is requested at each view whose offset or text is set. What is restored does not become the state that is
+//! kept, and an offset is brought into its range by the next frame.
 ghost use Rattle.std.specs.Prelude.{◌≡◌, ℕ, ◌++◌, All, Some, false, fold, is_some, IfOk, IfSome, OnErr, OnOk};
 ghost use Rattle.std.specs.Option.{option_map};
 ghost use Rattle.kept_views.specs.Kept.{IsConsistent};

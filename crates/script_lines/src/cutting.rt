@@ -1,4 +1,10 @@
 //! Bytes that come in pieces, cut into lines.
+//!
+//! A script is never held whole. Only one carriage return, right before a line feed, is dropped; elsewhere, and at the
+//! end of a last line without a line feed, it is a byte of the line. A last line counts if it is not empty. A line of
+//! spaces alone is passed over as an empty one. `#` begins a comment only as the first byte; there bytes that are no
+//! text are passed over, elsewhere refused. More than 1024 bytes before the line feed, a carriage return counted, are
+//! refused whatever the line begins with.
 
 ghost use Rattle.std.specs.Prelude.{◌≡◌, ◌≢◌, ℕ, ◌+◌, ◌<◌, ◌≤◌, ◌↔◌, ◌⊎◌, false, List, [], ◌++◌, length, take, drop, min, slice_index};
 ghost use Rattle.std.specs.List.{list_all, position_or_len};

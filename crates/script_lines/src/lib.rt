@@ -1,8 +1,16 @@
-//! The lines of a script, and the command that each line gives. Nothing here takes memory.
+//! The lines of a script, and the command of each; it takes no memory.
 //!
-//! `cutting` cuts bytes that come in pieces into lines. From a line to its command: `words` splits it, and what is below
-//! it reads one word; `reading` reads the whole line, and what is below it reads what is set of a view, a hook, a
-//! resource, a touch or a state. `commands` is what a line asks for, `fault` why it is no command.
+//! `Lines` (`cutting`) cuts bytes that come in pieces into lines. `line` (`reading`) makes a `Command` (`commands`) of
+//! one, or says why it is none (`fault`): `words` splits it, and the modules below it read one word each, as `gravity`
+//! or `colors`; those below `reading` read what a line sets of a view, a hook, a resource, a touch or a state. `places`
+//! has places in a line. `readers` are the readers of words, for lines of other scripts.
+//!
+//! `whole_tool` cuts and reads by it, `view_world` carries commands out, and `window_stack` and `vindaesk_c` read
+//! words.
+//!
+//!     line(b"add v1 View 10 20")          // Command::Add: the parent v1, the class View, 10 by 20
+//!     line(b"add v1 View 10")             // a fault of the grammar, 31 Syntax: a word is missing
+//!     line(b"add v1 View 10 99999999")    // a number out of bounds, 30 Range: above the greatest size
 #![tactic(auto)]
 
 mod commands;

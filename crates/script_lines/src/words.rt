@@ -1,5 +1,9 @@
-//! The words of a line. Each module below reads what one word may say: a colour, a dimension, a text, the name of a file
-//! or of a view, a gravity, a number or a weight.
+//! The words of a line. Each module below reads what one word may say: a colour, a dimension, a text, the name of a
+//! file or of a view, a gravity, a number or a weight.
+//!
+//! Runs of spaces separate words, also before the first and after the last. Only the one space after the word before a
+//! text is no part of it. The whole line is tried against the grammar before any bounds, and both before the world is
+//! asked.
 
 ghost use Rattle.std.specs.Prelude.{◌≡◌, ◌≤◌, length, IfOk};
 ghost use Rattle.std.specs.Char.{is_ascii};

@@ -1,4 +1,7 @@
 //! Edits of a tree, and what has to be painted again after them.
+//!
+//! An edit damages what was seen of its view before it, a scroll what is seen after it, and an edit that layout alone
+//! reads damages nothing: the next layout adds what it moves. Damage after each edit would be layout at each edit.
 ghost use Rattle.std.specs.Prelude.{◌≡◌, ◌<◌, ◌≢◌, pos, true, Err, OnErr, OnOk, Ok};
 ghost use Rattle.damage_rect.specs.Within.{LiesIn};
 ghost use Rattle.geom_core.specs.Rects.{hull_of};

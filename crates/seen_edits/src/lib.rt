@@ -1,7 +1,14 @@
-//! Edits of a tree of views whose picture was painted, and what of the window has to be painted again after them.
+//! Edits of a tree whose picture was painted, and what of the window they make stale.
 //!
-//! `damaging` makes edits, `restoring` restores states, `scrolling` looks for what an event has scrolled, and `painting`
-//! paints the damage that these have left.
+//! `change` and `take` (`damaging`) make an edit or remove a view and add what was seen of it to the damage;
+//! `restore_views` (`restoring`) does that for a restored state, `note_scrolled` (`scrolling`) for what an event has
+//! scrolled; and `paint_damage` (`painting`) paints what these have left. `trees` has what they share.
+//!
+//! `view_world` makes every edit of a script through it; the edits themselves are those of `tree_edits` and
+//! `saved_state`.
+//!
+//!     change(alloc, tree, window, edit, damage)?;    // what was seen of its view is damage
+//!     paint_damage(tree, picture, damage, work);     // is painted anew, and nothing is damage after that
 #![tactic(auto)]
 
 mod damaging;

@@ -1,7 +1,13 @@
-//! What is seen of views in a window: the rectangle of a view there, and the canvas of its children. Nothing takes memory.
+//! What is seen of views in a window: the rectangle of a view there, and the canvas of its children.
 //!
-//! `frame` has the arithmetic of rectangles that may lie far outside, `seeing` what is seen of a view in a canvas, and
-//! of one that moves, `climbing` what is seen of any view, through all its ancestors.
+//! `seen` (`climbing`) is what is seen of any view, through all its ancestors. `frame` has `Canvas`, where coordinates
+//! begin and what may be touched, and the arithmetic of rectangles that may be far outside; `seeing` has what is seen
+//! of a view in a canvas (`part_seen`), the canvas of its children, and `follow`, which adds to the damage what is seen
+//! of a view that moves. Nothing takes memory.
+//!
+//! `tree_painter` and `traversal` go down by canvases; `seen_edits` and `focus_finder` ask for one view.
+//!
+//!     seen(tree, Size { w: 100, h: 50 }, kid)    // 90 0 100 20, if the view is at 90 0 120 20 of the window
 #![tactic(auto)]
 
 mod climbing;

@@ -1,4 +1,7 @@
 //! The table of armed hooks.
+//!
+//! A hook names views by their numbers from the line on; the last arming counts. An edit whose view is gone from the
+//! tree is passed over. An edit of a hook requests layout in any case.
 ghost use Rattle.std.specs.Prelude.{◌≡◌, ◌==◌, true, ◌<◌, ◌↔◌, ℕ, if◌then◌else◌, nat_eq, IfSome, [], None, Some, OnOk, OnErr, IsErr, length};
 ghost use Rattle.std.specs.Option.{option_map};
 ghost use Rattle.size_hooks.specs.Entries.{hook_in};

@@ -1,4 +1,6 @@
 //! A link to a value in a slab.
+//!
+//! One number of the four bytes means that there is no value. An `Option<usize>` would take 16.
 ghost use Rattle.std.specs.Prelude.{◌≡◌, ◌<◌, Some, None, IfSome};
 
 use std::marker::Model;

@@ -1,3 +1,4 @@
+//! The bytes that a source in memory has still to give.
 ghost use Rattle.std.specs.Prelude.{◌≡◌, ◌<◌, ◌≤◌, [], ◌++◌, length, take, drop};
 
 use std::marker::Model;

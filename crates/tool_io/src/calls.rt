@@ -1,3 +1,4 @@
+//! The calls of an object in memory: how many there were, and which of them are to fail.
 ghost use Rattle.std.specs.Prelude.{◌≡◌};
 
 use crate::faults::Failed;

@@ -1,3 +1,7 @@
+//! Counts of failed calls.
+//!
+//! A count rises by `raised`, up to the greatest `u64`, and is no flag: so one equation says both that a call has
+//! failed and that no other call has.
 ghost use Rattle.std.specs.Prelude.{◌≡◌, is_ok};
 ghost use Rattle.tool_io.specs.Counts.{faults_after};
 

@@ -1,3 +1,7 @@
+//! The shelf of the files of a folder.
+//!
+//! A file that is there and cannot be read, such as a folder, is a failure of the shelf, which ends a run, and not a
+//! file that is missing.
 ghost use Rattle.std.specs.Prelude.{◌≡◌, ◌≢◌, ◌<◌, ◌≤◌, ◌↔◌, [], length, IfSome, is_ok};
 ghost use Rattle.std.specs.IoError.{error_kind};
 ghost use Rattle.tool_io.specs.Counts.{faults_after};

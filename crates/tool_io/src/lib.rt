@@ -1,10 +1,19 @@
 //! What the tool reads from and writes to: a source of bytes, a sink for bytes and a shelf of files.
 //!
-//! Each of the three is a trait. Its contract says which bytes a call moves, if the object makes them visible, and that
-//! the object's count of failed calls goes up by one with a call that fails, and stays with one that succeeds. The
-//! objects in memory are exact: they fail at the calls that they were made to fail at, and otherwise only when out of
-//! memory. The adapters wrap standard input, standard output and the files of the current folder, whose bytes contracts
-//! do not see.
+//! Each of the three is a trait (`source`, `sink`, `shelf`). Its contract says which bytes a call moves, if the object
+//! makes them visible, and that its count of failed calls (`faults`) rises by one with a call that fails. Objects in
+//! memory are exact: `memory_source`, `memory_sink` and `memory_shelf` fail at the calls that they were made to fail at
+//! (`calls`), and otherwise only when out of memory; `steady_source`, `steady_sink` and `steady_shelf` never fail.
+//! `bytes_left` has what a source in memory has still to give. `stdin`, `stdout` and `folder` are adapters over a
+//! device, whose bytes contracts don't see.
+//!
+//! An adapter is generic over what it wraps, and not fixed to the system's: so clauses say which bytes went to the
+//! device, and tests give it one that fails. `view_tool` makes the adapters, tests and `vindaesk_c` objects in memory,
+//! and `whole_tool` takes any.
+//!
+//!     let mut sink = MemorySink::new(alloc, 3, fails);    // 3 bytes a call at most; `fails` lists the calls that fail
+//!     sink.write(b"frame")                                // Ok(3)
+//!     sink.gone()                                         // b"fra"
 #![tactic(auto)]
 
 mod bytes_left;

@@ -1,3 +1,4 @@
+//! A shelf in memory, with calls that fail.
 ghost use Rattle.std.specs.Prelude.{◌≡◌, ◌≢◌, ◌<◌, ◌≤◌, ◌↔◌, [], length, IfOk, IsFalse, IsTrue, IsSomeAnd, None};
 ghost use Rattle.tool_io.specs.Counts.{raised};
 ghost use Rattle.tool_io.specs.Fetched.{CountsFetch, Fetched, file_of};

@@ -1,3 +1,7 @@
+//! Where files are.
+//!
+//! Contracts see the files through the ghost of the shelf, and the plain world takes them as a parameter instead of
+//! keeping them: so what is said of a line that asks for no file holds over every shelf.
 ghost use Rattle.std.specs.Prelude.{◌≡◌, ◌≢◌, ℕ, ◌≤◌, List, [], length, Option, IfSome, IfOk};
 ghost use Rattle.tool_io.specs.Counts.{one_more};
 ghost use Rattle.tool_io.specs.Fetched.{CountsFetch, Fetched};

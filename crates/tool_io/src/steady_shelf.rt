@@ -1,3 +1,4 @@
+//! A shelf in memory that never fails.
 ghost use Rattle.std.specs.Prelude.{◌≡◌, ◌≢◌, ◌<◌, ◌≤◌, ◌↔◌, [], length, IfOk, IsSomeAnd, None};
 ghost use Rattle.tool_io.specs.Fetched.{Fetched, file_of};
 

@@ -1,3 +1,4 @@
+//! A sink that never fails.
 ghost use Rattle.std.specs.Prelude.{◌≡◌, ◌<◌, length, IfOk, min};
 ghost use Rattle.std.specs.Io.{WritesAtMost};
 

@@ -1,5 +1,12 @@
-//! Touch events: what happened, by which pointer, and where all the pointers that are down are; and the part of an
-//! event that some of these pointers make. Nothing here takes memory.
+//! Touch events: what happened, by which pointer, and where all pointers that are down are.
+//!
+//! `event` has `Event`, an `Action` with a pointer and the points of at most `MAX_POINTERS` pointers, by rising ids;
+//! `splitting` has `split`, the part of an event for a view that follows only some of them; `pointer_set` has sets of
+//! pointers as bits. Nothing takes memory.
+//!
+//! `view_world` makes the events of a script, and `touch_dispatch` splits them and sends them on.
+//!
+//!     split(&event, 0b10)    // what pointer 1 makes of it: if pointer 1 goes down beside pointer 0, it is alone there
 #![tactic(auto)]
 
 mod event;

@@ -1,4 +1,7 @@
 //! Views that are forced with all above them.
+//!
+//! A root keeps its flags until the edits of a hook are made: a request in the middle of a pass would stop at a forced
+//! view and be lost. So the views are recorded, and forced with all above them once the flags are removed.
 ghost use Rattle.std.specs.Prelude.{◌≡◌, ℕ, true, []};
 ghost use Rattle.kept_views.specs.Pressing.{all_pressed, path_of};
 ghost use Rattle.view_tree.specs.tree.Requests.{among, forced_one, pressed};

@@ -1,4 +1,6 @@
 //! How a frame has ended.
+//!
+//! A frame that does not settle keeps what its passes did: sizes, bounds and what the edits of hooks have set.
 use geom_core::Rect;
 
 /// How a frame has ended.

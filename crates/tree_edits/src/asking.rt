@@ -1,4 +1,10 @@
 //! Requests for layout that go with edits.
+//!
+//! What asks for layout depends on the edit, not on what it changes: an act that sets what was set asks too, and
+//! `visible V gone` even if V is gone, so that what a frame measures at most can be read off the script. Colours,
+//! `clip`, `split`, `answer` and `intercept` never ask; `scroll` does, since the offset may leave its range. Of the
+//! lines that are no edit, `hook`, `disallow` and those of touches never ask, `window` asks at no view, and `restore`
+//! at each view that it sets.
 ghost use Rattle.std.specs.Prelude.{◌≡◌, ℕ, IfSome};
 ghost use Rattle.tree_edits.specs.Asking.{asked_by_act, change_requests, flag_requests, listed, requests_layout};
 ghost use Rattle.view_tree.specs.tree.Requests.{requested};

@@ -1,4 +1,8 @@
 //! The facts of a view.
+//!
+//! `Facts` has the fields of all classes, used by a class or not, so that a line that sets one more thing changes no
+//! caller. Margins and weights may be whatever their types hold: sums of 4096 lengths fit 64 bits, and a weight times
+//! what is left of a line uses 128.
 ghost use Rattle.std.specs.Prelude.{◌≡◌, false, negsuc, pos, ◌≤ℤ◌};
 
 use crate::kinds::{Answer, Visibility};

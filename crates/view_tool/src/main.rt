@@ -1,5 +1,13 @@
-//! The program `view_tool`: it passes the tool the words after its name, standard input, standard output and the files of
-//! the current folder.
+//! The program `view_tool`: the tool over standard input, standard output and the files of the current folder.
+//!
+//! `main` passes the words after the program's name and the adapters of `tool_io` to `tool` of `whole_tool`, and ends
+//! with the status that this returns. A word that is not UTF-8 ends with the status of a wrong call, before anything is
+//! read. It has no other code, since what is here has no contract: the stored run (`args`, `stdin`, `stdout`) and
+//! `ci/checks` test it.
+//!
+//! The launcher `vindaesk`, the tools and the packages start it.
+//!
+//!     printf 'window 100 50\nadd root View 10 20\nframe\nbounds\n' | view_tool run
 #![tactic(auto)]
 
 use std::env;

@@ -1,6 +1,9 @@
 //! What is kept of the children of relative layouts, by the numbers of these: `places` changes an order, `kids` gathers
-//! the children of a sapling's layouts, `highest` has the highest ids that rules name, `latest` the last children with an
-//! id, and `ordered` a child in an order.
+//! the children of a sapling's layouts, `highest` has the highest ids that rules name, `latest` the last children with
+//! an id, and `ordered` a child in an order.
+//!
+//! The orders of a relative layout are kept with the tree, and not made in a measuring: so measuring takes no memory,
+//! and no edit can leave a cycle. An edit that would make one is refused.
 ghost use Rattle.std.specs.Prelude.{◌≡◌, ◌≢◌, ◌≤◌, ◌<◌, ◌+◌, ◌^◌, ℕ, length, true, None, Some, IfSome, OnOk, option_map, if◌then◌else◌, nat_eq};
 ghost use Rattle.indexmap.specs.IndexMap.{get as held_at, spare};
 ghost use Rattle.view_model.specs.Refusals.{IsRefusedExactlyFor};

@@ -1,4 +1,6 @@
 //! The keys of views by their numbers, and the memory that more views take. A key is kept in four bytes, as links are.
+//!
+//! A table is beside the slab so that a line finds a view without a walk.
 ghost use Rattle.std.specs.Prelude.{◌≡◌, ◌<◌, ◌≤◌, ◌+◌, ℕ, Some, None, OnOk, if◌then◌else◌, nat_eq};
 ghost use Rattle.indexmap.specs.IndexMap.{get as key_of, spare};
 ghost use Rattle.slab.specs.Slab.{HasRoomFor};

@@ -1,8 +1,14 @@
-//! The tool as a library of C: a call is carried out in the process of the caller, over bytes in its memory.
+//! The tool as a library of C: a call is carried out in the caller's process, over bytes in its memory.
 //!
-//! `include/vindaesk.h` declares what is exported. `packing` reads the files of a call out of one buffer, and `shelf` has
-//! them at hand. `words` and `questions` have the words that the tool is called with, `page` has it write a page in memory,
-//! and `answer` puts that into the caller's buffer.
+//! `include/vindaesk.h` declares what is exported: `vindaesk_run`, `vindaesk_stack`, `vindaesk_focus`, `vindaesk_dump`
+//! and `vindaesk_lookup`. `packing` reads the files of a call out of one buffer, and `shelf` has them at hand. `words`
+//! and `questions` have the words that the tool is called with, `page` has it write a page in memory, `answer` puts
+//! that into the caller's buffer, and `fault` says why there is none. A call keeps nothing for the next one.
+//!
+//! Programs in C, Python and Java call it, and the tools of this repository where they find it.
+//!
+//!     /* 0 or 1: the first `size` bytes of the answer are the page; 8: the page has `size` bytes, more than 4096 */
+//!     vindaesk_run(script, strlen(script), files, 0, answer, 4096, &size)
 #![tactic(auto)]
 
 ghost use Rattle.std.specs.Prelude.{◌≡◌, ◌≢◌, ◌<◌, ◌↔◌, ◌⊎◌, [], ◌∷◌, length, IsFalse, IsTrue, if◌then◌else◌};

@@ -1,4 +1,7 @@
 //! A script that is carried out as its bytes come.
+//!
+//! The work of a run goes along with its text, and not in a list of its own: the lines that were written are those that
+//! were paid for.
 
 ghost use Rattle.std.specs.Prelude.{nat_lt, ◌≡◌, ℕ, ◌+◌, ◌-◌, ◌*◌, ◌<◌, ◌≤◌, ◌^◌, min, List, ◌∷◌, [], ◌++◌, Option, Some, OnOk, IfOk, IfErr, IfSome, length, take};
 ghost use Rattle.script_lines.specs.cutting.LineBuffer.{IsLent, lines_at};

@@ -1,4 +1,7 @@
 //! What the words after the name of the tool ask for.
+//!
+//! Arguments are compared byte for byte. A NAME that is empty, has more than 64 bytes or a byte that no name has, or
+//! begins with `.`, is invalid, and the file is not looked for; so is `dump` with one argument more.
 
 ghost use Rattle.std.specs.Prelude.{◌≡◌, Some, IfSome, string_bytes};
 ghost use Rattle.std.specs.Str.{bytes_eq};

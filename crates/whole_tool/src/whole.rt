@@ -1,4 +1,7 @@
 //! The whole tool.
+//!
+//! `tool` has no precondition: callers owe nothing. Running out of memory may count as a failed fetch, since the shelf
+//! may have counted first; so `shelf_failed` leaves out the status of no memory.
 
 ghost use Rattle.std.specs.Prelude.{◌≡◌, ◌≢◌, ℕ, ◌+◌, ◌-◌, ◌^◌, ◌<◌, ◌≤◌, ◌↔◌, ◌⊎◌, ◌==◌, List, [], ◌∷◌, Some, length, min, if◌then◌else◌};
 ghost use Rattle.std.specs.Io.KnownBytes.{Appends, Consumes, IsAtEnd};

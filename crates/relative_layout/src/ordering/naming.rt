@@ -1,4 +1,7 @@
 //! Which children name which ids.
+//!
+//! Each rule of an axis that names a sibling counts, also one that a start form replaces, and every child with the id
+//! that it names except the child itself: so an order stays right when a direction turns or a child goes.
 ghost use Rattle.std.specs.Prelude.{◌≡◌, ◌<◌, ◌≤◌, ◌+◌, [], IfOk, IfSome, None, OnOk, Some, length, nat_eq, replicate, vec_len, ℕ};
 ghost use Rattle.indexmap.specs.IndexMap.{get as place_in};
 ghost use Rattle.relative_layout.specs.ordering.Naming.{AreNamers, lists_of, row_at, with_place};

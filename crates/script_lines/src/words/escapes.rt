@@ -1,4 +1,6 @@
 //! Texts with escapes, as lines give them.
+//!
+//! A backslash at the end of a text is no escape; a wrong escape counts before an id of 0.
 
 ghost use Rattle.std.specs.Prelude.{◌≡◌, ℕ, List, IfOk, IsTrue};
 ghost use Rattle.std.specs.Iterator.{YieldsFirst, item_count};

@@ -1,4 +1,7 @@
 //! The gravity that a word gives.
+//!
+//! Two words for one axis are no gravity, not even equal ones; neither is `none` beside a word, or an empty part.
+//! `none` leaves a view as one that was never given a gravity.
 
 ghost use Rattle.std.specs.Prelude.{◌≡◌};
 ghost use Rattle.script_lines.specs.words.Gravities.{across_of, down_of, gravity_of, is_set_across, is_set_down, one_across, one_down, with_word, with_words};

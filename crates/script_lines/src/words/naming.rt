@@ -1,4 +1,7 @@
 //! How a line names a view.
+//!
+//! The number of `vN` has no bound: `v0` and `v9999999999` name no view. Hexadecimal digits may have either case; more
+//! than eight are no name. `@0` is well formed and names no view. Ids with the highest bit set are ids as any other.
 
 ghost use Rattle.std.specs.Prelude.{◌≡◌, ◌<◌, ◌≤◌, length, IfOk};
 ghost use Rattle.std.specs.Char.{is_ascii_hexdigit};

@@ -1,4 +1,8 @@
 //! The numbers of a line.
+//!
+//! `-0`, `+1`, `01` and eleven digits are no numbers. One to ten digits outside the bounds are read, and refused for
+//! the bounds; so is a dimension below 0, which never means `match` or `wrap`. Both numbers of a weight and their sum
+//! have bounds.
 
 ghost use Rattle.std.specs.Prelude.{◌≡◌, ◌<◌, ◌≤◌, ◌^◌, pos, negsuc, ◌≤ℤ◌, length, IfSome, IfOk, IsTrue};
 ghost use Rattle.std.specs.Char.{is_ascii_digit};

@@ -1,4 +1,7 @@
 //! How a scroll view follows a pointer.
+//!
+//! A group that may not intercept follows no drag. A touch uses the bounds of the last frame and the offsets of now;
+//! the picture shows a drag from the next frame on.
 ghost use Rattle.std.specs.Prelude.{◌≡◌, ◌≤ℤ◌, negsuc, pos, IfSome};
 ghost use Rattle.touch_dispatch.specs.handling.Drags.{IsWay, active_point, asked_drag, asked_move, begins_drag, beyond_slop, dragging_at, ended_drag, following, is_active, is_past, lifted_drag, other_point, pressed_drag, pulled, pulled_at, pulled_to, still, way_up};
 

@@ -1,4 +1,7 @@
 //! The views that have each id, kept so that one that has an id alone is found without a walk.
+//!
+//! An id's entry is how many views have it and the sum of their keys: a view that gets or loses an id costs one step,
+//! and the sum is the key where one view has the id. Of several views the first is found by a walk.
 ghost use Rattle.std.specs.Prelude.{◌≡◌, ◌≢◌, ◌≤◌, ◌<◌, ◌+◌, ℕ, Some, None, IfSome, IsOk, OnErr, OnOk, nat_eq};
 ghost use Rattle.indexmap.specs.IndexMap.{get as holders_at, spare};
 ghost use Rattle.view_model.specs.declared.limits.TheConstants.{MAX_VIEWS};

@@ -1,4 +1,7 @@
 //! What is kept of the relative layouts of a sapling.
+//!
+//! Of a file's views, the children of the group that takes them are looked at for cycles first, those that are there
+//! before those of the file; then each relative layout of the file in preorder, the horizontal axis first.
 ghost use Rattle.std.specs.Prelude.{◌≡◌, ◌<◌, ◌≤◌, ◌+◌, ◌^◌, ◌++◌, ◌∷◌, [], None, suc, length, IfOk};
 ghost use Rattle.view_model.specs.Cycles.{member_from};
 ghost use Rattle.view_model.specs.declared.limits.TheConstants.{MAX_VIEWS};

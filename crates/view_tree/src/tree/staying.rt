@@ -1,4 +1,9 @@
 //! Kept orders that stay right when a child of a relative layout gets another id or other rules.
+//!
+//! Another id or other rules make the orders anew only if a quick look cannot show that they stay right: the child
+//! comes last, or each sibling that it newly names has its own place before it, and no child names the new id. Children
+//! are set one after another, so making them anew each time would cost the square of their number. For the look an id
+//! that no rule exceeds is kept, and of an id that several children have, the last one.
 ghost use Rattle.std.specs.Prelude.{◌≡◌, ◌≢◌, ◌<◌, ℕ, ◌⊎◌, false, length, slice_index, true};
 ghost use Rattle.view_model.specs.Classes.{is_relative};
 ghost use Rattle.view_model.specs.Cycles.{links_in, numbers_in};

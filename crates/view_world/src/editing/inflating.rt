@@ -1,4 +1,8 @@
 //! The views of a layout file: its bytes are fetched, read, and inflated.
+//!
+//! A place for the views that is not there is reported before a file is asked for: only an `inflate` line that has a
+//! place asks. Values and density count at this line; what views have is pixels from then on, and a resource that gets
+//! another value has it for later files alone.
 
 ghost use Rattle.std.specs.Prelude.{◌≡◌, ◌≢◌, Some, Err};
 ghost use Rattle.std.specs.Option.{option_map};

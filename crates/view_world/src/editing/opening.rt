@@ -1,4 +1,9 @@
 //! What is made before views are added: their places, and a table for their hooks.
+//!
+//! A view's place for touches, with room for three entries of the log, is taken before the view is made and not at the
+//! touch: so no touch is out of memory, and an `add` may be, even where it would have been refused. The table of hooks
+//! has memory of its own, made with the first view: it has 9 of 14.5 KB, which each move of a world would copy. A
+//! `hook` line takes none.
 
 ghost use Rattle.std.specs.Prelude.{◌≡◌, ◌≢◌, ◌<◌, ◌+◌, ◌^◌, [], None, IfOk, OnErr, OnOk};
 ghost use Rattle.touch_dispatch.specs.gesture.Kept.{Kept, gesture_of};

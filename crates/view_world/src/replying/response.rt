@@ -1,4 +1,6 @@
 //! What is printed for a line that was carried out.
+//!
+//! A world keeps one buffer for its replies. A new one for each line would clear 4096 bytes.
 
 ghost use Rattle.std.specs.Prelude.{◌≡◌, []};
 ghost use Rattle.text_lines.specs.Delivered.{Delivered};

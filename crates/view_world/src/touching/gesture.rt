@@ -1,4 +1,7 @@
 //! What lines change of a gesture, and what that depends on.
+//!
+//! A cancel reads no bounds, so a removal prints the same in every stage. A pointer stays down when its view goes away;
+//! groups without targets handle its next lines themselves, and a new root gets its events once it has bounds.
 
 ghost use Rattle.std.specs.Prelude.{◌≡◌, ℕ, ◌∷◌};
 ghost use Rattle.touch_dispatch.specs.gesture.Kept.{gesture_of, is_open};

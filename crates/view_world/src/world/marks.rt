@@ -1,4 +1,7 @@
 //! What the lines since the last frame have left for the next one to do.
+//!
+//! Marks and the box of the damage are beside the plain world and no part of it: they say what the next frame has to
+//! do, and not what a line does. So the costs of a run stay a function of script and files.
 ghost use Rattle.std.specs.Prelude.{◌≡◌};
 ghost use Rattle.script_lines.specs.commands.PlainCommands.{plain_command};
 ghost use Rattle.view_world.specs.world.Marks.{effect_of, effect_of_act, marked, no_marks};
