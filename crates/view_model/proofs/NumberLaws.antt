@@ -6,33 +6,44 @@ use Rattle.view_model.specs.declared.refusals.TheConstants.{BAD_STATE, BAD_VALUE
 use Rattle.view_model.specs.declared.verbs.TheConstants.{ABOVE, ALIGN_BOTTOM, ALIGN_END, ALIGN_LEFT, ALIGN_RIGHT, ALIGN_START, ALIGN_TOP, BELOW, CENTER, CENTER_H, CENTER_V, END_OF, LEFT_OF, PARENT_BOTTOM, PARENT_END, PARENT_LEFT, PARENT_RIGHT, PARENT_START, PARENT_TOP, RIGHT_OF, START_OF}
 use Rattle.view_model.specs.Font.{font}
 use Rattle.view_model.specs.Glyphs.{no_glyph}
-use Rattle.view_model.specs.Numbers.{cell_sides, count_limits, length_limits, other_limits, refusal_numbers, verb_places}
+use Rattle.view_model.specs.Numbers.{bad_state, bad_value, cell_height, cell_width, cycle, duplicate, has_root, hook_edit, late_dpi, long_file, long_line, max_depth, max_edits, max_file, max_hooks, max_inset, max_resources, max_size, max_views, max_weight, min_margin, missing_file, no_frame, no_root, no_size, no_view, no_window, normal_dpi, not_group, numbers_end, out_of_range, scroll_full, state_class, syntax_fault, theme_ref, too_deep, too_many_hooks, too_many_resources, too_many_views, unknown_class, unresolved, unsettled, wrong_class, wrong_pointer}
+use Rattle.view_model.specs.Verbs as verb
 
 refusals :
     UNRESOLVED ∷ THEME_REF ∷ BAD_VALUE ∷ TOO_MANY_RESOURCES ∷ DUPLICATE ∷ NO_SIZE ∷ CYCLE ∷ TOO_MANY_VIEWS
     ∷ TOO_DEEP ∷ NOT_GROUP ∷ SCROLL_FULL ∷ UNKNOWN_CLASS ∷ TOO_MANY_HOOKS ∷ HOOK_EDIT ∷ BAD_STATE ∷ STATE_CLASS
     ∷ NO_VIEW ∷ WRONG_CLASS ∷ OUT_OF_RANGE ∷ SYNTAX ∷ LONG_LINE ∷ NO_WINDOW ∷ NO_ROOT ∷ HAS_ROOT ∷ UNSETTLED
     ∷ NO_FRAME ∷ WRONG_POINTER ∷ MISSING_FILE ∷ LONG_FILE ∷ LATE_DPI ∷ []
-    ≡ refusal_numbers
+    ≡
+    unresolved ∷ theme_ref ∷ bad_value ∷ too_many_resources ∷ duplicate ∷ no_size ∷ cycle ∷ too_many_views
+    ∷ too_deep ∷ not_group ∷ scroll_full ∷ unknown_class ∷ too_many_hooks ∷ hook_edit ∷ bad_state ∷ state_class
+    ∷ no_view ∷ wrong_class ∷ out_of_range ∷ syntax_fault ∷ long_line ∷ no_window ∷ no_root ∷ has_root
+    ∷ unsettled ∷ no_frame ∷ wrong_pointer ∷ missing_file ∷ long_file ∷ late_dpi ∷ []
 refusals = refl
 
-counts : MAX_VIEWS ∷ MAX_RESOURCES ∷ MAX_HOOKS ∷ MAX_EDITS ∷ MAX_DEPTH ∷ NUMBERS_END ∷ [] ≡ count_limits
+counts :
+    MAX_VIEWS ∷ MAX_RESOURCES ∷ MAX_HOOKS ∷ MAX_EDITS ∷ MAX_DEPTH ∷ NUMBERS_END ∷ []
+    ≡ max_views ∷ max_resources ∷ max_hooks ∷ max_edits ∷ max_depth ∷ numbers_end ∷ []
 counts = refl
 
-lengths : MAX_SIZE ∷ MAX_INSET ∷ MIN_MARGIN ∷ [] ≡ length_limits
+lengths : MAX_SIZE ∷ MAX_INSET ∷ MIN_MARGIN ∷ [] ≡ max_size ∷ max_inset ∷ min_margin ∷ []
 lengths = refl
 
-others : MAX_WEIGHT ∷ NORMAL_DPI ∷ MAX_FILE ∷ [] ≡ other_limits
+others : MAX_WEIGHT ∷ NORMAL_DPI ∷ MAX_FILE ∷ [] ≡ max_weight ∷ normal_dpi ∷ max_file ∷ []
 others = refl
 
-cells : CELL_WIDTH ∷ CELL_HEIGHT ∷ [] ≡ cell_sides
+cells : CELL_WIDTH ∷ CELL_HEIGHT ∷ [] ≡ cell_width ∷ cell_height ∷ []
 cells = refl
 
 verbs :
-    LEFT_OF ∷ RIGHT_OF ∷ ABOVE ∷ BELOW ∷ ALIGN_LEFT ∷ ALIGN_TOP ∷ ALIGN_RIGHT ∷ ALIGN_BOTTOM ∷ START_OF ∷ END_OF
-    ∷ ALIGN_START ∷ ALIGN_END ∷ PARENT_LEFT ∷ PARENT_TOP ∷ PARENT_RIGHT ∷ PARENT_BOTTOM ∷ PARENT_START
+    LEFT_OF ∷ RIGHT_OF ∷ ABOVE ∷ BELOW ∷ ALIGN_LEFT ∷ ALIGN_TOP ∷ ALIGN_RIGHT ∷ ALIGN_BOTTOM ∷ START_OF
+    ∷ END_OF ∷ ALIGN_START ∷ ALIGN_END ∷ PARENT_LEFT ∷ PARENT_TOP ∷ PARENT_RIGHT ∷ PARENT_BOTTOM ∷ PARENT_START
     ∷ PARENT_END ∷ CENTER ∷ CENTER_H ∷ CENTER_V ∷ []
-    ≡ verb_places
+    ≡
+    verb.left_of ∷ verb.right_of ∷ verb.above ∷ verb.below ∷ verb.align_left ∷ verb.align_top
+    ∷ verb.align_right ∷ verb.align_bottom ∷ verb.start_of ∷ verb.end_of ∷ verb.align_start ∷ verb.align_end
+    ∷ verb.parent_left ∷ verb.parent_top ∷ verb.parent_right ∷ verb.parent_bottom ∷ verb.parent_start
+    ∷ verb.parent_end ∷ verb.center ∷ verb.center_h ∷ verb.center_v ∷ []
 verbs = refl
 
 pub font_of_code : FONT ≡ font

@@ -32,4 +32,5 @@ pub mod ScrollView
 pub mod SiblingRules
 pub mod Sprouts
 pub mod TextView
+pub mod Verbs
 pub mod Visible
