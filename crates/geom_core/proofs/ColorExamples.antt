@@ -1,17 +1,14 @@
 -- What is seen of colours over others, by computation.
 use Rattle.std.specs.Prelude.{◌≡◌, ℕ, refl}
 use Rattle.geom_core.specs.declared.color.Argb.{Argb}
-use Rattle.geom_core.specs.declared.color.TheConstants.{BLACK}
 use Rattle.geom_core.specs.Color.{alpha_of, blend_of, blue_of, green_of, mixed, opaque_of, red_of}
+use Rattle.geom_core.specs.Numbers.{unpainted}
 
 abbrev color : ℕ → Argb
 color number = record { 0 = number }
 
-black_is : BLACK ≡ color 0xff00_0000
-black_is = refl
-
 -- an alpha of 128 takes 128 of 255 parts
-half_of_red : blend_of (color 0x80ff_0000) BLACK ≡ color 0xff80_0000
+half_of_red : blend_of (color 0x80ff_0000) unpainted ≡ color 0xff80_0000
 unfolding alpha_of red_of green_of blue_of mixed opaque_of blend_of
 half_of_red = refl
 
@@ -24,7 +21,7 @@ unfolding alpha_of red_of green_of blue_of mixed opaque_of blend_of
 red_over_blue = refl
 
 -- the least alpha of the brightest colour gives one step, and that of a darker one is lost
-least_alpha : blend_of (color 0x01ff_7f80) BLACK ≡ color 0xff01_0001
+least_alpha : blend_of (color 0x01ff_7f80) unpainted ≡ color 0xff01_0001
 unfolding alpha_of red_of green_of blue_of mixed opaque_of blend_of
 least_alpha = refl
 

@@ -1,4 +1,5 @@
 pub mod Color
 pub mod Limits
+pub mod Numbers
 pub mod Rects
 pub mod Spec

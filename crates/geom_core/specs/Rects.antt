@@ -1,8 +1,7 @@
 -- Rectangles as sets of points. Right and bottom are exclusive.
-use Rattle.std.specs.Prelude.{ℤ, int_lt, Bool, ◌&&◌, ◌||◌, not, if◌then◌else◌}
+use Rattle.std.specs.Prelude.{ℤ, pos, int_lt, Bool, ◌&&◌, ◌||◌, not, if◌then◌else◌}
 use Rattle.std.specs.Int.{int_min, int_max}
 use Rattle.geom_core.specs.declared.geometry.Rect.{Rect}
-use Rattle.geom_core.specs.declared.geometry.TheConstants.{EMPTY}
 
 -- whether a point lies in a rectangle
 abbrev pub holds : Rect → ℤ → ℤ → Bool
@@ -36,10 +35,14 @@ around_of a b = record {
   bottom = larger_of a.bottom b.bottom;
 }
 
+-- the result where no point is in it
+abbrev pub empty_rect : Rect
+empty_rect = record { left = pos 0; top = pos 0; right = pos 0; bottom = pos 0 }
+
 -- the rectangle of the common points, or the empty one if there are none
 unfoldable pub meet_of : Rect → Rect → Rect
-meet_of a b = if is_empty (overlap_of a b) then EMPTY else overlap_of a b
+meet_of a b = if is_empty (overlap_of a b) then empty_rect else overlap_of a b
 
 -- the smallest rectangle around both; one without a point is ignored
 unfoldable pub hull_of : Rect → Rect → Rect
-hull_of a b = if is_empty a then (if is_empty b then EMPTY else b) else (if is_empty b then a else around_of a b)
+hull_of a b = if is_empty a then (if is_empty b then empty_rect else b) else (if is_empty b then a else around_of a b)

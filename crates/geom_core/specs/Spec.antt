@@ -1,11 +1,12 @@
 -- The specs by which a parent asks a child for a size on one axis.
-use Rattle.std.specs.Prelude.{ℤ, pos, negsuc, ◌-ℤ◌, int_lt, if◌then◌else◌}
+use Rattle.std.specs.Prelude.{ℤ, pos, ◌-ℤ◌, int_lt, if◌then◌else◌}
 use Rattle.std.specs.Int.{int_min}
 use Rattle.std.specs.Ordering.{int_eq}
 use Rattle.geom_core.specs.declared.measuring.Mode.{Mode}
 use Rattle.geom_core.specs.declared.measuring.Mode.TheVariants.{Unspecified, Exactly, AtMost}
 use Rattle.geom_core.specs.declared.measuring.Spec.{Spec}
 use Rattle.geom_core.specs.Limits.{clamp_size}
+use Rattle.geom_core.specs.Numbers.{match_parent}
 
 -- what is left of a parent's size of which `used` pixels are taken, or 0 if more is taken than there is
 unfoldable pub remaining_of : ℤ → ℤ → ℤ
@@ -22,7 +23,7 @@ wrap_mode AtMost = AtMost
 unfoldable pub child_spec_of : Spec → ℤ → ℤ → Spec
 child_spec_of spec used dim =
     if int_lt dim (pos 0)
-    then (if int_eq dim (negsuc 0)
+    then (if int_eq dim match_parent
     then record { mode = spec.mode; size = remaining_of spec.size used }
     else record { mode = wrap_mode spec.mode; size = remaining_of spec.size used })
     else record { mode = Exactly; size = clamp_size dim }
