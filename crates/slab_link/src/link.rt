@@ -2,6 +2,7 @@
 //!
 //! One number of the four bytes means that there is no value. An `Option<usize>` would take 16.
 ghost use Rattle.std.specs.Prelude.{◌≡◌, ◌<◌, Some, None, IfSome};
+ghost use Rattle.slab_link.specs.Numbers.{links_end};
 
 use std::marker::Model;
 
@@ -42,7 +43,7 @@ impl Link {
 
     /// A link to the value of this key.
     pub fn to(key: usize) -> Link
-        requires { key < LINKS_END }
+        requires { key < links_end }
         ensures { result ≡ Some key }
     {
         Link { raw: key as u32 }
@@ -50,7 +51,7 @@ impl Link {
 
     /// A link to the value of this key, or to none.
     pub fn of(key: Option<usize>) -> Link
-        requires { IfSome key (λ key. key < LINKS_END) }
+        requires { IfSome key (λ key. key < links_end) }
         ensures { result ≡ key }
     {
         match key {
