@@ -4,13 +4,8 @@ use Rattle.touch_event.specs.declared.event.Action.{Action}
 use Rattle.touch_event.specs.declared.event.Action.TheVariants.{Down, Up, Move, Cancel, PointerDown, PointerUp}
 use Rattle.touch_event.specs.declared.event.Event.{Event}
 use Rattle.touch_event.specs.declared.event.Point.{Point}
-use Rattle.touch_event.specs.declared.event.TheConstants.{MAX_POINTERS}
 use Rattle.touch_event.specs.PointerSets.{has_id}
 use Rattle.touch_event.specs.Splitting.{split_event}
-
--- the ids of pointers are below this
-pointers : MAX_POINTERS ≡ 32
-pointers = refl
 
 -- the pointers 0, 1 and 31
 left : Point

@@ -1,2 +1,3 @@
 mod Examples
+mod NumberLaws
 pub mod PointerSetLaws
