@@ -4,13 +4,13 @@ use Rattle.std.specs.Option.{option_or}
 use Rattle.view_model.specs.declared.kinds.Class.{Class}
 use Rattle.view_model.specs.declared.refusal.Member.{Member}
 use Rattle.view_model.specs.declared.refusal.Member.TheVariants as member
-use Rattle.view_model.specs.declared.refusals.TheConstants.{CYCLE}
 use Rattle.view_model.specs.declared.relative.Axis.{Axis}
 use Rattle.view_model.specs.declared.relative.Axis.TheVariants.{Horizontal, Vertical}
 use Rattle.view_model.specs.declared.relative.Link.{Link}
 use Rattle.view_model.specs.Classes.{is_relative}
 use Rattle.view_model.specs.Forest.{Forest, Nothing, Branch}
 use Rattle.view_model.specs.Growth.{grown_at}
+use Rattle.view_model.specs.Numbers.{cycle}
 use Rattle.view_model.specs.Orders.{members_of}
 use Rattle.view_model.specs.PlainTree.{PlainView}
 use Rattle.view_model.specs.Refusals.{Cycle, PlainRefusal}
@@ -39,7 +39,7 @@ cyclic axis kids = map (slice_index (numbers_in kids)) (members_of (leads axis (
 -- a cycle with these members is reported, by the names that these numbers have
 abbrev pub cycle_with : (ℕ → Member) → Bool → List ℕ → Option PlainRefusal
 cycle_with name down [] = None
-cycle_with name down (number ∷ more) = Some (record { number = CYCLE; reason = Cycle down (map name (number ∷ more)) })
+cycle_with name down (number ∷ more) = Some (record { number = cycle; reason = Cycle down (map name (number ∷ more)) })
 
 -- why a relative layout can't have these children: their cycles on the horizontal axis, or else those on the vertical
 abbrev pub cycle_among : (ℕ → Member) → Forest PlainView → Option PlainRefusal

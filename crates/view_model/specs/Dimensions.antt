@@ -2,7 +2,7 @@
 use Rattle.std.specs.Prelude.{ℕ, ◌+◌, ◌*◌, ◌-◌, ◌^◌, ◌/◌, ◌%◌, ◌==◌, ◌&&◌, ◌||◌, not, nat_lt, int_lt, ℤ, pos, negsuc, ◌+ℤ◌, ◌*ℤ◌, Bool, Option, Some, None, if◌then◌else◌}
 use Rattle.std.specs.Int.{int_div_euclid}
 use Rattle.std.specs.Ordering.{int_eq}
-use Rattle.view_model.specs.declared.limits.TheConstants.{MAX_WEIGHT}
+use Rattle.view_model.specs.Numbers.{max_weight}
 
 -- what a unit is in pixels at this density, as a numerator and a denominator: px, dip, sp, pt, in, mm
 unfoldable pub unit_of : ℕ → ℕ → Option (ℕ × ℕ)
@@ -51,7 +51,7 @@ weight_near fraction exponent =
 
 -- a weight is not negative, and not too large
 abbrev pub weight_in_bounds : Bool → ℕ → Option ℕ
-weight_in_bounds negative n = if nat_lt MAX_WEIGHT n || (negative && not (n == 0)) then None else Some n
+weight_in_bounds negative n = if nat_lt max_weight n || (negative && not (n == 0)) then None else Some n
 
 -- the weight of a float's word, in 256ths: its sign in bit 31, its exponent in bits 23 to 30, its fraction below
 unfoldable pub weight_of : ℕ → Option ℕ

@@ -1,10 +1,9 @@
 -- Where a tree takes a new view, and why it does not elsewhere.
 use Rattle.std.specs.Prelude.{ℕ, nat_lt, Bool, not, ◌&&◌, if◌then◌else◌, Option, Some, None}
 use Rattle.view_model.specs.declared.kinds.Class.{Class}
-use Rattle.view_model.specs.declared.limits.TheConstants.{MAX_DEPTH, MAX_VIEWS}
-use Rattle.view_model.specs.declared.refusals.TheConstants.{NOT_GROUP, SCROLL_FULL, TOO_DEEP, TOO_MANY_VIEWS}
 use Rattle.view_model.specs.Classes.{is_group, takes_one_child}
 use Rattle.view_model.specs.Forest.{Forest, count_of}
+use Rattle.view_model.specs.Numbers.{max_depth, max_views, not_group, scroll_full, too_deep, too_many_views}
 use Rattle.view_model.specs.PlainTree.{PlainView, depth_of, grown, has_child, view_in}
 use Rattle.view_model.specs.Refusals.{PlainRefusal, refusal_numbered}
 
@@ -12,10 +11,10 @@ use Rattle.view_model.specs.Refusals.{PlainRefusal, refusal_numbered}
 -- has the one child that it takes, it is too deep, or the tree is full
 unfoldable pub growth_refusal : (class : Class) (occupied : Bool) (depth count : ℕ) → Option PlainRefusal
 growth_refusal class occupied depth count =
-    if not (is_group class) then Some (refusal_numbered NOT_GROUP)
-    else (if takes_one_child class && occupied then Some (refusal_numbered SCROLL_FULL)
-    else (if not (nat_lt depth MAX_DEPTH) then Some (refusal_numbered TOO_DEEP)
-    else (if not (nat_lt count MAX_VIEWS) then Some (refusal_numbered TOO_MANY_VIEWS)
+    if not (is_group class) then Some (refusal_numbered not_group)
+    else (if takes_one_child class && occupied then Some (refusal_numbered scroll_full)
+    else (if not (nat_lt depth max_depth) then Some (refusal_numbered too_deep)
+    else (if not (nat_lt count max_views) then Some (refusal_numbered too_many_views)
     else None)))
 
 abbrev pub growth_refusal_of : (view : Option PlainView) (occupied : Bool) (depth count : ℕ) → Option PlainRefusal

@@ -5,12 +5,12 @@ use Rattle.std.specs.Int.{int_max}
 use Rattle.std.specs.List.{list_all, list_any}
 use Rattle.std.specs.Ordering.{int_eq}
 use Rattle.geom_core.specs.Limits.{clamp_size, clamp_coordinate}
+use Rattle.geom_core.specs.Numbers.{wrap_content}
 use Rattle.geom_core.specs.Spec.{child_spec_of, remaining_of, resolve_of}
 use Rattle.geom_core.specs.declared.geometry.Rect.{Rect}
 use Rattle.geom_core.specs.declared.geometry.Size.{Size}
 use Rattle.geom_core.specs.declared.measuring.Mode.TheVariants.{Exactly}
 use Rattle.geom_core.specs.declared.measuring.Spec.{Spec}
-use Rattle.geom_core.specs.declared.measuring.TheConstants.{WRAP}
 use Rattle.view_model.specs.declared.facts.Facts.{Facts}
 use Rattle.view_model.specs.declared.placing.Alignment.{Alignment}
 use Rattle.view_model.specs.declared.placing.Alignment.TheVariants.{Low, Middle, High}
@@ -136,7 +136,7 @@ used_before weights weight total = if weights + weight == 0 then total else pos 
 
 -- a child of length 0 with a weight is measured by its content
 unfoldable pub first_dim : ℤ → ℕ → ℤ
-first_dim dim weight = if int_eq dim (pos 0) && nat_lt 0 weight then WRAP else dim
+first_dim dim weight = if int_eq dim (pos 0) && nat_lt 0 weight then wrap_content else dim
 
 abbrev pub spec_beside : Facts → Specs → Facts → Spec
 spec_beside own specs kid =

@@ -2,21 +2,21 @@
 use Rattle.std.specs.Prelude.{ℕ, ◌*◌, ◌/◌, ◌%◌, ℤ, pos, negsuc, ◌-ℤ◌, ◌+ℤ◌, Bool, true, false, ◌&&◌, ◌||◌, not, if◌then◌else◌, List, map, Option, Some, None}
 use Rattle.std.specs.List.{range_with_len}
 use Rattle.geom_core.specs.Color.{blend_of}
+use Rattle.geom_core.specs.Numbers.{unpainted}
 use Rattle.geom_core.specs.Rects.{holds}
 use Rattle.geom_core.specs.declared.color.Argb.{Argb}
-use Rattle.geom_core.specs.declared.color.TheConstants.{BLACK}
 use Rattle.geom_core.specs.declared.geometry.Rect.{Rect}
 use Rattle.geom_core.specs.declared.geometry.Size.{Size}
 use Rattle.view_model.specs.declared.facts.Facts.{Facts}
 use Rattle.view_model.specs.declared.kinds.Visibility.{Visibility}
 use Rattle.view_model.specs.declared.kinds.Visibility.TheVariants.{Visible, Invisible, Gone}
-use Rattle.view_model.specs.declared.limits.TheConstants.{CELL_HEIGHT, CELL_WIDTH}
 use Rattle.view_model.specs.CellText.{cell_of}
 use Rattle.view_model.specs.Classes.{has_text}
 use Rattle.view_model.specs.Facts.{padding_left, padding_right}
 use Rattle.view_model.specs.Forest.{Forest, Nothing, Branch, map_rows}
 use Rattle.view_model.specs.Geometry.{Laid, rect_in, size_of_rect}
 use Rattle.view_model.specs.Glyphs.{glyph_of, has_bit}
+use Rattle.view_model.specs.Numbers.{cell_height, cell_width}
 use Rattle.view_model.specs.PlainTree.{PlainView}
 use Rattle.view_model.specs.TextView.{cells_across}
 
@@ -46,7 +46,7 @@ cell_pixel (Some c) column row = has_bit (glyph_of c column) row
 
 -- whether a point is a set pixel of a text in lines of n cells, whose corner is the origin
 abbrev pub text_pixel : ℕ → List ℕ → ℤ → ℤ → Bool
-text_pixel n text (pos x) (pos y) = cell_pixel (cell_of n text (y / CELL_HEIGHT) (x / CELL_WIDTH)) (x % CELL_WIDTH) (y % CELL_HEIGHT)
+text_pixel n text (pos x) (pos y) = cell_pixel (cell_of n text (y / cell_height) (x / cell_width)) (x % cell_width) (y % cell_height)
 text_pixel n text (pos x) (negsuc y) = false
 text_pixel n text (negsuc x) y = false
 
@@ -94,7 +94,7 @@ painted (Branch it below after) x y under = painted after x y (drawn_in it.bound
 
 -- the colour of a point of a window in which the views of a tree have these bounds: what they paint over black
 abbrev pub pixel_color : List Laid → Forest PlainView → ℤ → ℤ → Argb
-pixel_color geometry tree x y = painted (placed_by geometry tree) x y BLACK
+pixel_color geometry tree x y = painted (placed_by geometry tree) x y unpainted
 
 -- the colours of the points of a window, row by row from the top, each from left to right
 abbrev pub picture_of : ℕ → ℕ → (ℤ → ℤ → Argb) → List Argb

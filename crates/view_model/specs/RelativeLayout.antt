@@ -19,12 +19,12 @@ use Rattle.view_model.specs.declared.relative.Axis.TheVariants.{Horizontal, Vert
 use Rattle.view_model.specs.declared.relative.Band.{Band}
 use Rattle.view_model.specs.declared.relative.Edges.{Edges}
 use Rattle.view_model.specs.declared.relative.Tied.{Tied}
-use Rattle.view_model.specs.declared.verbs.TheConstants.{PARENT_LEFT, PARENT_TOP, PARENT_RIGHT, PARENT_BOTTOM, PARENT_START, PARENT_END, CENTER, CENTER_H, CENTER_V}
 use Rattle.view_model.specs.Direction.{left_of_two, right_of_two}
 use Rattle.view_model.specs.Facts.{is_match, margin_left, margin_right, padding_left, padding_right}
 use Rattle.view_model.specs.FrameLayout.{is_exactly}
 use Rattle.view_model.specs.Measuring.{Specs}
 use Rattle.view_model.specs.SiblingRules.{is_free, value_of}
+use Rattle.view_model.specs.Verbs as verb
 
 -- One axis of a group and of a child.
 
@@ -51,18 +51,18 @@ tied_on rtl Horizontal kid = record {
   dim = kid.width;
   margin_near = margin_left kid;
   margin_far = margin_right kid;
-  at_near = is_set kid.rules PARENT_LEFT || not (left_of_two rtl (value_of kid.rules PARENT_START) (value_of kid.rules PARENT_END) == 0);
-  at_far = is_set kid.rules PARENT_RIGHT || not (right_of_two rtl (value_of kid.rules PARENT_START) (value_of kid.rules PARENT_END) == 0);
-  centered = is_set kid.rules CENTER || is_set kid.rules CENTER_H;
+  at_near = is_set kid.rules verb.parent_left || not (left_of_two rtl (value_of kid.rules verb.parent_start) (value_of kid.rules verb.parent_end) == 0);
+  at_far = is_set kid.rules verb.parent_right || not (right_of_two rtl (value_of kid.rules verb.parent_start) (value_of kid.rules verb.parent_end) == 0);
+  centered = is_set kid.rules verb.center || is_set kid.rules verb.center_h;
   rests_far = rtl && is_free kid.rules;
 }
 tied_on rtl Vertical kid = record {
   dim = kid.height;
   margin_near = kid.margins.top;
   margin_far = kid.margins.bottom;
-  at_near = is_set kid.rules PARENT_TOP;
-  at_far = is_set kid.rules PARENT_BOTTOM;
-  centered = is_set kid.rules CENTER || is_set kid.rules CENTER_V;
+  at_near = is_set kid.rules verb.parent_top;
+  at_far = is_set kid.rules verb.parent_bottom;
+  centered = is_set kid.rules verb.center || is_set kid.rules verb.center_v;
   rests_far = false;
 }
 

@@ -2,8 +2,7 @@
 use Rattle.std.specs.Prelude.{ℕ, nat_eq, nat_lt, not, ◌&&◌, if◌then◌else◌, Bool, List, [], ◌∷◌, length, Option, Some, None, is_some}
 use Rattle.std.specs.Map.{lookup}
 use Rattle.geom_core.specs.declared.color.Argb.{Argb}
-use Rattle.view_model.specs.declared.limits.TheConstants.{MAX_RESOURCES}
-use Rattle.view_model.specs.declared.refusals.TheConstants.{TOO_MANY_RESOURCES}
+use Rattle.view_model.specs.Numbers.{max_resources, too_many_resources}
 use Rattle.view_model.specs.Refusals.{PlainRefusal, refusal_numbered}
 
 -- what a resource is: a colour, the word of a dimension, or the characters of a text
@@ -27,7 +26,7 @@ with_resource (entry ∷ more) id resource = if nat_eq id entry.0 then (entry.0,
 
 -- why an id that has a resource already, or has none, gets none if n are defined
 unfoldable pub definition_refusal : ℕ → Bool → Option PlainRefusal
-definition_refusal count defined = if not defined && not (nat_lt count MAX_RESOURCES) then Some (refusal_numbered TOO_MANY_RESOURCES) else None
+definition_refusal count defined = if not defined && not (nat_lt count max_resources) then Some (refusal_numbered too_many_resources) else None
 
 -- why an id gets no resource: it is a new one, and there are as many as there may be
 abbrev pub definition_refusal_of : Entries → ℕ → Option PlainRefusal

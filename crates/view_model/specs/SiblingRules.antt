@@ -7,18 +7,18 @@ use Rattle.view_model.specs.declared.relative.Axis.TheVariants.{Horizontal, Vert
 use Rattle.view_model.specs.declared.relative.Link.{Link}
 use Rattle.view_model.specs.declared.relative.Tie.{Tie}
 use Rattle.view_model.specs.declared.relative.Tie.TheVariants.{Before, After, AlignNear, AlignFar}
-use Rattle.view_model.specs.declared.verbs.TheConstants.{LEFT_OF, RIGHT_OF, ABOVE, BELOW, ALIGN_LEFT, ALIGN_TOP, ALIGN_RIGHT, ALIGN_BOTTOM, START_OF, END_OF, ALIGN_START, ALIGN_END, PARENT_LEFT, PARENT_RIGHT, PARENT_START, PARENT_END, CENTER, CENTER_H}
 use Rattle.view_model.specs.Direction.{left_of_two, right_of_two}
+use Rattle.view_model.specs.Verbs as verb
 
 -- the verbs of an axis that name a sibling
 abbrev pub sibling_verbs : Axis → List ℕ
-sibling_verbs Horizontal = LEFT_OF ∷ RIGHT_OF ∷ ALIGN_LEFT ∷ ALIGN_RIGHT ∷ START_OF ∷ END_OF ∷ ALIGN_START ∷ ALIGN_END ∷ []
-sibling_verbs Vertical = ABOVE ∷ BELOW ∷ ALIGN_TOP ∷ ALIGN_BOTTOM ∷ []
+sibling_verbs Horizontal = verb.left_of ∷ verb.right_of ∷ verb.align_left ∷ verb.align_right ∷ verb.start_of ∷ verb.end_of ∷ verb.align_start ∷ verb.align_end ∷ []
+sibling_verbs Vertical = verb.above ∷ verb.below ∷ verb.align_top ∷ verb.align_bottom ∷ []
 
 -- the verbs that speak of left and right
 abbrev pub across_verbs : List ℕ
-across_verbs = LEFT_OF ∷ RIGHT_OF ∷ ALIGN_LEFT ∷ ALIGN_RIGHT ∷ START_OF ∷ END_OF ∷ ALIGN_START ∷ ALIGN_END
-    ∷ PARENT_LEFT ∷ PARENT_RIGHT ∷ PARENT_START ∷ PARENT_END ∷ CENTER ∷ CENTER_H ∷ []
+across_verbs = verb.left_of ∷ verb.right_of ∷ verb.align_left ∷ verb.align_right ∷ verb.start_of ∷ verb.end_of ∷ verb.align_start ∷ verb.align_end
+    ∷ verb.parent_left ∷ verb.parent_right ∷ verb.parent_start ∷ verb.parent_end ∷ verb.center ∷ verb.center_h ∷ []
 
 abbrev pub value_of : Rules → ℕ → ℕ
 value_of rules verb = slice_index rules.values verb
@@ -41,14 +41,14 @@ form_of start left = if start == 0 then left else start
 
 -- the id of the sibling to which rules tie a child, or 0, in a group that runs from right to left or not
 abbrev pub anchor_id : Bool → Axis → Tie → Rules → ℕ
-anchor_id rtl Horizontal Before rules = form_of (left_of_two rtl (value_of rules START_OF) (value_of rules END_OF)) (value_of rules LEFT_OF)
-anchor_id rtl Horizontal After rules = form_of (right_of_two rtl (value_of rules START_OF) (value_of rules END_OF)) (value_of rules RIGHT_OF)
-anchor_id rtl Horizontal AlignNear rules = form_of (left_of_two rtl (value_of rules ALIGN_START) (value_of rules ALIGN_END)) (value_of rules ALIGN_LEFT)
-anchor_id rtl Horizontal AlignFar rules = form_of (right_of_two rtl (value_of rules ALIGN_START) (value_of rules ALIGN_END)) (value_of rules ALIGN_RIGHT)
-anchor_id rtl Vertical Before rules = value_of rules ABOVE
-anchor_id rtl Vertical After rules = value_of rules BELOW
-anchor_id rtl Vertical AlignNear rules = value_of rules ALIGN_TOP
-anchor_id rtl Vertical AlignFar rules = value_of rules ALIGN_BOTTOM
+anchor_id rtl Horizontal Before rules = form_of (left_of_two rtl (value_of rules verb.start_of) (value_of rules verb.end_of)) (value_of rules verb.left_of)
+anchor_id rtl Horizontal After rules = form_of (right_of_two rtl (value_of rules verb.start_of) (value_of rules verb.end_of)) (value_of rules verb.right_of)
+anchor_id rtl Horizontal AlignNear rules = form_of (left_of_two rtl (value_of rules verb.align_start) (value_of rules verb.align_end)) (value_of rules verb.align_left)
+anchor_id rtl Horizontal AlignFar rules = form_of (right_of_two rtl (value_of rules verb.align_start) (value_of rules verb.align_end)) (value_of rules verb.align_right)
+anchor_id rtl Vertical Before rules = value_of rules verb.above
+anchor_id rtl Vertical After rules = value_of rules verb.below
+anchor_id rtl Vertical AlignNear rules = value_of rules verb.align_top
+anchor_id rtl Vertical AlignFar rules = value_of rules verb.align_bottom
 
 -- whether no horizontal rule is set: a rule counts even if it names no sibling
 abbrev pub is_free : Rules → Bool
