@@ -5,10 +5,6 @@ use Rattle.size_hooks.specs.Hook.{Hook}
 use Rattle.size_hooks.specs.Hooks.{armed, disarmed, edit_of, hook_of, reported_as}
 use Rattle.view_model.specs.declared.changes.Change.TheVariants as change
 use Rattle.view_model.specs.declared.changes.NumEdit.{NumEdit}
-use Rattle.view_model.specs.declared.limits.TheConstants.{MAX_EDITS, MAX_HOOKS}
-
-limits : MAX_HOOKS ∷ MAX_EDITS ∷ [] ≡ 32 ∷ 8 ∷ []
-limits = refl
 
 abbrev small : Size
 small = record { w = pos 10; h = pos 20 }

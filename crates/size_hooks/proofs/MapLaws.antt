@@ -8,7 +8,7 @@ use Rattle.std.specs.Prelude.{◌==◌, not, filter, if◌then◌else◌, nat_eq
 use Rattle.geom_core.specs.declared.geometry.Size.{Size}
 use Rattle.size_hooks.specs.Hook.{Hook}
 use Rattle.size_hooks.specs.Hooks.{IsMap, armed, reported_to, disarmed, hook_of, reported_as}
-use Rattle.view_model.specs.declared.limits.TheConstants.{MAX_EDITS, MAX_HOOKS}
+use Rattle.view_model.specs.Numbers.{max_edits, max_hooks}
 
 pub no_more_disarmed : (view : ℕ) (hooks : List Hook) → length (disarmed view hooks) ≤ length hooks
 no_more_disarmed view [] = omega arith
@@ -80,10 +80,10 @@ pub disarmed_map : (view : ℕ) (hooks : List Hook) → IsMap hooks → IsMap (d
 disarmed_map view hooks is = record {
   single = λ other. let fewer = fewer_of other view hooks in let one = is.single other in omega arith;
   few = let fewer = no_more_disarmed view hooks in let few = is.few in omega arith;
-  short = All-filter (λ (hook : Hook). not (hook.view == view)) (λ (hook : Hook). length hook.edits ≤ MAX_EDITS) hooks is.short;
+  short = All-filter (λ (hook : Hook). not (hook.view == view)) (λ (hook : Hook). length hook.edits ≤ max_edits) hooks is.short;
 }
 
-pub armed_map : (hook : Hook) (hooks : List Hook) → IsMap hooks → length (disarmed hook.view hooks) < MAX_HOOKS → length hook.edits ≤ MAX_EDITS → IsMap (armed hook hooks)
+pub armed_map : (hook : Hook) (hooks : List Hook) → IsMap hooks → length (disarmed hook.view hooks) < max_hooks → length hook.edits ≤ max_edits → IsMap (armed hook hooks)
 armed_map hook hooks is room short = record {
   single = λ other. elim (cases_eq hook.view other) [
     | inl e ↦
@@ -94,7 +94,7 @@ armed_map hook hooks is room short = record {
         let end = of_end other (disarmed hook.view hooks) hook in let none = alone_of other hook ne in omega arith
   ];
   few = let more = length-append (disarmed hook.view hooks) (hook ∷ []) in omega arith;
-  short = All-append (λ (h : Hook). length h.edits ≤ MAX_EDITS) (disarmed hook.view hooks) (hook ∷ []) (disarmed_map hook.view hooks is).short (All-cons (λ (h : Hook). length h.edits ≤ MAX_EDITS) hook [] short (λ k d lt. absurd (omega arith)));
+  short = All-append (λ (h : Hook). length h.edits ≤ max_edits) (disarmed hook.view hooks) (hook ∷ []) (disarmed_map hook.view hooks is).short (All-cons (λ (h : Hook). length h.edits ≤ max_edits) hook [] short (λ k d lt. absurd (omega arith)));
 }
 
 same_of : (other view : ℕ) (size : Size) (hooks : List Hook) → of_view other (reported_as view size hooks) ≡ of_view other hooks
@@ -104,14 +104,14 @@ same_of other view size (hook ∷ hooks) = elim (cases_Bool (hook.view == view))
   | inr e ↦ rw e (elim (cases_Bool (hook.view == other)) [ inl f ↦ rw f (ap (λ n. suc n) (same_of other view size hooks)) | inr f ↦ rw f (same_of other view size hooks) ])
 ]
 
-still_short : (view : ℕ) (size : Size) (hook : Hook) → length hook.edits ≤ MAX_EDITS → length (reported_to view size hook).edits ≤ MAX_EDITS
+still_short : (view : ℕ) (size : Size) (hook : Hook) → length hook.edits ≤ max_edits → length (reported_to view size hook).edits ≤ max_edits
 still_short view size hook short = elim (cases_Bool (hook.view == view)) [ inl e ↦ rw e short | inr e ↦ rw e short ]
 
 pub reported_map : (view : ℕ) (size : Size) (hooks : List Hook) → IsMap hooks → IsMap (reported_as view size hooks)
 reported_map view size hooks is = record {
   single = λ other. rw (same_of other view size hooks) (is.single other);
   few = rw (length-map hooks (reported_to view size)) is.few;
-  short = All-map (λ (h : Hook). length h.edits ≤ MAX_EDITS) (reported_to view size) hooks (λ k d lt. still_short view size _ (is.short k d lt));
+  short = All-map (λ (h : Hook). length h.edits ≤ max_edits) (reported_to view size) hooks (λ k d lt. still_short view size _ (is.short k d lt));
 }
 
 -- the views whose hooks are there once a hook is taken away

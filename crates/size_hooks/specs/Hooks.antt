@@ -3,8 +3,8 @@
 use Rattle.std.specs.Prelude.{ℕ, ◌==◌, ◌≤◌, length, if◌then◌else◌, not, List, [], ◌∷◌, ◌++◌, Option, Some, None, filter, find, map, slice_get, All}
 use Rattle.geom_core.specs.declared.geometry.Size.{Size}
 use Rattle.size_hooks.specs.Hook.{Hook}
-use Rattle.view_model.specs.declared.limits.TheConstants.{MAX_EDITS, MAX_HOOKS}
 use Rattle.view_model.specs.declared.changes.NumEdit.{NumEdit}
+use Rattle.view_model.specs.Numbers.{max_edits, max_hooks}
 
 -- the hook of the view of this number
 abbrev pub hook_of : List Hook → ℕ → Option Hook
@@ -13,8 +13,8 @@ hook_of hooks view = find (λ (hook : Hook). hook.view == view) hooks
 -- at most one hook of a view, and few in all, each with few edits
 pub record IsMap (hooks : List Hook) : Type 0 where
   pub single : (view : ℕ) → length (filter (λ (hook : Hook). hook.view == view) hooks) ≤ 1
-  pub few : length hooks ≤ MAX_HOOKS
-  pub short : All (λ (hook : Hook). length hook.edits ≤ MAX_EDITS) hooks
+  pub few : length hooks ≤ max_hooks
+  pub short : All (λ (hook : Hook). length hook.edits ≤ max_edits) hooks
 
 -- the hooks without that of this view
 abbrev pub disarmed : ℕ → List Hook → List Hook

@@ -2,7 +2,7 @@
 ghost use Rattle.std.specs.Prelude.{◌≡◌, ◌≤◌, length};
 ghost use Rattle.size_hooks.specs.Entries.{hook_in, hooks_of};
 ghost use Rattle.size_hooks.specs.Hooks.{reported_as, reported_to};
-ghost use Rattle.view_model.specs.declared.limits.TheConstants.{MAX_EDITS};
+ghost use Rattle.view_model.specs.Numbers.{max_edits};
 
 use arrayvec::ArrayVec;
 use geom_core::Size;
@@ -34,7 +34,7 @@ impl Default for Entry {
 /// A copy of the edits.
 pub fn copied(edits: &ArrayVec<NumEdit, MAX_EDITS>) -> ArrayVec<NumEdit, MAX_EDITS>
     ensures same { result.items ≡ edits.now.items }
-    ensures few { length edits.now.items ≤ MAX_EDITS }
+    ensures few { length edits.now.items ≤ max_edits }
 {
     let mut copy = ArrayVec::new();
     let _ = copy.try_extend_from_slice(edits.as_slice());

@@ -7,7 +7,7 @@ ghost use Rattle.std.specs.Option.{option_map};
 ghost use Rattle.size_hooks.specs.Entries.{hook_in};
 ghost use Rattle.size_hooks.specs.Hook.{Hook};
 ghost use Rattle.size_hooks.specs.Hooks.{IsMap, armed, disarmed, edit_of, hook_of, reported_as, reported_to};
-ghost use Rattle.view_model.specs.declared.limits.TheConstants.{MAX_EDITS, MAX_HOOKS};
+ghost use Rattle.view_model.specs.Numbers.{max_edits, max_hooks};
 
 use crate::entry::{Entry, copied, report_in};
 use crate::fault::HookFault;
@@ -68,7 +68,7 @@ impl Hooks {
             (self.new ≡ armed (record { view = view; reported = reported; edits = edits.now.items }) self.old) }
         ensures value { OnOk result ((other : ℕ) → hook_of self.new other ≡ (if nat_eq view other then Some
             (record { view = view; reported = reported; edits = edits.now.items }) else hook_of self.old other)) }
-        ensures full { IsErr result ↔ ((length self.old ≡ MAX_HOOKS) × (hook_of self.old view ≡ None)) }
+        ensures full { IsErr result ↔ ((length self.old ≡ max_hooks) × (hook_of self.old view ≡ None)) }
         ensures unchanged { OnErr result (self.new ≡ self.old) }
     {
         self.disarm(view);
@@ -114,7 +114,7 @@ impl Hooks {
     /// An edit of a view whose hook is armed, counted from 0.
     pub fn edit(&self, view: u64, k: usize) -> Option<NumEdit>
         ensures value { result ≡ edit_of (hook_of self.now view) k }
-        ensures few { IfSome result (λ _. k < MAX_EDITS) }
+        ensures few { IfSome result (λ _. k < max_edits) }
     {
         let entry = self.entry(view)?;
         let edit = entry.edits.get(k)?;

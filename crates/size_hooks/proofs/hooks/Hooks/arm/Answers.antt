@@ -4,7 +4,7 @@ use Rattle.std.proofs.lemmas.Bool.{eqb-false}
 use Rattle.std.proofs.lemmas.List.{map-append}
 use Rattle.size_hooks.specs.declared.entry.Entry.{Entry}
 use Rattle.size_hooks.specs.Hook.{Hook}
-use Rattle.view_model.specs.declared.limits.TheConstants.{MAX_HOOKS}
+use Rattle.view_model.specs.Numbers.{max_hooks}
 use Rattle.size_hooks.specs.Entries.{hook_in, hooks_of}
 use Rattle.size_hooks.specs.Hooks.{IsMap, armed, disarmed, hook_of}
 use Rattle.view_model.specs.declared.changes.NumEdit.{NumEdit}
@@ -13,7 +13,7 @@ use Rattle.size_hooks.proofs.MapLaws.{all_disarmed, armed_map, hook_of-armed, no
 use Rattle.size_hooks.proofs.hooks.Hooks.arm.Goals as goal
 
 -- a list that is still full has lost nothing
-still_full : (c : goal.Then-is_full) → length (disarmed c.args.view c.args.self.now) ≡ MAX_HOOKS
+still_full : (c : goal.Then-is_full) → length (disarmed c.args.view c.args.self.now) ≡ max_hooks
 still_full c = ap length (sym (c.self.view_is ∙ c.disarm.ensures.hooks)) ∙ length_hooks c.self.inside.entries.items ∙ eqb-true _ _ (sym c.if-is_full.ensures.value)
 
 pub returns-then-is_full-clause-full : goal.returns-then-is_full-clause-full
@@ -48,7 +48,7 @@ invariant_of-self c =
     let room = c.if-is_full.ensures in
     let fits = room.fits in
     let less = eqb-false _ _ (sym room.value) in
-    let few : length (disarmed c.args.view c.args.self.now) < MAX_HOOKS = rw (← ap length left, length_hooks c.self.inside.entries.items) (omega arith) in
+    let few : length (disarmed c.args.view c.args.self.now) < max_hooks = rw (← ap length left, length_hooks c.self.inside.entries.items) (omega arith) in
     subst IsMap (sym (with_it c)) (armed_map (new_hook c) c.args.self.now c.disarm.ensures.map few c.copied.ensures.few)
 
 pub returns-clause-value : goal.returns-clause-value
