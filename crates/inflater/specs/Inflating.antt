@@ -5,7 +5,7 @@ use Rattle.axml_reader.specs.declared.doc.Node.{Node}
 use Rattle.axml_reader.specs.declared.doc.Node.TheVariants.{NsStart, NsEnd, Start, End, Chars}
 use Rattle.axml_reader.specs.Document.{Document}
 use Rattle.view_model.specs.declared.kinds.Class.{Class}
-use Rattle.view_model.specs.declared.refusals.TheConstants.{UNKNOWN_CLASS}
+use Rattle.view_model.specs.Numbers.{unknown_class}
 use Rattle.view_model.specs.Forest.{Forest, Nothing, Branch, count_of}
 use Rattle.view_model.specs.Refusals.{◌>>=◌, PlainRefusal, Element}
 use Rattle.view_model.specs.Resources.{Entries}
@@ -24,7 +24,7 @@ pub record OneView : Type 0 where
 
 -- the view of an element of this class whose attributes set this; a class that is not known is refused first
 unfoldable pub view_with : ℕ → Option Class → Result Facets PlainRefusal → Result OneView PlainRefusal
-view_with element None facets = Err (refused_in element UNKNOWN_CLASS)
+view_with element None facets = Err (refused_in element unknown_class)
 view_with element (Some class) (Err refusal) = Err (refused_in element refusal.number)
 view_with element (Some class) (Ok facets) =
     Ok (record { seed = record { class = class; facts = facets.facts; text = facets.text }; ignored = facets.ignored })
