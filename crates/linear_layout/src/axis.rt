@@ -1,5 +1,5 @@
 //! What is read of facts, sizes and specs on one axis, the vertical one or the other. Lengths are in pixels.
-ghost use Rattle.std.specs.Prelude.{◌≡◌, ◌≤ℤ◌, pos, negsuc};
+ghost use Rattle.std.specs.Prelude.{◌≡◌, ◌≤ℤ◌, pos, negsuc, not};
 ghost use Rattle.view_model.specs.Facts.{layout_facts};
 ghost use Rattle.view_model.specs.LinearLayout.{alignment_on, dim_on, high_margin, high_padding, low_margin, low_padding, margins_on, size_by, size_on, spec_on, specs_by};
 ghost use Rattle.view_model.specs.Measuring.{pair_of};
@@ -39,6 +39,38 @@ pub fn margins_on(vertical: bool, facts: &Facts) -> i64
         return facts.margins_down();
     }
     facts.margins_across()
+}
+
+/// Both margins along a line and both across it, so that each is read once.
+#[derive(Clone, Copy)]
+pub struct Margins {
+    pub along: i64,
+    pub beside: i64,
+    ghost along_low: { negsuc 4294967295 ≤ℤ along },
+    ghost along_high: { along ≤ℤ pos 4294967294 },
+    ghost beside_low: { negsuc 4294967295 ≤ℤ beside },
+    ghost beside_high: { beside ≤ℤ pos 4294967294 },
+}
+
+/// The margins of a child in a line on this axis.
+#[tactic(auto, unfolding(view_model::specs::LinearLayout::margins_on))]
+#[inline(always)]
+pub fn margins_by(vertical: bool, facts: &Facts) -> Margins
+    ensures along { result.along ≡ margins_on vertical (layout_facts facts.now) }
+    ensures beside { result.beside ≡ margins_on (not vertical) (layout_facts facts.now) }
+{
+    let across = facts.margins_across();
+    let down = facts.margins_down();
+    if vertical {
+        return Margins {
+            along: down,
+            beside: across,
+        };
+    }
+    Margins {
+        along: across,
+        beside: down,
+    }
 }
 
 /// The margin on the left or at the top.

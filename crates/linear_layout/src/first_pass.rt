@@ -6,11 +6,11 @@ ghost use Rattle.geom_core.specs.Spec.{child_spec_of};
 ghost use Rattle.view_model.specs.declared.facts.Facts.{Facts as FactsValue};
 ghost use Rattle.view_model.specs.declared.limits.TheConstants.{MAX_VIEWS};
 ghost use Rattle.view_model.specs.Facts.{layout_facts};
-ghost use Rattle.view_model.specs.LinearLayout.{first_along, first_dim, first_pass, full_length, has_weight_pass, own_length, spare_of, used_before, whole_weight};
+ghost use Rattle.view_model.specs.LinearLayout.{first_along, first_dim, first_pass, full_length, has_weight_pass, margins_on, own_length, spare_of, used_before, whole_weight};
 ghost use Rattle.view_model.specs.Measuring.{Measured, Specs, pair_of};
 
-use crate::axis::{dim_on, margins_on, pair_by};
-use crate::line::Line;
+use crate::axis::{dim_on, margins_by, pair_by};
+use crate::line::{Line, even_claim, weighted_claim};
 use crate::running::{Greatest, Total, Weights, greater};
 use geom_core::{Size, Spec, WRAP, child_spec, resolve};
 use view_model::Facts;
@@ -54,24 +54,26 @@ impl FirstPass {
 
     /// With one child more, which counts with this size.
     #[inline(always)]
-    pub fn with(self, line: &Line, kid: &Facts, size: Size) -> FirstPass
+    pub fn with(&self, line: &Line, kid: &Facts, size: Size) -> FirstPass
         ensures { (kids : List Measured)
             → length kids < MAX_VIEWS
-            → IsFirstPass self (own_in line.now) (specs_in line.now) kids
+            → IsFirstPass self.now (own_in line.now) (specs_in line.now) kids
             → IsFirstPass result (own_in line.now) (specs_in line.now) (kids ++ kid_with kid.now size ∷ []) }
     {
+        let taken = line.taken_by(kid, size);
         FirstPass {
-            extents: self.extents.add(line.extent(kid, size)),
+            extents: self.extents.add(taken.extent),
             weights: self.weights.add(kid.weight),
-            broadest: self.broadest.with(line.breadth(kid, size)),
-            even: self.even.with(line.even_claim(kid, size)),
-            weighted: self.weighted.with(line.weighted_claim(kid, size)),
+            broadest: self.broadest.with(taken.breadth),
+            even: self.even.with(even_claim(kid.weight, taken.claim)),
+            weighted: self.weighted.with(weighted_claim(kid.weight, taken.claim)),
             all_match: self.all_match & line.matches(kid),
             any_skipped: self.any_skipped | line.skips(kid),
         }
     }
 
     /// The specs of a child, or `None` if it is left out.
+    #[inline(always)]
     pub fn ask(&self, line: &Line, kid: &Facts, size: Size) -> Option<(Spec, Spec)>
         ensures { (kids : List Measured)
             → IsFirstPass self.now (own_in line.now) (specs_in line.now) kids
@@ -81,15 +83,20 @@ impl FirstPass {
         if line.skips(kid) {
             return None;
         }
+        let margins = margins_by(line.vertical(), kid);
         Some(pair_by(
             line.vertical(),
-            self.spec_along(line, kid),
-            line.kid_spec_beside(kid),
+            self.spec_along(line, kid, margins.along),
+            line.kid_spec_beside(kid, margins.beside),
         ))
     }
 
-    /// The spec of a child along the line.
-    fn spec_along(&self, line: &Line, kid: &Facts) -> Spec
+    /// The spec of a child with these margins along the line.
+    #[inline(always)]
+    fn spec_along(&self, line: &Line, kid: &Facts, margins: i64) -> Spec
+        requires margins { margins ≡ margins_on line.now.vertical (layout_facts kid.now) }
+        requires low { negsuc 4294967295 ≤ℤ margins }
+        requires high { margins ≤ℤ pos 4294967294 }
         ensures { (kids : List Measured)
             → IsFirstPass self.now (own_in line.now) (specs_in line.now) kids
             → result ≡ first_along (own_in line.now) (specs_in line.now) kids (layout_facts kid.now) }
@@ -98,7 +105,7 @@ impl FirstPass {
         spec_after(
             line.spec_along(),
             line.padding_on(along),
-            margins_on(along, kid),
+            margins,
             self.used_before(kid),
             first_dim(dim_on(along, kid), kid.weight),
         )

@@ -1,9 +1,9 @@
 //! A group whose children form a line, under its specs, and what a child takes of it. Lengths are in pixels.
-ghost use Rattle.std.specs.Prelude.{◌≡◌, ◌≤ℤ◌, ◌^◌, pos, negsuc, not};
+ghost use Rattle.std.specs.Prelude.{◌≡◌, ◌≤ℤ◌, ◌+ℤ◌, ◌^◌, pos, negsuc, not};
 ghost use Rattle.view_model.specs.Facts.{is_match, layout_facts};
-ghost use Rattle.view_model.specs.LinearLayout.{breadth_of, claim, claim_of, dim_on, extent, extent_of, is_exact_beside, is_skipped, min_on, padding_on, skips, spec_beside, spec_on, where_even, where_weighted};
+ghost use Rattle.view_model.specs.LinearLayout.{breadth_of, claim, claim_of, dim_on, extent, extent_of, is_exact_beside, is_skipped, margins_on, min_on, padding_on, skips, spec_beside, spec_on, where_even, where_weighted};
 
-use crate::axis::{dim_on, margins_on, size_on, spec_on};
+use crate::axis::{dim_on, margins_by, size_on, spec_on};
 use geom_core::{Insets, MATCH, Size, Spec};
 use view_model::{Facts, child_spec_within, is_exact};
 
@@ -18,6 +18,21 @@ pub struct Line {
     pub vertical: bool,
     pub ws: Spec,
     pub hs: Spec,
+}
+
+/// What a child with its margins takes of a line.
+#[derive(Clone, Copy)]
+pub struct Taken {
+    /// Of the length.
+    pub extent: i64,
+    /// Of the breadth.
+    pub breadth: i64,
+    /// Of the breadth of a group that is as broad as its children are.
+    pub claim: i64,
+    ghost extent_low: { pos 0 ≤ℤ extent },
+    ghost extent_high: { extent ≤ℤ pos (2 ^ 33) },
+    ghost breadth_high: { breadth ≤ℤ pos (2 ^ 33) },
+    ghost claim_high: { claim ≤ℤ pos (2 ^ 33) },
 }
 
 impl Line {
@@ -105,82 +120,95 @@ impl Line {
         dim_on(!self.vertical(), kid) == MATCH
     }
 
-    /// The spec of a child across the line.
-    pub fn kid_spec_beside(&self, kid: &Facts) -> Spec
+    /// The spec of a child with these margins across the line.
+    #[inline(always)]
+    pub fn kid_spec_beside(&self, kid: &Facts, margins: i64) -> Spec
+        requires margins { margins ≡ margins_on (not self.now.vertical) (layout_facts kid.now) }
+        requires low { negsuc 4294967295 ≤ℤ margins }
+        requires high { margins ≤ℤ pos 4294967294 }
         ensures { result ≡ spec_beside (own_in self.now) (specs_in self.now) (layout_facts kid.now) }
     {
         let beside = !self.vertical();
         child_spec_within(
             self.spec_beside(),
             self.padding_on(beside),
-            margins_on(beside, kid),
+            margins,
             dim_on(beside, kid),
         )
     }
 
-    /// What a child takes of the length.
-    pub fn extent(&self, kid: &Facts, size: Size) -> i64
-        ensures value { result ≡ extent_of self.now.vertical (kid_with kid.now size) }
-        ensures low { pos 0 ≤ℤ result }
-        ensures high { result ≤ℤ pos (2 ^ 33) }
+    /// What a child of this size takes of the line.
+    #[inline(always)]
+    pub fn taken_by(&self, kid: &Facts, size: Size) -> Taken
+        ensures extent { result.extent ≡ extent_of self.now.vertical (kid_with kid.now size) }
+        ensures breadth { result.breadth ≡ breadth_of self.now.vertical (kid_with kid.now size) }
+        ensures claim { result.claim ≡ claim_of self.now.vertical
+            (is_exact_beside (own_in self.now) (specs_in self.now)) (kid_with kid.now size) }
     {
         let along = self.vertical();
-        extent(size_on(along, size), margins_on(along, kid))
+        let margins = margins_by(along, kid);
+        let beside = size_on(!along, size);
+        Taken {
+            extent: extent(size_on(along, size), margins.along),
+            breadth: breadth(beside, margins.beside),
+            claim: self.claim(kid, beside, margins.beside),
+        }
     }
 
-    /// What a child takes of the breadth.
-    #[inline(always)]
-    pub fn breadth(&self, kid: &Facts, size: Size) -> i64
-        ensures value { result ≡ breadth_of self.now.vertical (kid_with kid.now size) }
-        ensures high { result ≤ℤ pos (2 ^ 33) }
-    {
-        let beside = !self.vertical();
-        i64::from(size_on(beside, size)) + margins_on(beside, kid)
-    }
-
-    /// What a child takes of the breadth of a group that is as broad as its children are.
+    /// What a child of this breadth with these margins takes of the breadth of a group that is as broad as its children are.
     #[tactic(auto, unfolding(view_model::specs::LinearLayout::claim))]
     #[inline(always)]
-    pub fn claim(&self, kid: &Facts, size: Size) -> i64
-        ensures value { result ≡ claim_of self.now.vertical
-            (is_exact_beside (own_in self.now) (specs_in self.now)) (kid_with kid.now size) }
+    fn claim(&self, kid: &Facts, size: i32, margins: i64) -> i64
+        requires low { negsuc 4294967295 ≤ℤ margins }
+        requires high { margins ≤ℤ pos 4294967294 }
+        ensures value { result ≡ claim (is_exact_beside (own_in self.now) (specs_in self.now))
+            (dim_on (not self.now.vertical) (layout_facts kid.now)) size margins }
         ensures high { result ≤ℤ pos (2 ^ 33) }
     {
         if !self.is_exact_beside() && self.matches(kid) {
-            return margins_on(!self.vertical(), kid);
+            return margins;
         }
-        self.breadth(kid, size)
+        breadth(size, margins)
     }
+}
 
-    /// The same of a child without a weight, and 0 for the others.
-    #[tactic(auto, unfolding(view_model::specs::LinearLayout::where_even))]
-    #[inline(always)]
-    pub fn even_claim(&self, kid: &Facts, size: Size) -> i64
-        ensures value { result ≡ where_even kid.now.weight
-            (claim_of self.now.vertical (is_exact_beside (own_in self.now) (specs_in self.now))
-            (kid_with kid.now size)) }
-        ensures high { result ≤ℤ pos (2 ^ 33) }
-    {
-        if kid.weight == 0 {
-            return self.claim(kid, size);
-        }
-        0
-    }
+/// The breadth of a child with its margins.
+#[inline(always)]
+fn breadth(size: i32, margins: i64) -> i64
+    requires low { negsuc 4294967295 ≤ℤ margins }
+    requires high { margins ≤ℤ pos 4294967294 }
+    ensures value { result ≡ size +ℤ margins }
+    ensures high { result ≤ℤ pos (2 ^ 33) }
+{
+    i64::from(size) + margins
+}
 
-    /// The same of a child with a weight, and 0 for the others.
-    #[tactic(auto, unfolding(view_model::specs::LinearLayout::where_weighted))]
-    #[inline(always)]
-    pub fn weighted_claim(&self, kid: &Facts, size: Size) -> i64
-        ensures value { result ≡ where_weighted kid.now.weight
-            (claim_of self.now.vertical (is_exact_beside (own_in self.now) (specs_in self.now))
-            (kid_with kid.now size)) }
-        ensures high { result ≤ℤ pos (2 ^ 33) }
-    {
-        if kid.weight == 0 {
-            return 0;
-        }
-        self.claim(kid, size)
+/// The claim of a child without a weight, and 0 for the others.
+#[tactic(auto, unfolding(view_model::specs::LinearLayout::where_even))]
+#[inline(always)]
+pub fn even_claim(weight: u32, claim: i64) -> i64
+    requires { claim ≤ℤ pos (2 ^ 33) }
+    ensures value { result ≡ where_even weight claim }
+    ensures high { result ≤ℤ pos (2 ^ 33) }
+{
+    if weight == 0 {
+        return claim;
     }
+    0
+}
+
+/// The claim of a child with a weight, and 0 for the others.
+#[tactic(auto, unfolding(view_model::specs::LinearLayout::where_weighted))]
+#[inline(always)]
+pub fn weighted_claim(weight: u32, claim: i64) -> i64
+    requires { claim ≤ℤ pos (2 ^ 33) }
+    ensures value { result ≡ where_weighted weight claim }
+    ensures high { result ≤ℤ pos (2 ^ 33) }
+{
+    if weight == 0 {
+        return 0;
+    }
+    claim
 }
 
 #[tactic(auto, unfolding(view_model::specs::LinearLayout::extent))]

@@ -1,5 +1,5 @@
 //! The measuring of one linear layout, over its passes.
-ghost use Rattle.std.specs.Prelude.{◌≡◌, ◌<◌, pos, true, false, [], ◌∷◌, ◌++◌, List, length, None, Some, if◌then◌else◌};
+ghost use Rattle.std.specs.Prelude.{◌≡◌, ◌<◌, pos, true, false, [], ◌∷◌, ◌++◌, List, length, Option, None, Some, if◌then◌else◌};
 ghost use Rattle.std.specs.Option.{option_map};
 ghost use Rattle.geom_core.specs.Limits.{IsSide};
 ghost use Rattle.linear_layout.specs.declared.weight_pass.WeightPass.{WeightPass as WeightPassValue};
@@ -55,18 +55,31 @@ impl LinearPlan {
 
     /// The specs of a child in this phase, or `None` if it is not measured in it. The size is the child's present
     /// measured size, which the first phase ignores.
-    #[inline(never)]
+    #[inline(always)]
     pub fn ask(&self, kid: &Facts, size: Size) -> Option<(Spec, Spec)>
         ensures { (own : FactsValue) (specs : Specs) (past : List (List Measured)) (taken : List Measured)
             → RepresentsLinear self.now own specs past taken
             → result ≡ option_map pair_of
             ((linear_rule own specs).ask past taken (record { facts = layout_facts kid.now; size = size })) }
     {
-        match self.phase {
+        match &self.phase {
             Phase::First => self.first.ask(&self.line, kid, size),
             Phase::Weight(pass) => pass.ask(&self.line, kid, size),
-            Phase::Uniform(_) => ask_uniform(&self.line, self.own_breadth(), kid, size),
+            Phase::Uniform(_) => self.ask_uniform(kid, size),
         }
+    }
+
+    /// The same in the uniform phase.
+    #[inline(never)]
+    fn ask_uniform(&self, kid: &Facts, size: Size) -> Option<(Spec, Spec)>
+        ensures { (weighed : Option WeightPassValue)
+            (own : FactsValue) (specs : Specs) (past : List (List Measured)) (taken : List Measured)
+            → self.now.phase ≡ Uniform weighed
+            → RepresentsLinear self.now own specs past taken
+            → result ≡ option_map pair_of
+            ((linear_rule own specs).ask past taken (record { facts = layout_facts kid.now; size = size })) }
+    {
+        ask_uniform(&self.line, self.own_breadth(), kid, size)
     }
 
     /// Takes the size that a child has got; if `ask` returned `None`, the one that was passed to it.

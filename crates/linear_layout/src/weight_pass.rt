@@ -7,7 +7,7 @@ ghost use Rattle.view_model.specs.declared.limits.TheConstants.{MAX_VIEWS};
 ghost use Rattle.view_model.specs.LinearLayout.{exactly, first_length, full_length, shared_length, weight_pass};
 ghost use Rattle.view_model.specs.Measuring.{Measured, pair_of};
 
-use crate::axis::{pair_by, size_on};
+use crate::axis::{margins_on, pair_by, size_on};
 use crate::first_pass::FirstPass;
 use crate::line::Line;
 use crate::running::{Greatest, Total};
@@ -48,21 +48,23 @@ impl WeightPass {
 
     /// With one child more, of this size.
     #[inline(always)]
-    pub fn with(self, line: &Line, kid: &Facts, size: Size) -> WeightPass
+    pub fn with(&self, line: &Line, kid: &Facts, size: Size) -> WeightPass
         ensures { (first kids : List Measured)
             → length kids < MAX_VIEWS
-            → IsWeightPass self (own_in line.now) (specs_in line.now) first kids
+            → IsWeightPass self.now (own_in line.now) (specs_in line.now) first kids
             → IsWeightPass result (own_in line.now) (specs_in line.now) first (kids ++ kid_with kid.now size ∷ []) }
     {
+        let taken = line.taken_by(kid, size);
         WeightPass {
             sharing: self.sharing.give(kid.weight),
-            extents: self.extents.add(line.extent(kid, size)),
-            broadest: self.broadest.with(line.breadth(kid, size)),
-            claim: self.claim.with(line.claim(kid, size)),
+            extents: self.extents.add(taken.extent),
+            broadest: self.broadest.with(taken.breadth),
+            claim: self.claim.with(taken.claim),
         }
     }
 
     /// The specs of a child of this size, or `None` if it has no weight.
+    #[inline(never)]
     pub fn ask(&self, line: &Line, kid: &Facts, size: Size) -> Option<(Spec, Spec)>
         ensures { (first kids : List Measured)
             → IsWeightPass self.now (own_in line.now) (specs_in line.now) first kids
@@ -75,7 +77,7 @@ impl WeightPass {
         Some(pair_by(
             line.vertical(),
             self.spec_along(line, kid, size),
-            line.kid_spec_beside(kid),
+            line.kid_spec_beside(kid, margins_on(!line.vertical(), kid)),
         ))
     }
 

@@ -1,12 +1,11 @@
-use Rattle.std.proofs.Common.{◌≡◌, ◌∙◌, ap, FitsSigned, w32, rules}
+use Rattle.std.proofs.Common.{◌≡◌, ◌∙◌, ap}
 use Rattle.std.specs.Option.{option_map}
-use Rattle.std.proofs.lemmas.Int.{to_z-of_z}
 use Rattle.linear_layout.proofs.LinedLaws.{ask-lined}
-use Rattle.linear_layout.proofs.PlanLaws.{ask-first, ask-uniform, ask-weight, of_group, plan_of}
+use Rattle.linear_layout.proofs.PlanLaws.{ask-first, ask-weight, of_group, plan_of}
 use Rattle.linear_layout.specs.Line.{kid_with, lined, own_in, specs_in}
 use Rattle.linear_layout.specs.LinearPlan.{RepresentsLine}
 use Rattle.view_model.specs.declared.facts.Facts.{Facts}
-use Rattle.view_model.specs.LinearLayout.{linear_rule, uniform_pass}
+use Rattle.view_model.specs.LinearLayout.{linear_rule}
 use Rattle.view_model.specs.Measuring.{Specs, pair_of}
 use Rattle.linear_layout.proofs.plan.LinearPlan.ask.Goals as goal
 
@@ -20,15 +19,7 @@ returns-in-Weight c = λ own specs past taken s.
     ∙ ap (option_map pair_of) (ask-lined own specs past taken kid)
 
 pub returns-in-Uniform : goal.returns-in-Uniform
-returns-in-Uniform c = λ own specs past taken s.
-    let plan = c.args.self.now in
-    let kid = kid_with c.args.kid.now c.args.size in
-    let fits : FitsSigned w32 c.own_breadth.result = search rules in
-    let pair : c.ask_uniform.result ≡ option_map pair_of (uniform_pass (own_in plan.line) c.own_breadth.result kid) = simp to_z-of_z at c.ask_uniform.ensures in
-    of_group (λ (own : Facts) (specs : Specs). RepresentsLine plan own specs past taken → c.ask_uniform.result ≡ option_map pair_of ((linear_rule own specs).ask past taken kid))
-    plan (lined own) specs (plan_of plan (lined own) specs past taken s)
-    (λ t. pair ∙ ask-uniform plan (own_in plan.line) (specs_in plan.line) past taken kid _ c.own_breadth.result c.in-Uniform.is c.own_breadth.ensures.once c.own_breadth.ensures.twice t) s
-    ∙ ap (option_map pair_of) (ask-lined own specs past taken kid)
+returns-in-Uniform c = λ own specs past taken s. c.ask_uniform.ensures _ own specs past taken c.in-Uniform.is s
 
 pub returns-in-First : goal.returns-in-First
 returns-in-First c = λ own specs past taken s.

@@ -14,13 +14,13 @@ returns c = λ first kids few s.
     let kid = kid_with c.args.kid.now c.args.size in
     let count = s.count in
     let counts = s.count_shares in
-    let low : c.args.self.extents.count < MAX_VIEWS = omega arith in
-    let lows : c.args.self.sharing.count < MAX_VIEWS = omega arith in
-    let extents : c.add.result.sum ≡ c.args.self.extents.sum +ℤ extent_of v kid = (let e = c.add.ensures.sum low in let x = c.extent.ensures.value in grind (arith, to_z-of_z)) in
-    let broadest : c.with.result.value ≡ greater c.args.self.broadest.value (breadth_of v kid) = (let e = c.with.ensures in let x = c.breadth.ensures.value in grind (arith, to_z-of_z)) in
-    let claim : c.with-2.result.value ≡ greater c.args.self.claim.value (claim_of v (is_exact_beside own specs) kid) =
-    (let e = c.with-2.ensures in let x = c.claim.ensures.value in grind (arith, to_z-of_z)) in
-    WeightPass-push c.args.self _ own specs first kids kid (record {
+    let low : c.args.self.now.extents.count < MAX_VIEWS = omega arith in
+    let lows : c.args.self.now.sharing.count < MAX_VIEWS = omega arith in
+    let extents : c.add.result.sum ≡ c.args.self.now.extents.sum +ℤ extent_of v kid = (let e = c.add.ensures.sum low in let x = c.taken_by-taken.ensures.extent in grind (arith, to_z-of_z)) in
+    let broadest : c.with.result.value ≡ greater c.args.self.now.broadest.value (breadth_of v kid) = (let e = c.with.ensures in let x = c.taken_by-taken.ensures.breadth in grind (arith, to_z-of_z)) in
+    let claim : c.with-2.result.value ≡ greater c.args.self.now.claim.value (claim_of v (is_exact_beside own specs) kid) =
+    (let e = c.with-2.ensures in let x = c.taken_by-taken.ensures.claim in grind (arith, to_z-of_z)) in
+    WeightPass-push c.args.self.now _ own specs first kids kid (record {
       count = c.add.ensures.count low;
       count_shares = c.give.ensures.count lows;
       extents = extents;
