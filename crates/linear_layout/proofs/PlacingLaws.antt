@@ -37,7 +37,7 @@ PlacesLinear-push cursor mark own room total before kid one more s =
     record {
       vertical = s.vertical;
       rtl = s.rtl;
-      gravity = s.gravity;
+      alignment = s.alignment;
       padding_low = s.padding_low;
       padding_high = s.padding_high;
       breadth = s.breadth;

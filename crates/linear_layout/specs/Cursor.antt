@@ -11,7 +11,7 @@ use Rattle.view_model.specs.Placing.{started}
 pub record PlacesLinear (cursor : Cursor) (own : Facts) (room : Size) (total : ℤ) (before : List Measured) : Type 0 where
   pub vertical : cursor.vertical ≡ own.vertical
   pub rtl : cursor.rtl ≡ own.rtl
-  pub gravity : cursor.gravity ≡ own.gravity
+  pub alignment : cursor.alignment ≡ alignment_on (not own.vertical) own.rtl (started own.gravity)
   pub padding_low : cursor.padding_low ≡ low_padding (not own.vertical) own
   pub padding_high : cursor.padding_high ≡ high_padding (not own.vertical) own
   pub breadth : cursor.breadth ≡ size_on (not own.vertical) room

@@ -1,12 +1,13 @@
 //! Where a linear layout places its children, one after the other. Lengths are in pixels.
-ghost use Rattle.std.specs.Prelude.{◌≡◌, ℤ, ◌<◌, ◌≤◌, ◌+◌, ◌^◌, ◌+ℤ◌, ◌-ℤ◌, unsigned_abs, [], ◌∷◌, ◌++◌, List, length};
+ghost use Rattle.std.specs.Prelude.{◌≡◌, not, ℤ, ◌<◌, ◌≤◌, ◌+◌, ◌^◌, ◌+ℤ◌, ◌-ℤ◌, unsigned_abs, [], ◌∷◌, ◌++◌, List, length};
 ghost use Rattle.geom_core.specs.Limits.{IsCoordinate, IsSide, clamp_coordinate};
 ghost use Rattle.linear_layout.specs.Line.{kid_with};
 ghost use Rattle.view_model.specs.declared.facts.Facts.{Facts as FactsValue};
 ghost use Rattle.view_model.specs.declared.limits.TheConstants.{MAX_VIEWS};
 ghost use Rattle.view_model.specs.Facts.{layout_facts};
 ghost use Rattle.view_model.specs.Geometry.{size_of_rect};
-ghost use Rattle.view_model.specs.LinearLayout.{edge_beside, is_backwards, line_begin, linear_place, low_margin, rect_by};
+ghost use Rattle.view_model.specs.LinearLayout.{alignment_on, edge_beside, high_margin, is_backwards, line_begin, linear_place, low_margin, rect_by, size_on};
+ghost use Rattle.view_model.specs.Placing.{gravity_for, low_edge};
 ghost use Rattle.view_model.specs.Measuring.{Measured};
 ghost use Rattle.geom_core.specs.declared.geometry.Size.{Size as SizeValue};
 
@@ -25,7 +26,8 @@ pub struct Cursor {
     vertical: bool,
     /// Whether the group runs from right to left.
     rtl: bool,
-    gravity: Gravity,
+    /// Where a child that has no gravity of its own is placed across the line.
+    alignment: Alignment,
     /// The paddings of the group on both sides of the line, and its size across it. These few numbers of the group are
     /// copied, since a group is placed in each layout.
     padding_low: i32,
@@ -55,7 +57,7 @@ impl Cursor {
         Cursor {
             vertical: own.vertical,
             rtl: own.rtl,
-            gravity: own.gravity,
+            alignment: alignment_on(beside, own.rtl, own.gravity.started()),
             padding_low: low_padding(beside, own),
             padding_high: high_padding(beside, own),
             breadth: size_on(beside, room),
@@ -93,15 +95,59 @@ impl Cursor {
     }
 
     /// The low edge of a child of this size across the line.
+    #[inline(always)]
     fn edge_beside(&self, kid: &Facts, size: Size) -> i32
         ensures value { (own : FactsValue) (room : SizeValue) (total : ℤ) (before : List Measured)
             → PlacesLinear self.now own room total before
             → result ≡ clamp_coordinate (edge_beside own room (kid_with kid.now size)) }
         ensures edge { IsCoordinate result }
     {
+        self.edge_by(self.alignment_for(kid.layout_gravity), kid, size)
+    }
+
+    /// Where a child with this gravity is placed across the line. Most children have none of their own.
+    #[inline(always)]
+    fn alignment_for(&self, gravity: Gravity) -> Alignment
+        ensures { (own : FactsValue) (room : SizeValue) (total : ℤ) (before : List Measured)
+            → PlacesLinear self.now own room total before
+            → result ≡ alignment_on (not own.vertical) own.rtl (gravity_for own.gravity gravity) }
+    {
+        if gravity.given {
+            return alignment_on(!self.vertical, self.rtl, gravity);
+        }
+        self.alignment
+    }
+
+    /// The low edge of a child that is placed so across the line. Most children are at the low side, where only what is
+    /// before them counts.
+    #[inline(always)]
+    fn edge_by(&self, alignment: Alignment, kid: &Facts, size: Size) -> i32
+        ensures value { result ≡ clamp_coordinate (low_edge alignment self.now.breadth self.now.padding_low
+            self.now.padding_high (size_on (not self.now.vertical) size)
+            (low_margin (not self.now.vertical) (layout_facts kid.now))
+            (high_margin (not self.now.vertical) (layout_facts kid.now))) }
+        ensures edge { IsCoordinate result }
+    {
+        match alignment {
+            Alignment::Low => {
+                let margin = low_margin(!self.vertical, kid);
+                to_coordinate(i64::from(self.padding_low) + i64::from(margin))
+            }
+            Alignment::Middle | Alignment::High => self.far_edge(alignment, kid, size),
+        }
+    }
+
+    /// The same of any alignment.
+    #[inline(never)]
+    fn far_edge(&self, alignment: Alignment, kid: &Facts, size: Size) -> i32
+        ensures value { result ≡ clamp_coordinate (low_edge alignment self.now.breadth self.now.padding_low
+            self.now.padding_high (size_on (not self.now.vertical) size)
+            (low_margin (not self.now.vertical) (layout_facts kid.now))
+            (high_margin (not self.now.vertical) (layout_facts kid.now))) }
+        ensures edge { IsCoordinate result }
+    {
         let beside = !self.vertical;
-        let gravity = self.gravity.for_child(kid.layout_gravity);
-        to_coordinate(alignment_on(beside, self.rtl, gravity).low_edge(
+        to_coordinate(alignment.low_edge(
             Extent {
                 size: self.breadth,
                 before: self.padding_low,

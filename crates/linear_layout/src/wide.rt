@@ -13,9 +13,22 @@ pub fn wide_to_size(x: i128) -> i32
     to_size(to_i64(x))
 }
 
-/// Brings a number into the range of left and top edges.
-#[tactic(auto, unfolding(geom_core::specs::Limits::clamp_coordinate))]
+/// Brings a number into the range of left and top edges. Nearly all numbers have 64 bits, and are brought there at once.
+#[inline(always)]
 pub fn wide_to_coordinate(x: i128) -> i32
+    ensures value { result ≡ clamp_coordinate x }
+    ensures coordinate { IsCoordinate result }
+{
+    match i64::try_from(x) {
+        Ok(narrow) => to_coordinate(narrow),
+        Err(_) => nearest_coordinate(x),
+    }
+}
+
+/// The edge that is nearest to a number.
+#[tactic(auto, unfolding(geom_core::specs::Limits::clamp_coordinate))]
+#[inline(never)]
+fn nearest_coordinate(x: i128) -> i32
     ensures value { result ≡ clamp_coordinate x }
     ensures coordinate { IsCoordinate result }
 {
