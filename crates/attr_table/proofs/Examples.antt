@@ -20,7 +20,6 @@ use Rattle.attr_table.specs.declared.table.Takes.{Takes}
 use Rattle.attr_table.specs.declared.table.Takes.TheVariants as takes
 use Rattle.attr_table.specs.Setting.{across_of, all_sides, down_of, gravity_of, visibility_of, with_margins, with_paddings}
 use Rattle.attr_table.specs.declared.table.TheConstants.{ATTRIBUTES}
-use Rattle.attr_table.specs.declared.values.TheConstants.{MAX_WHOLE_WEIGHT}
 use Rattle.attr_table.specs.Attributes.{Attribute, attributes, known}
 use Rattle.attr_table.specs.Table.{place_of}
 use Rattle.attr_table.specs.Taking.{Facets, facets_of, finished, known_place, with_known}
@@ -30,10 +29,6 @@ use Rattle.attr_table.specs.Values.{below_given, boolean_given, color_of, dimens
 tabled : map (λ row. known row.0.now row.1 row.2) ATTRIBUTES ≡ attributes
 unfolding attributes
 tabled = refl
-
--- the greatest weight as a whole number
-whole_weights : MAX_WHOLE_WEIGHT ≡ 65535
-whole_weights = refl
 
 -- each name leads to its own row, so no name is there twice
 own_rows : map place_of (map (λ (known : Attribute). known.name) attributes) ≡ map (λ (place : ℕ). Some place) (range_with_len 0 54)

@@ -1,4 +1,5 @@
 mod Examples
 mod NamedLaws
+mod NumberLaws
 mod TableLaws
 mod TakingLaws

@@ -15,7 +15,7 @@ use Rattle.view_model.specs.declared.kinds.Answer.TheVariants.{Off}
 use Rattle.view_model.specs.declared.kinds.Visibility.TheVariants.{Visible}
 use Rattle.view_model.specs.declared.placing.Direction.TheVariants.{Inherit}
 use Rattle.view_model.specs.Facts.{no_gravity}
-use Rattle.view_model.specs.declared.refusals.TheConstants.{DUPLICATE, NO_SIZE, THEME_REF}
+use Rattle.view_model.specs.Numbers.{duplicate, max_size, no_size, theme_ref}
 use Rattle.view_model.specs.Refusals.{PlainRefusal, refusal_numbered, ◌>>=◌}
 use Rattle.view_model.specs.Resources.{Entries, Resource, Color, Dimen, Text}
 use Rattle.attr_table.specs.declared.draft.Draft.{Draft}
@@ -27,10 +27,9 @@ use Rattle.attr_table.specs.declared.table.Slot.TheVariants as slot
 use Rattle.attr_table.specs.declared.table.Takes.TheVariants as takes
 use Rattle.attr_table.specs.Attributes.{Attribute, attributes, height_place, known, width_place}
 use Rattle.attr_table.specs.declared.table.Takes.{Takes}
-use Rattle.attr_table.specs.declared.values.TheConstants.{MAX_WHOLE_WEIGHT}
+use Rattle.attr_table.specs.Numbers.{max_whole_weight}
 use Rattle.attr_table.specs.Kinds.{boolean_kind, float_kind, reference_kind, theme_kind}
-use Rattle.geom_core.specs.declared.measuring.TheConstants.{WRAP}
-use Rattle.view_model.specs.declared.limits.TheConstants.{MAX_SIZE}
+use Rattle.geom_core.specs.Numbers.{wrap_content}
 use Rattle.view_model.specs.Dimensions.{weight_of}
 use Rattle.attr_table.specs.Named.{is_set, meaning_at, meaning_if, meaning_with, named_at, named_in, named_facets, or_else, pixels, pixels_or_0, single_facts, text_or_none, unknown, unknown_count, value_at, word_as, word_or}
 use Rattle.attr_table.specs.Setting.{answer_of, direction_of, drafted, empty_draft, gravity_of, visibility_of, with_given}
@@ -340,10 +339,10 @@ means_none : (pool : StringPool) (dpi : ℕ) (what : Takes) (kind word : ℕ) (f
 unfolding reference_given extent_given weight_given whole_given below_given boolean_given
 means_none pool dpi takes.Reference kind word found e = text_if (kind == reference_kind) (Some (given.Word word)) None refl refl
 means_none pool dpi takes.Extent kind word found e =
-    text_if (is_whole kind) _ _ (text_within WRAP MAX_SIZE (Some (signed word))) (text_within (pos 0) MAX_SIZE (dimension_of dpi kind word found))
+    text_if (is_whole kind) _ _ (text_within wrap_content max_size (Some (signed word))) (text_within (pos 0) max_size (dimension_of dpi kind word found))
 means_none pool dpi (takes.Length low high) kind word found e = text_within low high (dimension_of dpi kind word found)
 means_none pool dpi takes.Weight kind word found e =
-    text_if (kind == float_kind) _ _ (text_weight (weight_of word)) (text_if (is_whole kind && nat_le word MAX_WHOLE_WEIGHT) (Some (given.Word (256 * word))) None refl refl)
+    text_if (kind == float_kind) _ _ (text_weight (weight_of word)) (text_if (is_whole kind && nat_le word max_whole_weight) (Some (given.Word (256 * word))) None refl refl)
 means_none pool dpi takes.Whole kind word found e = text_if (is_whole kind) (Some (given.Word word)) None refl refl
 means_none pool dpi (takes.Below count) kind word found e = text_if (is_whole kind && nat_lt word count) (Some (given.Word word)) None refl refl
 means_none pool dpi takes.Color kind word found e = text_color kind word found
@@ -414,7 +413,7 @@ adds pool resources dpi attr place draft after e = first (slice_index_or draft.c
         meant (Some given) g e = record { given = given; meaning = ap (meaning_with pool dpi place attr) f ∙ g; new = new; is = cc }
 
     first : (came theme : Bool) → slice_index_or draft.came place false ≡ came
-        → (if came then Err (refusal_numbered DUPLICATE) else (if theme then Err (refusal_numbered THEME_REF)
+        → (if came then Err (refusal_numbered duplicate) else (if theme then Err (refusal_numbered theme_ref)
         else (found_of resources (takes_at place) attr.kind attr.word >>= λ resource. set_at place (given_of pool dpi (takes_at place) attr.kind attr.word resource) draft))) ≡ Ok after
         → Adds pool resources dpi attr place draft after
     first true theme c e = absurd cc
@@ -495,7 +494,7 @@ finishes : (draft : Draft) (facets : Facets) → finished draft ≡ Ok facets �
 unfolding finished given_facets
 finishes draft facets e = sized (slice_index_or draft.came width_place false && slice_index_or draft.came height_place false) e
   where
-    sized : (b : Bool) → (if b then Ok (record { facts = drafted draft; text = draft.text; ignored = draft.ignored }) else Err (refusal_numbered NO_SIZE)) ≡ Ok facets
+    sized : (b : Bool) → (if b then Ok (record { facts = drafted draft; text = draft.text; ignored = draft.ignored }) else Err (refusal_numbered no_size)) ≡ Ok facets
         → facets ≡ record { facts = drafted draft; text = draft.text; ignored = draft.ignored }
     sized true e = cc
     sized false e = absurd cc

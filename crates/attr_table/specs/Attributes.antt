@@ -1,5 +1,6 @@
 -- The attributes that are known: the name of each, what its value may be and what it sets.
-use Rattle.std.specs.Prelude.{ℕ, pos, negsuc, List, [], ◌∷◌, codes}
+use Rattle.std.specs.Prelude.{ℕ, pos, List, [], ◌∷◌, codes}
+use Rattle.view_model.specs.Numbers.{max_inset, max_size, min_margin}
 use Rattle.attr_table.specs.declared.table.Side.TheVariants as side
 use Rattle.attr_table.specs.declared.table.Slot.{Slot}
 use Rattle.attr_table.specs.declared.table.Slot.TheVariants as slot
@@ -17,13 +18,13 @@ known name takes slot = record { name = name; takes = takes; slot = slot }
 
 -- lengths in pixels: of a margin, of a padding, and of the least size of a view
 abbrev pub margin : Takes
-margin = takes.Length (negsuc 1048574) (pos 1048575)
+margin = takes.Length min_margin max_inset
 
 abbrev pub padding : Takes
-padding = takes.Length (pos 0) (pos 1048575)
+padding = takes.Length (pos 0) max_inset
 
 abbrev pub minimum : Takes
-minimum = takes.Length (pos 0) (pos 16777215)
+minimum = takes.Length (pos 0) max_size
 
 -- how many there are, and the places of the two that each element must have
 abbrev pub known_count : ℕ

@@ -7,7 +7,7 @@ use Rattle.axml_reader.specs.declared.doc.Node.{Node}
 use Rattle.axml_reader.specs.declared.doc.Node.TheVariants.{NsStart, NsEnd, Start, End, Chars}
 use Rattle.axml_reader.specs.Document.{Document}
 use Rattle.view_model.specs.declared.facts.Facts.{Facts}
-use Rattle.view_model.specs.declared.refusals.TheConstants.{BAD_VALUE, DUPLICATE, NO_SIZE, THEME_REF}
+use Rattle.view_model.specs.Numbers.{bad_value, duplicate, no_size, theme_ref}
 use Rattle.view_model.specs.Refusals.{PlainRefusal, refusal_numbered, ◌>>=◌}
 use Rattle.view_model.specs.Resources.{Entries}
 use Rattle.attr_table.specs.declared.draft.Draft.{Draft}
@@ -33,7 +33,7 @@ known_place pool attr = if is_android (slice_get pool.texts attr.ns) then place_
 
 -- the draft with the value of the attribute at a place, if the attribute takes such a value
 abbrev pub set_at : ℕ → Option Given → Draft → Result Draft PlainRefusal
-set_at place None draft = Err (refusal_numbered BAD_VALUE)
+set_at place None draft = Err (refusal_numbered bad_value)
 set_at place (Some given) draft =
     let set = with_given (slot_at place) given draft in
     Ok (record set { came = slice_set set.came place true })
@@ -42,8 +42,8 @@ set_at place (Some given) draft =
 -- value that is not taken are refused, in this order
 unfoldable pub with_known : StringPool → Entries → ℕ → Attr → ℕ → Draft → Result Draft PlainRefusal
 with_known pool resources dpi attr place draft =
-    if slice_index_or draft.came place false then Err (refusal_numbered DUPLICATE)
-    else (if attr.kind == theme_kind then Err (refusal_numbered THEME_REF)
+    if slice_index_or draft.came place false then Err (refusal_numbered duplicate)
+    else (if attr.kind == theme_kind then Err (refusal_numbered theme_ref)
     else do
       found ← found_of resources (takes_at place) attr.kind attr.word
       set_at place (given_of pool dpi (takes_at place) attr.kind attr.word found) draft)
@@ -73,7 +73,7 @@ unfoldable pub finished : Draft → Result Facets PlainRefusal
 finished draft =
     if slice_index_or draft.came width_place false && slice_index_or draft.came height_place false
     then Ok (record { facts = drafted draft; text = draft.text; ignored = draft.ignored })
-    else Err (refusal_numbered NO_SIZE)
+    else Err (refusal_numbered no_size)
 
 -- the attributes of the element that begins at a node
 abbrev pub attrs_of : Document → Node → List Attr
@@ -88,7 +88,7 @@ unfoldable pub facets_of : Document → Entries → ℕ → Node → Result Face
 facets_of doc resources dpi node = with_attrs doc.pool resources dpi (attrs_of doc node) empty_draft >>= finished
 
 abbrev pub facets_in : Document → Entries → ℕ → Option Node → Result Facets PlainRefusal
-facets_in doc resources dpi None = Err (refusal_numbered NO_SIZE)
+facets_in doc resources dpi None = Err (refusal_numbered no_size)
 facets_in doc resources dpi (Some node) = facets_of doc resources dpi node
 
 -- of the node at a place

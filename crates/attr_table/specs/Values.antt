@@ -2,9 +2,8 @@
 use Rattle.std.specs.Prelude.{ℕ, ◌*◌, ◌-◌, ◌==◌, ◌||◌, ◌&&◌, not, nat_lt, nat_le, int_le, ℤ, pos, negsuc, Bool, true, false, [], Option, Some, None, Result, Ok, Err, if◌then◌else◌, slice_get, chars}
 use Rattle.std.specs.Option.{option_map}
 use Rattle.axml_chunks.specs.Pool.{StringPool}
-use Rattle.geom_core.specs.declared.measuring.TheConstants.{WRAP}
-use Rattle.view_model.specs.declared.limits.TheConstants.{MAX_SIZE}
-use Rattle.view_model.specs.declared.refusals.TheConstants.{UNRESOLVED}
+use Rattle.geom_core.specs.Numbers.{wrap_content}
+use Rattle.view_model.specs.Numbers.{max_size, unresolved}
 use Rattle.view_model.specs.Dimensions.{px_of, weight_of}
 use Rattle.view_model.specs.Refusals.{PlainRefusal, refusal_numbered}
 use Rattle.view_model.specs.Resources.{Entries, Resource, Color, Dimen, Text, resource_of}
@@ -12,7 +11,7 @@ use Rattle.attr_table.specs.declared.given.Given.{Given}
 use Rattle.attr_table.specs.declared.given.Given.TheVariants as given
 use Rattle.attr_table.specs.declared.table.Takes.{Takes}
 use Rattle.attr_table.specs.declared.table.Takes.TheVariants as takes
-use Rattle.attr_table.specs.declared.values.TheConstants.{MAX_WHOLE_WEIGHT}
+use Rattle.attr_table.specs.Numbers.{max_whole_weight}
 use Rattle.attr_table.specs.Kinds.{boolean_kind, decimal_kind, dimension_kind, first_color_kind, float_kind, hexadecimal_kind, last_color_kind, null_kind, reference_kind, string_kind}
 
 abbrev pub is_whole : ℕ → Bool
@@ -72,13 +71,13 @@ text_of pool kind word None =
 unfoldable pub weight_given : ℕ → ℕ → Option Given
 weight_given kind word =
     if kind == float_kind then option_map given.Word (weight_of word)
-    else (if is_whole kind && nat_le word MAX_WHOLE_WEIGHT then Some (given.Word (256 * word)) else None)
+    else (if is_whole kind && nat_le word max_whole_weight then Some (given.Word (256 * word)) else None)
 
 -- a number of pixels from 0 upward, or as a whole number -1 or -2 for a view as large as its parent or its content
 unfoldable pub extent_given : ℕ → ℕ → ℕ → Option Resource → Option Given
 extent_given dpi kind word found =
-    if is_whole kind then pixels_within WRAP MAX_SIZE (Some (signed word))
-    else pixels_within (pos 0) MAX_SIZE (dimension_of dpi kind word found)
+    if is_whole kind then pixels_within wrap_content max_size (Some (signed word))
+    else pixels_within (pos 0) max_size (dimension_of dpi kind word found)
 
 unfoldable pub whole_given : ℕ → ℕ → Option Given
 whole_given kind word = if is_whole kind then Some (given.Word word) else None
@@ -118,7 +117,7 @@ takes_reference takes.Boolean = false
 
 -- a resource that is named has to be there
 abbrev pub defined : Option Resource → Result (Option Resource) PlainRefusal
-defined None = Err (refusal_numbered UNRESOLVED)
+defined None = Err (refusal_numbered unresolved)
 defined (Some found) = Ok (Some found)
 
 -- the resource that a value names, if it names one; if the id of a reference counts, the reference is not followed

@@ -1,6 +1,6 @@
 //! Which attributes of a layout file are known.
 ghost use Rattle.std.specs.Prelude.{◌≡◌, ◌<◌, IfSome, option_map};
-ghost use Rattle.attr_table.specs.declared.table.TheConstants.{KNOWN};
+ghost use Rattle.attr_table.specs.Attributes.{known_count};
 ghost use Rattle.attr_table.specs.Taking.{is_android, known_place, place_named};
 
 use crate::table::find;
@@ -14,7 +14,7 @@ const ANDROID: &str = "http://schemas.android.com/apk/res/android";
 #[tactic(auto, unfolding(crate::specs::Taking::known_place))]
 pub fn known_place(pool: &Pool, attr: Attr) -> Option<usize>
     ensures place { result ≡ known_place pool.now attr }
-    ensures within { IfSome result (λ place. place < KNOWN) }
+    ensures within { IfSome result (λ place. place < known_count) }
 {
     if !is_android(pool.text(attr.ns)) {
         return None;
@@ -34,7 +34,7 @@ fn is_android(namespace: Option<&str>) -> bool
 
 fn place_named(name: Option<&str>) -> Option<usize>
     ensures place { result ≡ place_named (option_map (λ text. text.now) name.entry) }
-    ensures within { IfSome result (λ place. place < KNOWN) }
+    ensures within { IfSome result (λ place. place < known_count) }
 {
     find(name?)
 }

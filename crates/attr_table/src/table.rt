@@ -4,7 +4,7 @@
 //! definitions read the list alone, and a mistake would have to be made twice. For an attribute that takes an id, the
 //! id is that of the reference whether it has a value or not; a reference to 0 is null.
 ghost use Rattle.std.specs.Prelude.{◌≡◌, ◌<◌, IfSome, Some, length, map, slice_get};
-ghost use Rattle.attr_table.specs.declared.table.TheConstants.{KNOWN};
+ghost use Rattle.attr_table.specs.Attributes.{known_count};
 ghost use Rattle.attr_table.specs.Table.{attribute, place_in, place_of, slot_at, takes_at};
 
 use view_model::limits::{MAX_INSET, MAX_SIZE, MIN_MARGIN};
@@ -164,7 +164,7 @@ pub const ATTRIBUTES: [(&str, Takes, Slot); KNOWN] = [
 #[tactic(auto, unfolding(crate::specs::Attributes::attributes))]
 pub fn find(name: &str) -> Option<usize>
     ensures place { result ≡ place_of name.now }
-    ensures within { IfSome result (λ place. place < KNOWN) }
+    ensures within { IfSome result (λ place. place < known_count) }
 {
     place_in(&ATTRIBUTES, name)
 }
@@ -172,7 +172,7 @@ pub fn find(name: &str) -> Option<usize>
 /// What the value of the attribute at a place may be.
 #[tactic(auto, unfolding(crate::specs::Attributes::attributes))]
 pub fn takes_at(place: usize) -> Takes
-    requires { place < KNOWN }
+    requires { place < known_count }
     ensures { result ≡ takes_at place }
 {
     row_in(&ATTRIBUTES, place).1
@@ -181,7 +181,7 @@ pub fn takes_at(place: usize) -> Takes
 /// What the attribute at a place sets.
 #[tactic(auto, unfolding(crate::specs::Attributes::attributes))]
 pub fn slot_at(place: usize) -> Slot
-    requires { place < KNOWN }
+    requires { place < known_count }
     ensures { result ≡ slot_at place }
 {
     row_in(&ATTRIBUTES, place).2

@@ -2,7 +2,7 @@
 ghost use Rattle.std.specs.Prelude.{◌≡◌, ℕ, ◌+◌, ◌^◌, ◌<◌, ◌≤◌, IfOk, Some, length, slice_get};
 ghost use Rattle.axml_reader.specs.declared.doc.Node.TheVariants.{Start};
 ghost use Rattle.axml_reader.specs.Meaning.{document};
-ghost use Rattle.attr_table.specs.declared.table.TheConstants.{KNOWN};
+ghost use Rattle.attr_table.specs.Attributes.{known_count};
 ghost use Rattle.attr_table.specs.Named.{named_at};
 ghost use Rattle.attr_table.specs.Taken.{DraftsAs, IsStart, IsTakenAs, facets};
 ghost use Rattle.attr_table.specs.Taking.{attrs_of, facets_at, finished, with_attr, with_attrs, with_known};
@@ -113,7 +113,7 @@ fn take_known(
     place: usize,
     draft: &mut Draft,
 ) -> Result<(), AttrFault>
-    requires { place < KNOWN }
+    requires { place < known_count }
     ensures value { DraftsAs
         (with_known source.now.doc.now.pool source.now.res.now source.now.dpi attr place draft.old) draft.new result }
     ensures ignored { draft.new.ignored ≡ draft.old.ignored }

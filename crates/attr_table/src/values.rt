@@ -1,7 +1,7 @@
 //! What the value of an attribute means, by what the attribute takes.
 ghost use Rattle.std.specs.Prelude.{◌≡◌, ◌<◌, ◌^◌, IfOk, Some, chars, length, option_map, slice_get};
-ghost use Rattle.geom_core.specs.declared.measuring.TheConstants.{WRAP};
-ghost use Rattle.view_model.specs.declared.limits.TheConstants.{MAX_SIZE};
+ghost use Rattle.geom_core.specs.Numbers.{wrap_content};
+ghost use Rattle.view_model.specs.Numbers.{max_size};
 ghost use Rattle.res_values.specs.Values.{resource};
 ghost use Rattle.attr_table.specs.declared.given.Given.TheVariants as says;
 ghost use Rattle.attr_table.specs.Taken.{FoundAs};
@@ -125,7 +125,7 @@ fn extent(dpi: u32, kind: u8, word: u32, found: Option<&Value>) -> Option<Given>
 /// A whole number of pixels, `MATCH` or `WRAP`.
 #[tactic(auto, unfolding(crate::specs::Values::pixels_within))]
 fn whole_extent(n: i64) -> Option<Given>
-    ensures { result ≡ pixels_within WRAP MAX_SIZE (Some n) }
+    ensures { result ≡ pixels_within wrap_content max_size (Some n) }
 {
     if i64::from(WRAP) <= n && n <= MAX_SIZE {
         return Some(Given::Pixels(n as i32));

@@ -7,7 +7,7 @@ use Rattle.axml_reader.specs.declared.doc.Attr.{Attr}
 use Rattle.view_model.specs.declared.fault.Fault.{Fault}
 use Rattle.view_model.specs.declared.fault.Fault.TheVariants as fault
 use Rattle.view_model.specs.declared.refusal.Refusal.{Refusal}
-use Rattle.view_model.specs.declared.refusals.TheConstants.{BAD_VALUE, DUPLICATE, THEME_REF}
+use Rattle.view_model.specs.Numbers.{bad_value, duplicate, theme_ref}
 use Rattle.view_model.specs.Refusals.{PlainRefusal, plain_refusal, refusal_numbered, ◌>>=◌}
 use Rattle.view_model.specs.Resources.{Entries, Resource}
 use Rattle.attr_table.specs.declared.draft.Draft.{Draft}
@@ -38,12 +38,12 @@ no_memory step now (Err why) same = subst (λ why. DraftsAs step now (Err why)) 
 
 -- an attribute that is known, case by case
 known_twice : (pool : StringPool) (resources : Entries) (dpi : ℕ) (attr : Attr) (place : ℕ) (draft : Draft) → slice_index_or draft.came place false ≡ true
-    → with_known pool resources dpi attr place draft ≡ Err (refusal_numbered DUPLICATE)
+    → with_known pool resources dpi attr place draft ≡ Err (refusal_numbered duplicate)
 unfolding with_known
 known_twice pool resources dpi attr place draft came = rw came refl
 
 known_theme : (pool : StringPool) (resources : Entries) (dpi : ℕ) (attr : Attr) (place : ℕ) (draft : Draft) → slice_index_or draft.came place false ≡ false → attr.kind ≡ theme_kind
-    → with_known pool resources dpi attr place draft ≡ Err (refusal_numbered THEME_REF)
+    → with_known pool resources dpi attr place draft ≡ Err (refusal_numbered theme_ref)
 unfolding with_known
 known_theme pool resources dpi attr place draft came kind = rw (came, kind) refl
 
@@ -58,12 +58,12 @@ known_found pool resources dpi attr place draft takes found came kind at is =
 pub returns-then-draft-place-clause-value : goal.returns-then-draft-place-clause-value
 returns-then-draft-place-clause-value c =
     let s = c.args.source.now in
-    refused _ c.args.draft.now c.plain.result DUPLICATE c.into.result (known_twice s.doc.now.pool s.res.now s.dpi c.args.attr c.args.place c.args.draft.now c.if-draft-place.true) c.plain.ensures c.into.ensures
+    refused _ c.args.draft.now c.plain.result duplicate c.into.result (known_twice s.doc.now.pool s.res.now s.dpi c.args.attr c.args.place c.args.draft.now c.if-draft-place.true) c.plain.ensures c.into.ensures
 
 pub returns-then-attr-eq-THEME-clause-value : goal.returns-then-attr-eq-THEME-clause-value
 returns-then-attr-eq-THEME-clause-value c =
     let s = c.args.source.now in
-    refused _ c.args.draft.now c.plain-then-attr-eq-THEME.result THEME_REF c.into-then-attr-eq-THEME.result
+    refused _ c.args.draft.now c.plain-then-attr-eq-THEME.result theme_ref c.into-then-attr-eq-THEME.result
     (known_theme s.doc.now.pool s.res.now s.dpi c.args.attr c.args.place c.args.draft.now c.if-draft-place.false c.if-attr-eq-THEME.true) c.plain-then-attr-eq-THEME.ensures c.into-then-attr-eq-THEME.ensures
 
 pub returns-in_err-found-clause-value : goal.returns-in_err-found-clause-value
@@ -79,7 +79,7 @@ returns-in_err-given-clause-value c = no_memory _ c.args.draft.now c.from_residu
 pub returns-in_default-clause-value : goal.returns-in_default-clause-value
 returns-in_default-clause-value c =
     let s = c.args.source.now in
-    refused _ c.args.draft.now c.plain-in_default.result BAD_VALUE c.into-in_default.result
+    refused _ c.args.draft.now c.plain-in_default.result bad_value c.into-in_default.result
     (known_found s.doc.now.pool s.res.now s.dpi c.args.attr c.args.place c.args.draft.now c.takes_at-takes.result _ c.if-draft-place.false (ne_eqb _ _ c.if-attr-eq-THEME.false) c.takes_at-takes.ensures c.in_ok-found.ensures
     ∙ ap (λ g. set_at c.args.place g c.args.draft.now) (sym c.in_ok-given.ensures ∙ c.in_default.is))
     c.plain-in_default.ensures c.into-in_default.ensures
