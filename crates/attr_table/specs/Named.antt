@@ -1,5 +1,6 @@
 -- What an element sets, fact by fact, by the values of its attributes.
-use Rattle.std.specs.Prelude.{ℕ, ◌+◌, ◌==◌, ℤ, pos, Bool, true, false, List, [], ◌∷◌, map, codes, Option, Some, None, Result, Ok, Err, if◌then◌else◌, slice_get}
+use Rattle.std.specs.Prelude.{ℕ, ◌+◌, ◌==◌, ℤ, pos, Bool, true, false, List, [], ◌∷◌, map, codes, Option, Some, None}
+use Rattle.std.specs.Prelude.{Result, Ok, Err, if◌then◌else◌, slice_get}
 use Rattle.std.specs.Option.{option_and_then}
 use Rattle.axml_chunks.specs.Pool.{StringPool}
 use Rattle.axml_reader.specs.declared.doc.Attr.{Attr}
@@ -26,12 +27,14 @@ meaning_with pool dpi place attr (Err refusal) = None
 
 -- what the value of an attribute means that is known at a place of the table
 unfoldable pub meaning_at : StringPool → Entries → ℕ → Attr → ℕ → Option Given
-meaning_at pool resources dpi attr place = meaning_with pool dpi place attr (found_of resources (takes_at place) attr.kind attr.word)
+meaning_at pool resources dpi attr place =
+    meaning_with pool dpi place attr (found_of resources (takes_at place) attr.kind attr.word)
 
 -- the same of an attribute that is known at another place, or nowhere: nothing
 abbrev pub meaning_if : StringPool → Entries → ℕ → Attr → ℕ → Option ℕ → Option Given
 meaning_if pool resources dpi attr place None = None
-meaning_if pool resources dpi attr place (Some known) = if place == known then meaning_at pool resources dpi attr place else None
+meaning_if pool resources dpi attr place (Some known) =
+    if place == known then meaning_at pool resources dpi attr place else None
 
 abbrev pub or_else : Option Given → Option Given → Option Given
 or_else None other = other
@@ -158,7 +161,9 @@ single_facts value = record {
 
 -- all facts, by the names of attributes
 abbrev pub named_facts : (List ℕ → Option Given) → Facts
-named_facts value = with_paddings (pixels (value (codes "padding"))) (with_margins (pixels (value (codes "layout_margin"))) (single_facts value))
+named_facts value =
+    with_paddings (pixels (value (codes "padding")))
+    (with_margins (pixels (value (codes "layout_margin"))) (single_facts value))
 
 -- what these attributes set
 unfoldable pub named_facets : StringPool → Entries → ℕ → List Attr → Facets

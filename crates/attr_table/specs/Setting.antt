@@ -1,5 +1,6 @@
 -- What the attributes of an element set.
-use Rattle.std.specs.Prelude.{ℕ, ◌<◌, ◌==◌, ◌/◌, ◌%◌, ◌^◌, int_le, ℤ, pos, Bool, true, false, [], Option, Some, None, if◌then◌else◌, slice_set, replicate}
+use Rattle.std.specs.Prelude.{ℕ, ◌<◌, ◌==◌, ◌/◌, ◌%◌, ◌^◌, int_le, ℤ, pos, Bool, true, false, [], Option, Some, None}
+use Rattle.std.specs.Prelude.{if◌then◌else◌, slice_set, replicate}
 use Rattle.geom_core.specs.declared.geometry.Insets.{Insets}
 use Rattle.view_model.specs.declared.facts.Facts.{Facts}
 use Rattle.view_model.specs.declared.kinds.Answer.{Answer}
@@ -33,13 +34,16 @@ across_of bits relative =
 
 -- where bits 4 to 6 place it down
 unfoldable pub down_of : ℕ → Down
-down_of bits = if bits == 0 then down.Unset else (if bits == 1 then down.Center else (if bits == 5 then down.Bottom else down.Top))
+down_of bits =
+    if bits == 0 then down.Unset else (if bits == 1 then down.Center else (if bits == 5 then down.Bottom else down.Top))
 
 unfoldable pub gravity_of : ℕ → Gravity
-gravity_of word = record { given = true; across = across_of (word % 8) (word / 2 ^ 23 % 2 == 1); down = down_of (word / 16 % 8) }
+gravity_of word =
+    record { given = true; across = across_of (word % 8) (word / 2 ^ 23 % 2 == 1); down = down_of (word / 16 % 8) }
 
 unfoldable pub visibility_of : ℕ → Visibility
-visibility_of word = if word == 0 then visibility.Visible else (if word == 1 then visibility.Invisible else visibility.Gone)
+visibility_of word =
+    if word == 0 then visibility.Visible else (if word == 1 then visibility.Invisible else visibility.Gone)
 
 -- the direction of the locale counts as from left to right
 unfoldable pub direction_of : ℕ → Direction
@@ -90,12 +94,21 @@ with_word slot.Click word facts = record facts { answer = answer_of word }
 with_word slot.Clip word facts = record facts { clip = word == 1 }
 with_word slot.Fill word facts = record facts { fill = word == 1 }
 with_word slot.Split word facts = record facts { split = word == 1 }
-with_word (slot.Rule verb) word facts = record facts { rules = record { values = slice_set facts.rules.values verb word } }
+with_word (slot.Rule verb) word facts =
+    record facts { rules = record { values = slice_set facts.rules.values verb word } }
 with_word _ word facts = facts
 
 -- the draft before any attribute
 abbrev pub empty_draft : Draft
-empty_draft = record { facts = new_facts (pos 0) (pos 0); margin = None; padding = None; text = []; came = replicate known_count false; ignored = 0 }
+empty_draft =
+    record {
+      facts = new_facts (pos 0) (pos 0);
+      margin = None;
+      padding = None;
+      text = [];
+      came = replicate known_count false;
+      ignored = 0;
+    }
 
 -- the draft with a value; a margin or a padding for all sides is kept apart until the end
 abbrev pub with_given : Slot → Given → Draft → Draft
@@ -111,7 +124,8 @@ all_sides n = record { left = n; top = n; right = n; bottom = n }
 -- a margin for all sides counts if it is 0 or more, and then no other one does
 unfoldable pub with_margins : Option ℤ → Facts → Facts
 with_margins None facts = facts
-with_margins (Some n) facts = if int_le (pos 0) n then record facts { margins = all_sides n; margin_start = None; margin_end = None } else facts
+with_margins (Some n) facts =
+    if int_le (pos 0) n then record facts { margins = all_sides n; margin_start = None; margin_end = None } else facts
 
 -- a padding for all sides counts in place of the four sides; start and end still do
 unfoldable pub with_paddings : Option ℤ → Facts → Facts

@@ -1,5 +1,6 @@
 -- The facts of one element, from its attributes in the order of the file.
-use Rattle.std.specs.Prelude.{ℕ, ◌+◌, ◌==◌, ◌&&◌, Bool, true, false, List, [], ◌∷◌, Option, Some, None, Result, Ok, Err, if◌then◌else◌, slice_get, slice_index_or, slice_set, codes, take, drop}
+use Rattle.std.specs.Prelude.{ℕ, ◌+◌, ◌==◌, ◌&&◌, Bool, true, false, List, [], ◌∷◌, Option, Some, None, Result, Ok, Err}
+use Rattle.std.specs.Prelude.{if◌then◌else◌, slice_get, slice_index_or, slice_set, codes, take, drop}
 use Rattle.std.specs.Str.{bytes_eq}
 use Rattle.axml_chunks.specs.Pool.{StringPool}
 use Rattle.axml_reader.specs.declared.doc.Attr.{Attr}
@@ -29,7 +30,8 @@ place_named (Some name) = place_of name
 
 -- the place of an attribute in the table, if it is known
 unfoldable pub known_place : StringPool → Attr → Option ℕ
-known_place pool attr = if is_android (slice_get pool.texts attr.ns) then place_named (slice_get pool.texts attr.name) else None
+known_place pool attr =
+    if is_android (slice_get pool.texts attr.ns) then place_named (slice_get pool.texts attr.name) else None
 
 -- the draft with the value of the attribute at a place, if the attribute takes such a value
 abbrev pub set_at : ℕ → Option Given → Draft → Result Draft PlainRefusal
@@ -59,7 +61,8 @@ with_attr pool resources dpi attr draft = with_place pool resources dpi attr (kn
 -- the draft with one attribute after the other, up to the first refusal
 abbrev pub with_attrs : StringPool → Entries → ℕ → List Attr → Draft → Result Draft PlainRefusal
 with_attrs pool resources dpi [] draft = Ok draft
-with_attrs pool resources dpi (attr ∷ more) draft = with_attr pool resources dpi attr draft >>= with_attrs pool resources dpi more
+with_attrs pool resources dpi (attr ∷ more) draft =
+    with_attr pool resources dpi attr draft >>= with_attrs pool resources dpi more
 
 -- what an element sets
 pub record Facets : Type 0 where

@@ -1,5 +1,6 @@
 -- What the value of an attribute means, by what the attribute takes.
-use Rattle.std.specs.Prelude.{ℕ, ◌*◌, ◌-◌, ◌==◌, ◌||◌, ◌&&◌, not, nat_lt, nat_le, int_le, ℤ, pos, negsuc, Bool, true, false, [], Option, Some, None, Result, Ok, Err, if◌then◌else◌, slice_get, chars}
+use Rattle.std.specs.Prelude.{ℕ, ◌*◌, ◌-◌, ◌==◌, ◌||◌, ◌&&◌, not, nat_lt, nat_le, int_le, ℤ, pos, negsuc, Bool, true}
+use Rattle.std.specs.Prelude.{false, [], Option, Some, None, Result, Ok, Err, if◌then◌else◌, slice_get, chars}
 use Rattle.std.specs.Option.{option_map}
 use Rattle.axml_chunks.specs.Pool.{StringPool}
 use Rattle.geom_core.specs.Numbers.{wrap_content}
@@ -12,7 +13,8 @@ use Rattle.attr_table.specs.declared.given.Given.TheVariants as given
 use Rattle.attr_table.specs.declared.table.Takes.{Takes}
 use Rattle.attr_table.specs.declared.table.Takes.TheVariants as takes
 use Rattle.attr_table.specs.Numbers.{max_whole_weight}
-use Rattle.attr_table.specs.Kinds.{boolean_kind, decimal_kind, dimension_kind, first_color_kind, float_kind, hexadecimal_kind, last_color_kind, null_kind, reference_kind, string_kind}
+use Rattle.attr_table.specs.Kinds.{boolean_kind, decimal_kind, dimension_kind, first_color_kind, float_kind}
+use Rattle.attr_table.specs.Kinds.{hexadecimal_kind, last_color_kind, null_kind, reference_kind, string_kind}
 
 abbrev pub is_whole : ℕ → Bool
 is_whole kind = kind == decimal_kind || kind == hexadecimal_kind
@@ -53,7 +55,8 @@ color_in (Text text) = None
 -- a colour or its resource, or a null, which is transparent
 unfoldable pub color_of : ℕ → ℕ → Option Resource → Option Given
 color_of kind word (Some found) = color_in found
-color_of kind word None = if is_color kind then Some (given.Word word) else (if is_nothing kind word then Some (given.Word 0) else None)
+color_of kind word None =
+    if is_color kind then Some (given.Word word) else (if is_nothing kind word then Some (given.Word 0) else None)
 
 abbrev pub text_in : Resource → Option Given
 text_in (Color color) = None
@@ -123,4 +126,6 @@ defined (Some found) = Ok (Some found)
 -- the resource that a value names, if it names one; if the id of a reference counts, the reference is not followed
 unfoldable pub found_of : Entries → Takes → ℕ → ℕ → Result (Option Resource) PlainRefusal
 found_of resources takes kind word =
-    if kind == reference_kind && (not (takes_reference takes) && not (word == 0)) then defined (resource_of resources word) else Ok None
+    if kind == reference_kind && (not (takes_reference takes) && not (word == 0))
+    then defined (resource_of resources word)
+    else Ok None

@@ -1,5 +1,6 @@
 -- The chunk at a place of a file.
-use Rattle.std.specs.Prelude.{◌≡◌, ℕ, ◌≤◌, ◌+◌, ◌-◌, ◌%◌, Bool, not, ◌||◌, List, Result, Ok, Err, nat_lt, ◌==◌, if◌then◌else◌}
+use Rattle.std.specs.Prelude.{◌≡◌, ℕ, ◌≤◌, ◌+◌, ◌-◌, ◌%◌, Bool, not, ◌||◌, List, Result, Ok, Err, nat_lt, ◌==◌}
+use Rattle.std.specs.Prelude.{if◌then◌else◌}
 use Rattle.axml_chunks.specs.declared.chunk.Chunk.{Chunk}
 use Rattle.axml_chunks.specs.declared.fault.Fault.{Fault}
 use Rattle.axml_chunks.specs.Faults.{truncated, bad_chunk}
@@ -15,7 +16,8 @@ chunk_of bytes place end =
     if nat_lt (end - place) 8 then Err (truncated place)
     else (if is_bad_head (number16 bytes (place + 2)) (number32 bytes (place + 4)) then Err (bad_chunk place)
     else (if nat_lt (end - place) (number32 bytes (place + 4)) then Err (truncated place)
-    else Ok (record { kind = number16 bytes place; head = number16 bytes (place + 2); size = number32 bytes (place + 4) })))
+    else Ok
+    (record { kind = number16 bytes place; head = number16 bytes (place + 2); size = number32 bytes (place + 4) })))
 
 -- a chunk of these sizes lies between a place and an end
 pub record IsChunk (place end : ℕ) (chunk : Chunk) : Type 0 where

@@ -1,5 +1,7 @@
 -- The string pool.
-use Rattle.std.specs.Prelude.{◌≡◌, ℕ, ◌≤◌, ◌<◌, ◌^◌, ◌+◌, ◌*◌, ◌/◌, ◌%◌, Bool, ◌||◌, List, [], ◌∷◌, ◌++◌, length, slice_range, slice_get, sum_by, Option, Some, None, Result, Ok, Err, nat_lt, ◌==◌, if◌then◌else◌}
+use Rattle.std.specs.Prelude.{◌≡◌, ℕ, ◌≤◌, ◌<◌, ◌^◌, ◌+◌, ◌*◌, ◌/◌, ◌%◌, Bool, ◌||◌, List, [], ◌∷◌, ◌++◌, length}
+use Rattle.std.specs.Prelude.{slice_range, slice_get, sum_by, Option, Some, None, Result, Ok, Err, nat_lt, ◌==◌}
+use Rattle.std.specs.Prelude.{if◌then◌else◌}
 use Rattle.axml_chunks.specs.declared.chunk.Chunk.{Chunk}
 use Rattle.axml_chunks.specs.declared.fault.Fault.{Fault}
 use Rattle.axml_chunks.specs.declared.pool.Header.{Header}
@@ -14,7 +16,8 @@ pub record StringPool : Type 0 where
   pub utf8 : Bool
   pub texts : List (List ℕ)
 
--- Definitions below that take `chunk` as bytes mean the bytes of the pool's chunk, and `head` is the length of its header.
+-- Definitions below that take `chunk` as bytes mean the bytes of the pool's chunk, and `head` is the length of its
+-- header.
 
 -- how many strings there are, how many styles, the flag of UTF-8, and where the strings begin
 abbrev pub string_count : List ℕ → ℕ
@@ -32,7 +35,8 @@ strings_start chunk = number32 chunk 20
 -- the header of the pool whose chunk is at a place of the file
 unfoldable pub header_of : List ℕ → ℕ → ℕ → Result Header Fault
 header_of chunk place head =
-    if nat_lt head 28 || nat_lt (length chunk) (head + 4 * (string_count chunk + style_count chunk)) || nat_lt (length chunk) (strings_start chunk)
+    if nat_lt head 28 || nat_lt (length chunk) (head + 4 * (string_count chunk + style_count chunk))
+    || nat_lt (length chunk) (strings_start chunk)
     then Err (bad_pool place)
     else (if nat_lt 65536 (string_count chunk) then Err (too_big place)
     else Ok (record { utf8 = is_in_utf8 chunk; count = string_count chunk; first = strings_start chunk }))
@@ -94,7 +98,8 @@ pub record IsPoolIn (chunk : List ℕ) (head : ℕ) (pool : StringPool) : Type 0
   pub utf8_is : pool.utf8 ≡ is_in_utf8 chunk
   pub count_is : length pool.texts ≡ string_count chunk
   pub count : string_count chunk ≤ 65536
-  pub texts : (k : ℕ) (text : List ℕ) → slice_get pool.texts k ≡ Some text → IsString pool.utf8 chunk (strings_start chunk + number32 chunk (head + 4 * k)) text
+  pub texts : (k : ℕ) (text : List ℕ) → slice_get pool.texts k ≡ Some text
+      → IsString pool.utf8 chunk (strings_start chunk + number32 chunk (head + 4 * k)) text
   pub room : sum_by length pool.texts ≤ 4194304
 
 abbrev pub IsPool : List ℕ → ℕ → Chunk → StringPool → Type 0

@@ -1,5 +1,6 @@
 -- What a string of a pool is, apart from how it is read. Places count from the start of the pool's chunk.
-use Rattle.std.specs.Prelude.{◌≡◌, ℕ, ◌+◌, ◌*◌, ◌<◌, ◌≤◌, ◌⊎◌, Bool, true, false, List, length, map, slice_get, slice_range, Some}
+use Rattle.std.specs.Prelude.{◌≡◌, ℕ, ◌+◌, ◌*◌, ◌<◌, ◌≤◌, ◌⊎◌, Bool, true, false, List, length, map, slice_get}
+use Rattle.std.specs.Prelude.{slice_range, Some}
 use Rattle.std.specs.Str.{IsUtf8, encode_utf8_all}
 use Rattle.std.specs.Char.Utf16.{utf16_chars}
 use Rattle.axml_chunks.specs.Numbers.{number16}

@@ -1,5 +1,6 @@
 -- The strings of a pool, each at a place of the pool's chunk; `None` for one that is cut short or no text.
-use Rattle.std.specs.Prelude.{ℕ, zero, suc, ◌++◌, ◌+◌, ◌-◌, ◌*◌, not, List, [], ◌∷◌, length, slice_index, slice_range, Option, Some, None, nat_lt, ◌==◌, if◌then◌else◌}
+use Rattle.std.specs.Prelude.{ℕ, zero, suc, ◌++◌, ◌+◌, ◌-◌, ◌*◌, not, List, [], ◌∷◌, length, slice_index, slice_range}
+use Rattle.std.specs.Prelude.{Option, Some, None, nat_lt, ◌==◌, if◌then◌else◌}
 use Rattle.std.specs.Str.{is_utf8, encode_utf8_all}
 use Rattle.std.specs.Char.Utf16.{utf16_lossy_chars, has_unpaired_surrogate}
 use Rattle.axml_chunks.specs.Numbers.{number16}

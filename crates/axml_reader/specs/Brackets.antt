@@ -1,5 +1,6 @@
 -- Words of brackets, each with a name.
-use Rattle.std.specs.Prelude.{◌≡◌, ℕ, ◌-◌, Bool, true, false, List, [], ◌∷◌, ◌++◌, take, length, slice_index, Option, Some, None, ◌==◌, not, if◌then◌else◌}
+use Rattle.std.specs.Prelude.{◌≡◌, ℕ, ◌-◌, Bool, true, false, List, [], ◌∷◌, ◌++◌, take, length, slice_index, Option}
+use Rattle.std.specs.Prelude.{Some, None, ◌==◌, not, if◌then◌else◌}
 
 pub data Token : Type 0 where
   Opens : ℕ → Token
@@ -10,7 +11,8 @@ pub data Token : Type 0 where
 pub data IsBalanced (same : ℕ → ℕ → Bool) : List Token → Type 0 where
   Done : IsBalanced same []
   Passed : {rest : List Token} → IsBalanced same rest → IsBalanced same (Plain ∷ rest)
-  Paired : {inner rest : List Token} (a b : ℕ) → same b a ≡ true → IsBalanced same inner → IsBalanced same rest → IsBalanced same (Opens a ∷ (inner ++ Closes b ∷ rest))
+  Paired : {inner rest : List Token} (a b : ℕ) → same b a ≡ true → IsBalanced same inner → IsBalanced same rest
+      → IsBalanced same (Opens a ∷ (inner ++ Closes b ∷ rest))
 
 -- a word without brackets
 abbrev pub IsPlain : List Token → Type 0

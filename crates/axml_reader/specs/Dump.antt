@@ -1,5 +1,6 @@
 -- The text of a document: a line for the pool, each string, each id of the map, and each node and attribute.
-use Rattle.std.specs.Prelude.{ℕ, ◌+◌, Bool, List, [], ◌∷◌, codes, decimal, length, slice_range, nat_lt, ◌==◌, if◌then◌else◌}
+use Rattle.std.specs.Prelude.{ℕ, ◌+◌, Bool, List, [], ◌∷◌, codes, decimal, length, slice_range, nat_lt, ◌==◌}
+use Rattle.std.specs.Prelude.{if◌then◌else◌}
 use Rattle.std.specs.List.{enumerate_from}
 use Rattle.text_lines.specs.Hex.{hex_text}
 use Rattle.text_lines.specs.Joined.{◌⧺◌, texts_of}
@@ -66,11 +67,13 @@ namespace_line word prefix uri = word ⧺ name_field prefix ⧺ name_field uri �
 
 -- an attribute's line
 abbrev pub attr_line : Attr → List ℕ
-attr_line attr = codes "attr" ⧺ name_field attr.ns ⧺ name_field attr.name ⧺ name_field attr.raw ⧺ value_fields attr.kind attr.word
+attr_line attr =
+    codes "attr" ⧺ name_field attr.ns ⧺ name_field attr.name ⧺ name_field attr.raw ⧺ value_fields attr.kind attr.word
 
 -- the line of an element that begins
 abbrev pub start_line : ℕ → ℕ → ℕ → ℕ → List ℕ
-start_line line ns name count = codes "start" ⧺ number_field line ⧺ name_field ns ⧺ name_field name ⧺ number_field count ⧺ codes "\n"
+start_line line ns name count =
+    codes "start" ⧺ number_field line ⧺ name_field ns ⧺ name_field name ⧺ number_field count ⧺ codes "\n"
 
 -- the line of an element that ends
 abbrev pub end_line : ℕ → ℕ → ℕ → List ℕ
@@ -84,7 +87,8 @@ chars_line line text kind word = codes "text" ⧺ number_field line ⧺ name_fie
 abbrev pub node_lines : List Attr → Node → List ℕ
 node_lines attrs (NsStart prefix uri) = namespace_line (codes "ns") prefix uri
 node_lines attrs (NsEnd prefix uri) = namespace_line (codes "endns") prefix uri
-node_lines attrs (Start line ns name first n) = start_line line ns name n ⧺ texts_of attr_line (slice_range attrs first (first + n))
+node_lines attrs (Start line ns name first n) =
+    start_line line ns name n ⧺ texts_of attr_line (slice_range attrs first (first + n))
 node_lines attrs (End line ns name) = end_line line ns name
 node_lines attrs (Chars line text kind word) = chars_line line text kind word
 

@@ -1,5 +1,6 @@
 -- Fields that name strings, and attributes.
-use Rattle.std.specs.Prelude.{ℕ, ◌+◌, ◌*◌, ◌||◌, Bool, false, List, [], ◌∷◌, ◌++◌, slice_index, slice_get, zero, suc, Option, Some, None, Result, Ok, Err, length, nat_lt, ◌==◌, if◌then◌else◌}
+use Rattle.std.specs.Prelude.{ℕ, ◌+◌, ◌*◌, ◌||◌, Bool, false, List, [], ◌∷◌, ◌++◌, slice_index, slice_get, zero, suc}
+use Rattle.std.specs.Prelude.{Option, Some, None, Result, Ok, Err, length, nat_lt, ◌==◌, if◌then◌else◌}
 use Rattle.std.specs.Str.{bytes_eq}
 use Rattle.axml_chunks.specs.declared.fault.Fault.{Fault}
 use Rattle.axml_chunks.specs.Faults.{bad_reference}

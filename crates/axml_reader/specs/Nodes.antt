@@ -1,5 +1,6 @@
 -- The parts of a document, each from its chunk, or the first fault in it.
-use Rattle.std.specs.Prelude.{◌≡◌, ℕ, ◌^◌, ◌<◌, ◌≤◌, ◌+◌, ◌-◌, ◌*◌, ◌/◌, Bool, false, not, ◌||◌, List, [], slice_index, length, is_some, Result, Ok, Err, nat_lt, ◌==◌, if◌then◌else◌}
+use Rattle.std.specs.Prelude.{◌≡◌, ℕ, ◌^◌, ◌<◌, ◌≤◌, ◌+◌, ◌-◌, ◌*◌, ◌/◌, Bool, false, not, ◌||◌, List, [], slice_index}
+use Rattle.std.specs.Prelude.{length, is_some, Result, Ok, Err, nat_lt, ◌==◌, if◌then◌else◌}
 use Rattle.axml_chunks.specs.declared.chunk.Chunk.{Chunk}
 use Rattle.axml_chunks.specs.declared.fault.Fault.{Fault}
 use Rattle.axml_chunks.specs.Faults.{bad_chunk, two_roots, too_big, unbalanced, second_pool}
@@ -53,7 +54,8 @@ is_outside body first step count =
     if count == 0 then false
     else (nat_lt first 20 || nat_lt step 20 || nat_lt body (first + count * step))
 
--- an element that begins, without its attributes: whether an outermost one has ended, and how many have begun, decide too
+-- an element that begins, without its attributes: whether an outermost one has ended, and how many have begun, decide
+-- too
 unfoldable pub start_at : List ℕ → ℕ → Chunk → ℕ → Bool → ℕ → Result StartHead Fault
 start_at bytes place chunk count closed starts = do
   body ← body_at place chunk 20
@@ -62,7 +64,8 @@ start_at bytes place chunk count closed starts = do
       else (do
         ns ← reference_at bytes count body
         name ← name_at bytes count (body + 4)
-        if is_outside (chunk.size - chunk.head) (number16 bytes (body + 8)) (number16 bytes (body + 10)) (number16 bytes (body + 12))
+        if is_outside (chunk.size - chunk.head) (number16 bytes (body + 8)) (number16 bytes (body + 10))
+            (number16 bytes (body + 12))
             then Err (bad_chunk place)
             else Ok (record {
               ns = ns;
@@ -81,10 +84,12 @@ unfoldable pub map_part : List ℕ → ℕ → Chunk → State → Result Part F
 map_part bytes place chunk s = Ok (Ids (words_at bytes (place + chunk.head) ((chunk.size - chunk.head) / 4)))
 
 unfoldable pub namespace_start_part : List ℕ → ℕ → Chunk → State → Result Part Fault
-namespace_start_part bytes place chunk s = pair_at bytes place chunk (strings s.pool) >>= λ names. Ok (Item (NsStart names.0 names.1) [])
+namespace_start_part bytes place chunk s =
+    pair_at bytes place chunk (strings s.pool) >>= λ names. Ok (Item (NsStart names.0 names.1) [])
 
 unfoldable pub namespace_end_part : List ℕ → ℕ → Chunk → State → Result Part Fault
-namespace_end_part bytes place chunk s = pair_at bytes place chunk (strings s.pool) >>= λ names. Ok (Item (NsEnd names.0 names.1) [])
+namespace_end_part bytes place chunk s =
+    pair_at bytes place chunk (strings s.pool) >>= λ names. Ok (Item (NsEnd names.0 names.1) [])
 
 unfoldable pub start_part : List ℕ → ℕ → Chunk → State → Result Part Fault
 start_part bytes place chunk s = do
@@ -101,7 +106,9 @@ end_part bytes place chunk s = do
 unfoldable pub chars_part : List ℕ → ℕ → Chunk → State → Result Part Fault
 chars_part bytes place chunk s = do
   text ← chars_at bytes place chunk (strings s.pool)
-  Ok (Item (Chars (line_at bytes place) text (slice_index bytes (place + chunk.head + 7)) (number32 bytes (place + chunk.head + 8))) [])
+  Ok
+      (Item (Chars (line_at bytes place) text (slice_index bytes (place + chunk.head + 7))
+      (number32 bytes (place + chunk.head + 8))) [])
 
 -- what a chunk is, after what was read before it
 unfoldable pub part_at : List ℕ → ℕ → Chunk → State → Result Part Fault

@@ -37,5 +37,11 @@ starts_in (t ∷ rest) = starts_of t + starts_in rest
 abbrev pub with_part : State → Part → State
 with_part s (Strings pool) = record s { pool = Some pool }
 with_part s (Ids ids) = record s { map = ids }
-with_part s (Item node attrs) = record s { nodes = s.nodes ++ node ∷ []; attrs = s.attrs ++ attrs; stack = turned s.stack (token node); starts = s.starts + starts_of (token node) }
+with_part s (Item node attrs) =
+    record s {
+      nodes = s.nodes ++ node ∷ [];
+      attrs = s.attrs ++ attrs;
+      stack = turned s.stack (token node);
+      starts = s.starts + starts_of (token node);
+    }
 with_part s Other = s

@@ -1,5 +1,6 @@
 -- What the bytes of a document are, apart from how they are read.
-use Rattle.std.specs.Prelude.{◌≡◌, ◌≢◌, ℕ, ◌+◌, ◌-◌, ◌*◌, ◌/◌, ◌<◌, ◌≤◌, ◌⊎◌, List, [], ◌∷◌, ◌++◌, length, map, slice_index, slice_get, Option, Some, None}
+use Rattle.std.specs.Prelude.{◌≡◌, ◌≢◌, ℕ, ◌+◌, ◌-◌, ◌*◌, ◌/◌, ◌<◌, ◌≤◌, ◌⊎◌, List, [], ◌∷◌, ◌++◌, length, map}
+use Rattle.std.specs.Prelude.{slice_index, slice_get, Option, Some, None}
 use Rattle.axml_chunks.specs.declared.chunk.Chunk.{Chunk}
 use Rattle.axml_chunks.specs.Chunks.{IsChunkAt}
 use Rattle.axml_chunks.specs.Numbers.{number16, number32}
@@ -47,14 +48,16 @@ pub record IsForm (kind form : ℕ) (chunk : Chunk) : Type 0 where
   pub body : form ≤ chunk.size - chunk.head
 
 -- a namespace begins or ends
-pub record IsNamespace (bytes : List ℕ) (count place kind : ℕ) (chunk : Chunk) (prefix uri : ℕ) (attrs : List Attr) : Type 0 where
+pub record IsNamespace (bytes : List ℕ) (count place kind : ℕ) (chunk : Chunk) (prefix uri : ℕ) (attrs : List Attr) :
+    Type 0 where
   pub form : IsForm kind 8 chunk
   pub prefix_at : IsReferenceAt bytes count (place + chunk.head) prefix
   pub uri_at : IsReferenceAt bytes count (place + chunk.head + 4) uri
   pub no_attrs : attrs ≡ []
 
 -- an element begins, of which these are the attributes; n elements came before it
-pub record IsStartNode (bytes : List ℕ) (count before place : ℕ) (chunk : Chunk) (line ns name first n : ℕ) (attrs : List Attr) : Type 0 where
+pub record IsStartNode (bytes : List ℕ) (count before place : ℕ) (chunk : Chunk) (line ns name first n : ℕ)
+    (attrs : List Attr) : Type 0 where
   pub form : IsForm 0x102 20 chunk
   pub line_is : line ≡ number32 bytes (place + 8)
   pub ns_at : IsReferenceAt bytes count (place + chunk.head) ns
@@ -64,19 +67,23 @@ pub record IsStartNode (bytes : List ℕ) (count before place : ℕ) (chunk : Ch
   pub few : n ≤ 256
   pub begin : 0 < n → 20 ≤ number16 bytes (place + chunk.head + 8)
   pub step : 0 < n → 20 ≤ number16 bytes (place + chunk.head + 10)
-  pub within : 0 < n → number16 bytes (place + chunk.head + 8) + n * number16 bytes (place + chunk.head + 10) ≤ chunk.size - chunk.head
-  pub attrs_at : AreAttrs bytes count (place + chunk.head + number16 bytes (place + chunk.head + 8)) (number16 bytes (place + chunk.head + 10)) n attrs
+  pub within : 0 < n
+      → number16 bytes (place + chunk.head + 8) + n * number16 bytes (place + chunk.head + 10) ≤ chunk.size - chunk.head
+  pub attrs_at : AreAttrs bytes count (place + chunk.head + number16 bytes (place + chunk.head + 8))
+      (number16 bytes (place + chunk.head + 10)) n attrs
 
 -- an element ends
-pub record IsEndNode (bytes : List ℕ) (count place : ℕ) (chunk : Chunk) (line ns name : ℕ) (attrs : List Attr) : Type 0 where
-  pub form : IsForm 0x103 8 chunk
-  pub line_is : line ≡ number32 bytes (place + 8)
-  pub ns_at : IsReferenceAt bytes count (place + chunk.head) ns
-  pub name_at : IsNameAt bytes count (place + chunk.head + 4) name
-  pub no_attrs : attrs ≡ []
+pub record IsEndNode (bytes : List ℕ) (count place : ℕ) (chunk : Chunk) (line ns name : ℕ) (attrs : List Attr) : Type 0
+  where
+    pub form : IsForm 0x103 8 chunk
+    pub line_is : line ≡ number32 bytes (place + 8)
+    pub ns_at : IsReferenceAt bytes count (place + chunk.head) ns
+    pub name_at : IsNameAt bytes count (place + chunk.head + 4) name
+    pub no_attrs : attrs ≡ []
 
 -- character data
-pub record IsCharsNode (bytes : List ℕ) (count place : ℕ) (chunk : Chunk) (line text kind word : ℕ) (attrs : List Attr) : Type 0 where
+pub record IsCharsNode (bytes : List ℕ) (count place : ℕ) (chunk : Chunk) (line text kind word : ℕ) (attrs : List Attr)
+    : Type 0 where
   pub form : IsForm 0x104 12 chunk
   pub line_is : line ≡ number32 bytes (place + 8)
   pub text_at : IsReferenceAt bytes count (place + chunk.head) text
@@ -86,11 +93,15 @@ pub record IsCharsNode (bytes : List ℕ) (count place : ℕ) (chunk : Chunk) (l
 
 -- the node of the chunk at a place, with its attributes
 abbrev pub IsNode : List ℕ → ℕ → ℕ → ℕ → Chunk → Node → List Attr → Type 0
-IsNode bytes count before place chunk (NsStart prefix uri) attrs = IsNamespace bytes count place 0x100 chunk prefix uri attrs
-IsNode bytes count before place chunk (NsEnd prefix uri) attrs = IsNamespace bytes count place 0x101 chunk prefix uri attrs
-IsNode bytes count before place chunk (Start line ns name first n) attrs = IsStartNode bytes count before place chunk line ns name first n attrs
+IsNode bytes count before place chunk (NsStart prefix uri) attrs =
+    IsNamespace bytes count place 0x100 chunk prefix uri attrs
+IsNode bytes count before place chunk (NsEnd prefix uri) attrs =
+    IsNamespace bytes count place 0x101 chunk prefix uri attrs
+IsNode bytes count before place chunk (Start line ns name first n) attrs =
+    IsStartNode bytes count before place chunk line ns name first n attrs
 IsNode bytes count before place chunk (End line ns name) attrs = IsEndNode bytes count place chunk line ns name attrs
-IsNode bytes count before place chunk (Chars line text kind word) attrs = IsCharsNode bytes count place chunk line text kind word attrs
+IsNode bytes count before place chunk (Chars line text kind word) attrs =
+    IsCharsNode bytes count place chunk line text kind word attrs
 
 -- a chunk of a kind that is passed over
 pub record IsOther (kind : ℕ) : Type 0 where
@@ -105,7 +116,8 @@ pub record IsOther (kind : ℕ) : Type 0 where
 -- the part that the chunk at a place is, after this pool and n attributes
 abbrev pub IsPart : List ℕ → Option StringPool → ℕ → ℕ → Chunk → Part → Type 0
 IsPart bytes pool before place chunk (Strings strings) = (chunk.kind ≡ 0x001) × IsPool bytes place chunk strings
-IsPart bytes pool before place chunk (Ids ids) = (chunk.kind ≡ 0x180) × (ids ≡ words_at bytes (place + chunk.head) ((chunk.size - chunk.head) / 4))
+IsPart bytes pool before place chunk (Ids ids) =
+    (chunk.kind ≡ 0x180) × (ids ≡ words_at bytes (place + chunk.head) ((chunk.size - chunk.head) / 4))
 IsPart bytes pool before place chunk (Item node attrs) = IsNode bytes (strings pool) before place chunk node attrs
 IsPart bytes pool before place chunk Other = IsOther chunk.kind
 
@@ -137,7 +149,8 @@ abbrev pub AreParts : List ℕ → Option StringPool → ℕ → List Place → 
 AreParts bytes pool before [] [] = Unit {0}
 AreParts bytes pool before [] (x ∷ xs) = ⊥
 AreParts bytes pool before (p ∷ ps) [] = ⊥
-AreParts bytes pool before (p ∷ ps) (x ∷ xs) = IsPart bytes pool before p.at p.chunk x × AreParts bytes (pool_after pool x) (before + attr_count x) ps xs
+AreParts bytes pool before (p ∷ ps) (x ∷ xs) =
+    IsPart bytes pool before p.at p.chunk x × AreParts bytes (pool_after pool x) (before + attr_count x) ps xs
 
 -- the pools, the nodes and the attributes among parts
 abbrev pub pools_of : List Part → List StringPool

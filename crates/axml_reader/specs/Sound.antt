@@ -1,5 +1,6 @@
 -- What each document keeps.
-use Rattle.std.specs.Prelude.{◌≡◌, ℕ, ◌+◌, Bool, true, not, ◌&&◌, ◌||◌, nat_lt, nat_le, ◌==◌, ◌≤◌, List, length, map, Some}
+use Rattle.std.specs.Prelude.{◌≡◌, ℕ, ◌+◌, Bool, true, not, ◌&&◌, ◌||◌, nat_lt, nat_le, ◌==◌, ◌≤◌, List, length, map}
+use Rattle.std.specs.Prelude.{Some}
 use Rattle.std.specs.List.{All}
 use Rattle.axml_chunks.specs.Pool.{StringPool}
 use Rattle.axml_chunks.specs.Short.{IsShort}
@@ -27,7 +28,9 @@ HaveStrings pool nodes = All (λ node. has_strings (length pool.texts) node ≡ 
 
 -- the string numbers of an attribute are none or below a count, and its name and its string value are below it
 abbrev pub attr_has_strings : ℕ → Attr → Bool
-attr_has_strings count attr = is_reference count attr.ns && nat_lt attr.name count && is_reference count attr.raw && (not (attr.kind == 3) || nat_lt attr.word count)
+attr_has_strings count attr =
+    is_reference count attr.ns && nat_lt attr.name count && is_reference count attr.raw
+    && (not (attr.kind == 3) || nat_lt attr.word count)
 
 abbrev pub AttrsHaveStrings : StringPool → List Attr → Type 0
 AttrsHaveStrings pool attrs = All (λ attr. attr_has_strings (length pool.texts) attr ≡ true) attrs

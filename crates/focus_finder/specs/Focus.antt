@@ -1,5 +1,6 @@
 -- Which view gets the focus next: the candidate with the least key among all views.
-use Rattle.std.specs.Prelude.{ℕ, ◌+◌, ◌*◌, ◌==◌, Bool, true, false, ◌&&◌, ◌||◌, not, nat_lt, if◌then◌else◌, ℤ, pos, ◌+ℤ◌, ◌-ℤ◌, int_le, int_lt, unsigned_abs, List, [], ◌∷◌, ◌++◌, Option, Some, None}
+use Rattle.std.specs.Prelude.{ℕ, ◌+◌, ◌*◌, ◌==◌, Bool, true, false, ◌&&◌, ◌||◌, not, nat_lt, if◌then◌else◌, ℤ, pos}
+use Rattle.std.specs.Prelude.{◌+ℤ◌, ◌-ℤ◌, int_le, int_lt, unsigned_abs, List, [], ◌∷◌, ◌++◌, Option, Some, None}
 use Rattle.std.specs.Int.{int_max}
 use Rattle.std.specs.List.{filter_map}
 use Rattle.std.specs.Option.{option_map}
@@ -32,7 +33,9 @@ is_focusable view = takes_clicks view.facts.answer && not (scrolls view.class)
 abbrev pub focusable : Forest PlainView → List ℕ
 focusable Nothing = []
 focusable (Branch view below after) =
-    (if is_drawn view.facts.visibility then (if is_focusable view then view.number ∷ [] else []) ++ focusable below else []) ++ focusable after
+    (if is_drawn view.facts.visibility then (if is_focusable view then view.number ∷ [] else []) ++ focusable below
+    else [])
+    ++ focusable after
 
 -- a rectangle, with its axes exchanged if the focus moves up or down: then up is left, and down is right
 abbrev pub turned : Side → Rect → Rect
@@ -80,7 +83,8 @@ distance_of major minor = 13 * ((2 * major) * (2 * major)) + minor * minor
 
 -- the key of a candidate to the left or to the right
 abbrev pub on_way : Bool → Rect → Rect → FocusKey
-on_way low from to = record { outside = not (in_beam from to); distance = distance_of (major_of low from to) (minor_of from to) }
+on_way low from to =
+    record { outside = not (in_beam from to); distance = distance_of (major_of low from to) (minor_of from to) }
 
 -- the key of a candidate that is seen in a rectangle, to this side of another rectangle
 abbrev pub key_of : Side → Rect → Rect → FocusKey
@@ -95,7 +99,8 @@ is_less one other =
 
 -- whether something is seen in both of two rectangles, and the second lies on a side of the first
 abbrev pub is_candidate : Side → Rect → Rect → Bool
-is_candidate side from to = (not (is_empty from) && not (is_empty to)) && lies_on (is_low side) (turned side from) (turned side to)
+is_candidate side from to =
+    (not (is_empty from) && not (is_empty to)) && lies_on (is_low side) (turned side from) (turned side to)
 
 -- another view as a candidate, by its number or its key, if what is seen of it lies on the side
 abbrev pub candidate_of : Side → ℕ → Rect → ℕ → Rect → Option Candidate
@@ -119,4 +124,5 @@ least (one ∷ others) = lesser (Some one) (least others)
 abbrev pub next_focus : Forest PlainView → List Laid → Size → ℕ → Side → Option ℕ
 next_focus tree geometry window number side =
     let seen = visible_rect tree geometry window in
-    option_map (λ (best : Candidate). best.view) (least (filter_map (λ other. candidate_of side number (seen number) other (seen other)) (focusable tree)))
+    option_map (λ (best : Candidate). best.view)
+    (least (filter_map (λ other. candidate_of side number (seen number) other (seen other)) (focusable tree)))

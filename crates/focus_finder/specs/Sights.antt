@@ -30,8 +30,10 @@ sights held canvas (Branch row kids siblings) =
 
 -- those of them that are candidates
 abbrev pub candidates_in : Search → List Sight → List Candidate
-candidates_in search sights = filter_map (λ (sight : Sight). candidate_of search.side search.view search.from sight.view sight.rect) sights
+candidates_in search sights =
+    filter_map (λ (sight : Sight). candidate_of search.side search.view search.from sight.view sight.rect) sights
 
 -- a view as a candidate, if it is one, by what is seen of it
 abbrev pub own_candidate : Search → PlainView → ℕ → Rect → Option Candidate
-own_candidate search view key rect = if is_focusable view then candidate_of search.side search.view search.from key rect else None
+own_candidate search view key rect =
+    if is_focusable view then candidate_of search.side search.view search.from key rect else None

@@ -38,7 +38,8 @@ RepresentsFrame plan own specs (first ∷ []) taken = InSecondFramePhase plan ow
 RepresentsFrame plan own specs (first ∷ second ∷ more) taken = ⊥
 
 -- the plan at the end of a phase, once it has returned whether another follows
-pub record TurnsFrame (plan : FramePlan) (own : Facts) (specs : Specs) (past : List (List Measured)) (taken : List Measured) (answer : Bool) : Type 0 where
+pub record TurnsFrame (plan : FramePlan) (own : Facts) (specs : Specs) (past : List (List Measured))
+    (taken : List Measured) (answer : Bool) : Type 0 where
   pub answers : answer ≡ (frame_rule own specs).turns (past ++ taken ∷ [])
   pub follows : answer ≡ true → RepresentsFrame plan own specs (past ++ taken ∷ []) []
   pub ends : answer ≡ false → RepresentsFrame plan own specs past taken

@@ -26,4 +26,5 @@ opaque_of red green blue = record { 0 = 0xff00_0000 + red * 0x1_0000 + green * 0
 unfoldable pub blend_of : Argb → Argb → Argb
 blend_of over under =
     let mix = mixed (alpha_of over) in
-    opaque_of (mix (red_of over) (red_of under)) (mix (green_of over) (green_of under)) (mix (blue_of over) (blue_of under))
+    opaque_of (mix (red_of over) (red_of under)) (mix (green_of over) (green_of under))
+    (mix (blue_of over) (blue_of under))

@@ -1,5 +1,5 @@
--- The numbers of definitions: the dimensions that are no number of pixels, and the colour of a new window. The code names
--- each of them once; `NumberLaws` says that its numbers are these.
+-- The numbers of definitions: the dimensions that are no number of pixels, and the colour of a new window. The code
+-- names each of them once; `NumberLaws` says that its numbers are these.
 use Rattle.std.specs.Prelude.{ℤ, negsuc}
 use Rattle.geom_core.specs.declared.color.Argb.{Argb}
 

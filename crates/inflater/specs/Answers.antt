@@ -21,7 +21,11 @@ GrownAs plan (Err (fault.Refused refusal)) = plan ≡ Err (plain_refusal refusal
 GrownAs plan (Err fault.NoMemory) = Unit {0}
 
 abbrev pub one_view : ElementView → OneView
-one_view view = record { seed = record { class = view.class; facts = view.taken.facts; text = view.taken.text }; ignored = view.taken.ignored }
+one_view view =
+    record {
+      seed = record { class = view.class; facts = view.taken.facts; text = view.taken.text };
+      ignored = view.taken.ignored;
+    }
 
 -- the view of one element was made, or its refusal is the result
 abbrev pub ViewedAs : Result OneView PlainRefusal → Result ElementView Fault → Type 0

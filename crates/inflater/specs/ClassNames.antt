@@ -3,7 +3,8 @@ use Rattle.std.specs.Prelude.{ℕ, List, [], ◌∷◌, Option, Some, None, code
 use Rattle.std.specs.Map.{lookup}
 use Rattle.std.specs.Str.{bytes_eq}
 use Rattle.view_model.specs.declared.kinds.Class.{Class}
-use Rattle.view_model.specs.declared.kinds.Class.TheVariants.{View, TextView, FrameLayout, LinearLayout, RelativeLayout, ScrollView}
+use Rattle.view_model.specs.declared.kinds.Class.TheVariants.{View, TextView, FrameLayout, LinearLayout, RelativeLayout}
+use Rattle.view_model.specs.declared.kinds.Class.TheVariants.{ScrollView}
 
 -- each class by its name alone, and with its package before it
 abbrev pub class_names : List (List ℕ × Class)

@@ -39,7 +39,8 @@ name_of (Chars line text kind word) = 0
 
 -- the view of an element, of which this is the number and the node
 abbrev pub view_of : Document → Entries → ℕ → ℕ → Node → Result OneView PlainRefusal
-view_of doc resources dpi element node = view_with element (class_in (slice_get doc.pool.texts (name_of node))) (facets_of doc resources dpi node)
+view_of doc resources dpi element node =
+    view_with element (class_in (slice_get doc.pool.texts (name_of node))) (facets_of doc resources dpi node)
 
 -- views that are below one another as their elements are, and how many attributes are not known
 pub record Plan : Type 0 where
@@ -53,7 +54,9 @@ planned doc resources dpi element (Branch node below after) = do
   own ← view_of doc resources dpi element node
   inner ← planned doc resources dpi (suc element) below
   later ← planned doc resources dpi (suc element + count_of below) after
-  Ok (record { seeds = Branch own.seed inner.seeds later.seeds; ignored = own.ignored + (inner.ignored + later.ignored) })
+  Ok
+      (record
+      { seeds = Branch own.seed inner.seeds later.seeds; ignored = own.ignored + (inner.ignored + later.ignored) })
 
 -- the views of a document, whose elements count from 1
 abbrev pub inflated : Document → Entries → ℕ → Result Plan PlainRefusal

@@ -1,11 +1,10 @@
 //! A realistic screen with a source and a sink that move one byte a call, and with each of its writes failing in turn.
 
-use crate::runs::{ended, Call, NO_WORK};
+use crate::runs::{Call, NO_WORK, ended};
 use std::test::Fail;
 
 /// A bar with two texts at its sides, a list that scrolls, and two buttons; then the window gets narrower.
-const SCREEN: &[u8] =
-    b"window 320 480\nadd root LinearLayout match match\norient v1 vertical\n\
+const SCREEN: &[u8] = b"window 320 480\nadd root LinearLayout match match\norient v1 vertical\n\
     add v1 RelativeLayout match 48\npadding v2 8 8 8 8\nadd v2 TextView wrap wrap\n\
     text v3 Inbox\nrule v3 parent_left yes\nrule v3 center_v yes\nadd v2 TextView wrap wrap\n\
     text v4 12\nrule v4 parent_right yes\nrule v4 center_v yes\nadd v1 ScrollView match 0\n\

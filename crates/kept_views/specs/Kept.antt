@@ -1,5 +1,6 @@
 -- What is kept with the views of a tree while some of them are skipped.
-use Rattle.std.specs.Prelude.{◌≡◌, ℕ, ◌+◌, ◌==◌, Bool, true, false, if◌then◌else◌, List, [], ◌∷◌, map, Option, Some, None}
+use Rattle.std.specs.Prelude.{◌≡◌, ℕ, ◌+◌, ◌==◌, Bool, true, false, if◌then◌else◌, List, [], ◌∷◌, map, Option, Some}
+use Rattle.std.specs.Prelude.{None}
 use Rattle.geom_core.specs.declared.geometry.Rect.{Rect}
 use Rattle.geom_core.specs.declared.geometry.Size.{Size}
 use Rattle.measure_cache.specs.Entries.{found}
@@ -18,19 +19,22 @@ use Rattle.view_tree.specs.Views.{Held, Views, held_of, specs_of}
 abbrev pub last_specs : (ℕ → Held) → Forest Row → List Specs
 last_specs held Nothing = []
 last_specs held (Branch row kids siblings) =
-    if is_shown row.view.facts then specs_of (held row.key).state ∷ last_specs held siblings else last_specs held siblings
+    if is_shown row.view.facts then specs_of (held row.key).state ∷ last_specs held siblings
+    else last_specs held siblings
 
 -- the sides that a relative layout found for these
 abbrev pub last_edges : (ℕ → Held) → Forest Row → List (Option Rect)
 last_edges held Nothing = []
 last_edges held (Branch row kids siblings) =
-    if is_shown row.view.facts then sides_of (held row.key).state.edges ∷ last_edges held siblings else last_edges held siblings
+    if is_shown row.view.facts then sides_of (held row.key).state.edges ∷ last_edges held siblings
+    else last_edges held siblings
 
 -- the bounds of these
 abbrev pub last_places : (ℕ → Held) → Forest Row → List (Option Rect)
 last_places held Nothing = []
 last_places held (Branch row kids siblings) =
-    if is_shown row.view.facts then (held row.key).state.bounds ∷ last_places held siblings else last_places held siblings
+    if is_shown row.view.facts then (held row.key).state.bounds ∷ last_places held siblings
+    else last_places held siblings
 
 -- the bounds of the first view of a list
 abbrev pub first_place : (ℕ → Held) → Forest Row → Option Rect
@@ -41,8 +45,10 @@ first_place held (Branch row kids siblings) = (held row.key).state.bounds
 -- children were last measured under its final specs for them, and those of a relative layout have their sides
 pub record IsSized (held : ℕ → Held) (own : Held) (row : Row) (kids : Forest Row) : Type 0 where
   pub size : own.state.measured ≡ measured_size row.view (views_of kids) (specs_of own.state)
-  pub finals : own.state.measure_first ≡ false → last_specs held kids ≡ final_specs row.view (views_of kids) (specs_of own.state)
-  pub total : own.state.measure_first ≡ false → own.state.total ≡ total_size row.view (views_of kids) (specs_of own.state)
+  pub finals : own.state.measure_first ≡ false
+      → last_specs held kids ≡ final_specs row.view (views_of kids) (specs_of own.state)
+  pub total : own.state.measure_first ≡ false
+      → own.state.total ≡ total_size row.view (views_of kids) (specs_of own.state)
   pub edges : own.state.measure_first ≡ false → row.view.class ≡ RelativeLayout
       → last_edges held kids ≡ final_edges row.view (views_of kids) (specs_of own.state)
 
@@ -50,7 +56,9 @@ pub record IsSized (held : ℕ → Held) (own : Held) (row : Row) (kids : Forest
 abbrev pub Sized : (ℕ → Held) → Forest Row → Type 0
 Sized held Nothing = Unit {0}
 Sized held (Branch row kids siblings) =
-    (is_shown row.view.facts ≡ true → IsSized held (held row.key) row kids × ((held row.key).state.measure_first ≡ false → Sized held kids)) × Sized held siblings
+    (is_shown row.view.facts ≡ true
+    → IsSized held (held row.key) row kids × ((held row.key).state.measure_first ≡ false → Sized held kids))
+    × Sized held siblings
 
 -- what is known of the views around a list
 pub record Around : Type 0 where
@@ -74,7 +82,8 @@ firm = record { hidden = false; forced = false }
 -- how often a key occurs among these or below those of them that are not gone
 abbrev pub reach : ℕ → Forest Row → ℕ
 reach key Nothing = 0
-reach key (Branch row kids siblings) = (if row.key == key then 1 else 0) + ((if is_shown row.view.facts then reach key kids else 0) + reach key siblings)
+reach key (Branch row kids siblings) =
+    (if row.key == key then 1 else 0) + ((if is_shown row.view.facts then reach key kids else 0) + reach key siblings)
 
 -- how often those do whose layout was requested in the running pass
 abbrev pub asked : List ℕ → Forest Row → ℕ
@@ -88,11 +97,13 @@ pub record HiddenView (own : Held) : Type 0 where
 
 -- the offset of a view in this rectangle is in its range, if it has one
 abbrev pub InRange : (ℕ → Held) → Held → Row → Forest Row → Rect → Type 0
-InRange held own row kids rect = brought (range_by row.view.class row.view.facts (Some rect) (first_place held kids)) own.offset ≡ own.offset
+InRange held own row kids rect =
+    brought (range_by row.view.class row.view.facts (Some rect) (first_place held kids)) own.offset ≡ own.offset
 
 -- what is kept with a view that takes part in layout, unless its layout, or that of a view below it, was requested in
 -- the running pass
-pub record ShownView (keys : List ℕ) (held : ℕ → Held) (up : Around) (own : Held) (row : Row) (kids : Forest Row) : Type 0 where
+pub record ShownView (keys : List ℕ) (held : ℕ → Held) (up : Around) (own : Held) (row : Row) (kids : Forest Row) : Type
+    0 where
   -- it is forced only below a forced view
   pub flags : asked keys (Branch row kids Nothing) ≡ 0 → own.state.forced ≡ true → up.forced ≡ true
   -- what is in its cache is right
@@ -103,7 +114,9 @@ pub record ShownView (keys : List ℕ) (held : ℕ → Held) (up : Around) (own 
   -- unless it is forced or needs layout, its children are where it places them, and its offset is in range
   pub placed : asked keys (Branch row kids Nothing) ≡ 0 → own.state.forced ≡ false → own.state.layout_needed ≡ false
       → (rect : Rect) → own.state.bounds ≡ Some rect
-      → last_places held kids ≡ map (λ (place : Rect). Some place) (placement row.view (views_of kids) (specs_of own.state) (size_of_rect rect))
+      → last_places held kids
+      ≡ map (λ (place : Rect). Some place)
+      (placement row.view (views_of kids) (specs_of own.state) (size_of_rect rect))
   pub ranged : asked keys (Branch row kids Nothing) ≡ 0 → own.state.forced ≡ false → own.state.layout_needed ≡ false
       → (rect : Rect) → own.state.bounds ≡ Some rect → InRange held own row kids rect
 
@@ -150,4 +163,5 @@ debt row kids own = if own.state.measure_first then measure_calls row.view (view
 
 abbrev pub owed : (ℕ → Held) → Forest Row → ℕ
 owed held Nothing = 0
-owed held (Branch row kids siblings) = (if is_shown row.view.facts then debt row kids (held row.key) + owed held kids else 0) + owed held siblings
+owed held (Branch row kids siblings) =
+    (if is_shown row.view.facts then debt row kids (held row.key) + owed held kids else 0) + owed held siblings

@@ -1,5 +1,6 @@
 -- What laying out a part of a tree requires and leaves, once that part is measured.
-use Rattle.std.specs.Prelude.{◌≡◌, ◌≢◌, ℕ, ◌+◌, Bool, true, false, if◌then◌else◌, List, [], ◌∷◌, ◌++◌, map, Option, Some, None}
+use Rattle.std.specs.Prelude.{◌≡◌, ◌≢◌, ℕ, ◌+◌, Bool, true, false, if◌then◌else◌, List, [], ◌∷◌, ◌++◌, map, Option}
+use Rattle.std.specs.Prelude.{Some, None}
 use Rattle.std.specs.Ordering.{int_eq}
 use Rattle.geom_core.specs.declared.geometry.Rect.{Rect}
 use Rattle.geom_core.specs.declared.geometry.Size.{Size}
@@ -21,7 +22,8 @@ layout_of (Branch row kids siblings) specs rect = laid_views row.view (views_of 
 
 -- a view as a child of its group, last measured under these specs
 abbrev pub kid_under : Specs → Row → Forest Row → Measured
-kid_under specs row kids = record { facts = layout_facts row.view.facts; size = measured_size row.view (views_of kids) specs }
+kid_under specs row kids =
+    record { facts = layout_facts row.view.facts; size = measured_size row.view (views_of kids) specs }
 
 abbrev pub kid_sizes : Specs → Row → Forest Row → List Measured
 kid_sizes specs row kids = if is_shown row.view.facts then kid_under specs row kids ∷ [] else []
@@ -29,11 +31,13 @@ kid_sizes specs row kids = if is_shown row.view.facts then kid_under specs row k
 -- the children of a list that take part in layout, each as it was last measured
 abbrev pub last_sizes : (ℕ → Held) → Forest Row → List Measured
 last_sizes held Nothing = []
-last_sizes held (Branch row kids siblings) = kid_sizes (specs_of (held row.key).state) row kids ++ last_sizes held siblings
+last_sizes held (Branch row kids siblings) =
+    kid_sizes (specs_of (held row.key).state) row kids ++ last_sizes held siblings
 
 -- where a group puts a child of which this is kept, after others
 abbrev pub kid_place : Spot → List Measured → Held → Row → Forest Row → Rect
-kid_place spot before own row kids = place_in spot before (kid_under (specs_of own.state) row kids) (sides_of own.state.edges)
+kid_place spot before own row kids =
+    place_in spot before (kid_under (specs_of own.state) row kids) (sides_of own.state.edges)
 
 -- the layout of a list of children of a group, after others that it has placed, each under the specs of its last
 -- measuring
@@ -50,20 +54,23 @@ group_places spot before held Nothing = []
 group_places spot before held (Branch row kids siblings) =
     let own = held row.key in
     if is_shown row.view.facts
-    then kid_place spot before own row kids ∷ group_places spot (before ++ kid_sizes (specs_of own.state) row kids) held siblings
+    then kid_place spot before own row kids
+    ∷ group_places spot (before ++ kid_sizes (specs_of own.state) row kids) held siblings
     else group_places spot (before ++ kid_sizes (specs_of own.state) row kids) held siblings
 
 -- the children of a list as before, from the last to the first
 abbrev pub sizes_back : (ℕ → Held) → Forest Row → List Measured
 sizes_back held Nothing = []
-sizes_back held (Branch row kids siblings) = sizes_back held siblings ++ kid_sizes (specs_of (held row.key).state) row kids
+sizes_back held (Branch row kids siblings) =
+    sizes_back held siblings ++ kid_sizes (specs_of (held row.key).state) row kids
 
 -- the layout of a list of children of a group that places them from the last to the first
 abbrev pub group_kids_back : Spot → (ℕ → Held) → Forest Row → List Laid
 group_kids_back spot held Nothing = []
 group_kids_back spot held (Branch row kids siblings) =
     let own = held row.key in
-    laid_views row.view (views_of kids) (specs_of own.state) (kid_place spot (sizes_back held siblings) own row kids) ++ group_kids_back spot held siblings
+    laid_views row.view (views_of kids) (specs_of own.state) (kid_place spot (sizes_back held siblings) own row kids)
+    ++ group_kids_back spot held siblings
 
 -- where it puts those that take part in layout
 abbrev pub places_back : Spot → (ℕ → Held) → Forest Row → List Rect
@@ -75,14 +82,19 @@ places_back spot held (Branch row kids siblings) =
 
 -- the layout of all children of a group, and where it puts those that take part in it
 abbrev pub group_all : Spot → (ℕ → Held) → Forest Row → List Laid
-group_all spot held list = if places_backwards spot.view.class spot.view.facts then group_kids_back spot held list else group_kids spot [] held list
+group_all spot held list =
+    if places_backwards spot.view.class spot.view.facts then group_kids_back spot held list
+    else group_kids spot [] held list
 
 abbrev pub places_all : Spot → (ℕ → Held) → Forest Row → List Rect
-places_all spot held list = if places_backwards spot.view.class spot.view.facts then places_back spot held list else group_places spot [] held list
+places_all spot held list =
+    if places_backwards spot.view.class spot.view.facts then places_back spot held list
+    else group_places spot [] held list
 
 -- the group that the first view of a list is, of which this is kept, if it has this size
 abbrev pub spot_of : Forest Row → Held → Size → Spot
-spot_of list own room = record { view = for_layout (head_view list); specs = specs_of own.state; room = room; total = own.state.total }
+spot_of list own room =
+    record { view = for_layout (head_view list); specs = specs_of own.state; room = room; total = own.state.total }
 
 -- what layout may begin with
 pub record Fit (held : ℕ → Held) (list : Forest Row) : Type 0 where
@@ -96,14 +108,18 @@ some_all rects = map (λ (rect : Rect). Some rect) rects
 abbrev pub Brought : (ℕ → Held) → (ℕ → Held) → Forest Row → Type 0
 Brought old new Nothing = Unit {0}
 Brought old new (Branch row kids siblings) =
-    ((new row.key).offset ≡ brought (range_by row.view.class row.view.facts (new row.key).state.bounds (first_place new kids)) (old row.key).offset)
+    ((new row.key).offset
+    ≡ brought (range_by row.view.class row.view.facts (new row.key).state.bounds (first_place new kids))
+    (old row.key).offset)
     × Brought old new kids
     × Brought old new siblings
 
 abbrev pub same_place : Option Rect → Rect → Bool
 same_place None rect = false
 same_place (Some bounds) rect =
-    if int_eq bounds.left rect.left then (if int_eq bounds.top rect.top then (if int_eq bounds.right rect.right then int_eq bounds.bottom rect.bottom else false) else false) else false
+    if int_eq bounds.left rect.left then (if int_eq bounds.top rect.top
+    then (if int_eq bounds.right rect.right then int_eq bounds.bottom rect.bottom else false) else false)
+    else false
 
 abbrev pub same_bounds : Option Rect → Option Rect → Bool
 same_bounds None None = true
@@ -115,7 +131,8 @@ same_bounds (Some bounds) (Some rect) = same_place (Some bounds) rect
 abbrev pub differ : (ℕ → Held) → (ℕ → Held) → Forest Row → ℕ
 differ old new Nothing = 0
 differ old new (Branch row kids siblings) =
-    (if same_bounds (old row.key).state.bounds (new row.key).state.bounds then 0 else 1) + (differ old new kids + differ old new siblings)
+    (if same_bounds (old row.key).state.bounds (new row.key).state.bounds then 0 else 1)
+    + (differ old new kids + differ old new siblings)
 
 -- a view that has this rectangle as its bounds
 abbrev pub moved_to : Held → Rect → Held
@@ -123,7 +140,9 @@ moved_to own rect = record own { state = record own.state { bounds = Some rect }
 
 -- a view whose offset is brought into the range that it has with these bounds of its children
 abbrev pub ranged_own : (ℕ → Held) → Row → Forest Row → Held → Held
-ranged_own held row kids own = record own { offset = brought (range_by row.view.class row.view.facts own.state.bounds (first_place held kids)) own.offset }
+ranged_own held row kids own =
+    record own
+    { offset = brought (range_by row.view.class row.view.facts own.state.bounds (first_place held kids)) own.offset }
 
 -- one view was written, and nothing else changed
 pub record Wrote (old new : ℕ → Held) (view : ℕ) (own : Held) : Type 0 where
@@ -131,7 +150,8 @@ pub record Wrote (old new : ℕ → Held) (view : ℕ) (own : Held) : Type 0 whe
   pub others : (other : ℕ) → other ≢ view → new other ≡ old other
 
 -- what it leaves of children that a group lays out so, at these places, with the specs and the sides that they had
-pub record IsQuietAs (held : ℕ → Held) (layout : List Laid) (rects : List Rect) (start : ℕ → Held) (list : Forest Row) : Type 0 where
+pub record IsQuietAs (held : ℕ → Held) (layout : List Laid) (rects : List Rect) (start : ℕ → Held) (list : Forest Row) :
+    Type 0 where
   pub kept : Kept [] held firm list
   pub reached : Reached held false list
   pub specs : last_specs held list ≡ last_specs start list
@@ -142,11 +162,13 @@ pub record IsQuietAs (held : ℕ → Held) (layout : List Laid) (rects : List Re
 
 -- of children that a group places after others
 abbrev pub IsQuiet : (ℕ → Held) → Spot → List Measured → (ℕ → Held) → Forest Row → Type 0
-IsQuiet held spot before start list = IsQuietAs held (group_kids spot before start list) (group_places spot before start list) start list
+IsQuiet held spot before start list =
+    IsQuietAs held (group_kids spot before start list) (group_places spot before start list) start list
 
 -- of children that it places from the last to the first
 abbrev pub IsQuietBack : (ℕ → Held) → Spot → (ℕ → Held) → Forest Row → Type 0
-IsQuietBack held spot start list = IsQuietAs held (group_kids_back spot start list) (places_back spot start list) start list
+IsQuietBack held spot start list =
+    IsQuietAs held (group_kids_back spot start list) (places_back spot start list) start list
 
 -- of all its children
 abbrev pub IsQuietAll : (ℕ → Held) → Spot → (ℕ → Held) → Forest Row → Type 0

@@ -33,7 +33,10 @@ pub record IsPressed (up : Around) (own : Held) : Type 0 where
 abbrev pub Pressed : List ℕ → List ℕ → (ℕ → Held) → (ℕ → Held) → Around → Forest Row → Type 0
 Pressed keys more old new up Nothing = Unit {0}
 Pressed keys more old new up (Branch row kids siblings) =
-    (((new row.key ≡ old row.key) × (asked more (Branch row kids Nothing) ≡ 0 → asked keys (Branch row kids Nothing) ≡ 0))
-    ⊎ (Touched (old row.key) (new row.key) × (hidden_in up row ≡ false → asked more (Branch row kids Nothing) ≡ 0 → IsPressed up (new row.key))))
+    (((new row.key ≡ old row.key)
+    × (asked more (Branch row kids Nothing) ≡ 0 → asked keys (Branch row kids Nothing) ≡ 0))
+    ⊎
+    (Touched (old row.key) (new row.key)
+    × (hidden_in up row ≡ false → asked more (Branch row kids Nothing) ≡ 0 → IsPressed up (new row.key))))
     × Pressed keys more old new (inside up row (new row.key)) kids
     × Pressed keys more old new up siblings

@@ -9,12 +9,14 @@ use Rattle.geom_core.specs.declared.geometry.Size.{Size}
 -- a group of which nothing is set but what a line reads of it
 abbrev pub own_in : Line → Facts
 own_in line =
-    record (new_facts (pos 0) (pos 0)) { padding = line.padding; min = line.min; weight_sum = line.weight_sum; vertical = line.vertical }
+    record (new_facts (pos 0) (pos 0))
+    { padding = line.padding; min = line.min; weight_sum = line.weight_sum; vertical = line.vertical }
 
 -- that of a group, with the paddings that apply
 abbrev pub lined : Facts → Facts
 lined own = record (new_facts (pos 0) (pos 0)) {
-  padding = record { left = padding_left own; right = padding_right own; top = own.padding.top; bottom = own.padding.bottom };
+  padding =
+      record { left = padding_left own; right = padding_right own; top = own.padding.top; bottom = own.padding.bottom };
   min = own.min;
   weight_sum = own.weight_sum;
   vertical = own.vertical;

@@ -41,9 +41,12 @@ pub record InThird (plan : LinearPlan) (own : Facts) (specs : Specs) (first seco
 
 -- it has completed these phases, and has taken these children in the one that it is in
 abbrev pub RepresentsLine : LinearPlan → Facts → Specs → List (List Measured) → List Measured → Type 0
-RepresentsLine plan own specs [] taken = IsPlanOf plan own specs × (plan.phase ≡ First) × IsFirstPass plan.first own specs taken
-RepresentsLine plan own specs (first ∷ []) taken = IsPlanOf plan own specs × IsFirstPass plan.first own specs first × InSecond plan own specs first taken
-RepresentsLine plan own specs (first ∷ second ∷ []) taken = IsPlanOf plan own specs × IsFirstPass plan.first own specs first × InThird plan own specs first second
+RepresentsLine plan own specs [] taken =
+    IsPlanOf plan own specs × (plan.phase ≡ First) × IsFirstPass plan.first own specs taken
+RepresentsLine plan own specs (first ∷ []) taken =
+    IsPlanOf plan own specs × IsFirstPass plan.first own specs first × InSecond plan own specs first taken
+RepresentsLine plan own specs (first ∷ second ∷ []) taken =
+    IsPlanOf plan own specs × IsFirstPass plan.first own specs first × InThird plan own specs first second
 RepresentsLine plan own specs (first ∷ second ∷ third ∷ more) taken = ⊥
 
 -- so has the plan of a group with these facts
@@ -51,7 +54,8 @@ abbrev pub RepresentsLinear : LinearPlan → Facts → Specs → List (List Meas
 RepresentsLinear plan own specs past taken = RepresentsLine plan (lined own) specs past taken
 
 -- the plan at the end of a phase, once it has returned whether another follows
-pub record TurnsLinear (plan : LinearPlan) (own : Facts) (specs : Specs) (past : List (List Measured)) (taken : List Measured) (answer : Bool) : Type 0 where
+pub record TurnsLinear (plan : LinearPlan) (own : Facts) (specs : Specs) (past : List (List Measured))
+    (taken : List Measured) (answer : Bool) : Type 0 where
   pub answers : answer ≡ (linear_rule own specs).turns (past ++ taken ∷ [])
   pub follows : answer ≡ true → RepresentsLinear plan own specs (past ++ taken ∷ []) []
   pub ends : answer ≡ false → RepresentsLinear plan own specs past taken

@@ -5,7 +5,8 @@ use Rattle.linear_layout.specs.declared.first_pass.FirstPass.{FirstPass}
 use Rattle.linear_layout.specs.declared.weight_pass.WeightPass.{WeightPass}
 use Rattle.view_model.specs.declared.facts.Facts.{Facts}
 use Rattle.view_model.specs.Facts.{is_match}
-use Rattle.view_model.specs.LinearLayout.{broadest_from, claim_from, dim_on, even_claim, is_exact_beside, length_of, rest_of, skips, weight_of, weighted_claim}
+use Rattle.view_model.specs.LinearLayout.{broadest_from, claim_from, dim_on, even_claim, is_exact_beside, length_of}
+use Rattle.view_model.specs.LinearLayout.{rest_of, skips, weight_of, weighted_claim}
 use Rattle.view_model.specs.Measuring.{Measured, Specs}
 
 -- the first pass of a group with these facts under these specs, once it has taken these children
@@ -28,4 +29,6 @@ pub record IsWeightPass (pass : WeightPass) (own : Facts) (specs : Specs) (first
   pub weight : pass.sharing.weight ≡ (rest_of own specs first kids).weight
   pub spare : pass.sharing.spare ≡ (rest_of own specs first kids).spare
   pub broadest : pass.broadest.value ≡ broadest_from (broadest_from (pos 0) own.vertical first) own.vertical kids
-  pub claim : pass.claim.value ≡ claim_from (even_claim own.vertical (is_exact_beside own specs) first) own.vertical (is_exact_beside own specs) kids
+  pub claim : pass.claim.value
+      ≡ claim_from (even_claim own.vertical (is_exact_beside own specs) first) own.vertical (is_exact_beside own specs)
+      kids

@@ -1,5 +1,5 @@
--- The load of a size: the lines of a script that makes many views, and edits one of them before each of many frames. What
--- differs from line to line is drawn.
+-- The load of a size: the lines of a script that makes many views, and edits one of them before each of many frames.
+-- What differs from line to line is drawn.
 use Rattle.std.specs.Prelude.{ℕ, zero, suc, ◌+◌, ◌*◌, ◌%◌, ◌==◌, if◌then◌else◌, List, [], ◌∷◌, ◌++◌, codes, decimal}
 use Rattle.text_lines.specs.Hex.{hex_text}
 use Rattle.text_lines.specs.Joined.{◌⧺◌, texts_of}
@@ -26,7 +26,8 @@ drawing limit load made = made (drawn_by load limit) (after_draw load)
 -- the lines
 
 unfoldable pub add_line : ℕ → List ℕ → ℕ → ℕ → List ℕ
-add_line parent class width height = codes "add v" ⧺ decimal parent ⧺ codes " " ⧺ class ⧺ codes " " ⧺ decimal width ⧺ codes " " ⧺ decimal height
+add_line parent class width height =
+    codes "add v" ⧺ decimal parent ⧺ codes " " ⧺ class ⧺ codes " " ⧺ decimal width ⧺ codes " " ⧺ decimal height
 
 unfoldable pub text_line : ℕ → ℕ → List ℕ
 text_line view number = codes "text v" ⧺ decimal view ⧺ codes " " ⧺ decimal number
@@ -45,7 +46,8 @@ weight_line view weight = codes "weight v" ⧺ decimal view ⧺ codes " " ⧺ de
 
 unfoldable pub margins_line : ℕ → ℕ → ℕ → List ℕ
 margins_line view across down =
-    codes "margins v" ⧺ decimal view ⧺ codes " " ⧺ decimal across ⧺ codes " " ⧺ decimal down ⧺ codes " " ⧺ decimal across ⧺ codes " " ⧺ decimal down
+    codes "margins v" ⧺ decimal view ⧺ codes " " ⧺ decimal across ⧺ codes " " ⧺ decimal down ⧺ codes " " ⧺ decimal
+    across ⧺ codes " " ⧺ decimal down
 
 -- a root with six children, which hold the views
 abbrev pub opening : ℕ → Load
@@ -53,19 +55,23 @@ opening n = record {
   state = n;
   lines =
       codes "window 320 480" ∷ codes "add root LinearLayout match match" ∷ codes "orient v1 vertical"
-      ∷ codes "add v1 LinearLayout match wrap" ∷ codes "add v1 LinearLayout match wrap" ∷ codes "add v1 LinearLayout match wrap"
-      ∷ codes "add v1 LinearLayout match wrap" ∷ codes "add v1 LinearLayout match wrap" ∷ codes "add v1 LinearLayout match wrap" ∷ [];
+      ∷ codes "add v1 LinearLayout match wrap" ∷ codes "add v1 LinearLayout match wrap"
+      ∷ codes "add v1 LinearLayout match wrap"
+      ∷ codes "add v1 LinearLayout match wrap" ∷ codes "add v1 LinearLayout match wrap"
+      ∷ codes "add v1 LinearLayout match wrap" ∷ [];
 }
 
 unfoldable pub class_name : ℕ → List ℕ
 class_name class = if class == 0 then codes "View" else (if class == 1 then codes "TextView" else codes "FrameLayout")
 
 unfoldable pub visibility_name : ℕ → List ℕ
-visibility_name visibility = if visibility == 0 then codes "visible" else (if visibility == 1 then codes "invisible" else codes "gone")
+visibility_name visibility =
+    if visibility == 0 then codes "visible" else (if visibility == 1 then codes "invisible" else codes "gone")
 
 -- a text for the view that was made, if it has one
 abbrev pub with_text : ℕ → ℕ → Load → Load
-with_text view class load = if class == 1 then drawing 100000 load (λ number load. with_line load (text_line view number)) else load
+with_text view class load =
+    if class == 1 then drawing 100000 load (λ number load. with_line load (text_line view number)) else load
 
 -- a view more, of this number
 unfoldable pub with_view : ℕ → Load → Load
@@ -79,19 +85,22 @@ with_view view load =
 -- an edit of a view
 
 unfoldable pub with_size : ℕ → Load → Load
-with_size view load = drawing 60 load (λ width load. drawing 60 load (λ height load. with_line load (size_line view width height)))
+with_size view load =
+    drawing 60 load (λ width load. drawing 60 load (λ height load. with_line load (size_line view width height)))
 
 unfoldable pub with_color : ℕ → Load → Load
 with_color view load = drawing 16777216 load (λ color load. with_line load (color_line view color))
 
 unfoldable pub with_visibility : ℕ → Load → Load
-with_visibility view load = drawing 3 load (λ visibility load. with_line load (visible_line view (visibility_name visibility)))
+with_visibility view load =
+    drawing 3 load (λ visibility load. with_line load (visible_line view (visibility_name visibility)))
 
 unfoldable pub with_weight : ℕ → Load → Load
 with_weight view load = drawing 3 load (λ weight load. with_line load (weight_line view weight))
 
 unfoldable pub with_margins : ℕ → Load → Load
-with_margins view load = drawing 8 load (λ across load. drawing 8 load (λ down load. with_line load (margins_line view across down)))
+with_margins view load =
+    drawing 8 load (λ across load. drawing 8 load (λ down load. with_line load (margins_line view across down)))
 
 abbrev pub with_edit : ℕ → ℕ → Load → Load
 with_edit choice view load =

@@ -14,7 +14,8 @@ child_rect held (Branch row kids siblings) = (held row.key).state.bounds
 -- the range of the offset of the first view of a list
 abbrev pub first_range : (ℕ → Held) → Forest Row → Option ℤ
 first_range held Nothing = None
-first_range held (Branch row kids siblings) = range_by row.view.class row.view.facts (held row.key).state.bounds (child_rect held kids)
+first_range held (Branch row kids siblings) =
+    range_by row.view.class row.view.facts (held row.key).state.bounds (child_rect held kids)
 
 -- that of the view of a key
 abbrev pub range_at : Views → ℕ → Option ℤ

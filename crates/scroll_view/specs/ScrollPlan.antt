@@ -14,7 +14,8 @@ own_in plan = record (new_facts (pos 0) (pos 0)) { padding = plan.padding; fill 
 -- that of a group, with the paddings that apply
 abbrev pub scrolled : Facts → Facts
 scrolled own = record (new_facts (pos 0) (pos 0)) {
-  padding = record { left = padding_left own; right = padding_right own; top = own.padding.top; bottom = own.padding.bottom };
+  padding =
+      record { left = padding_left own; right = padding_right own; top = own.padding.top; bottom = own.padding.bottom };
   fill = own.fill;
 }
 
@@ -34,7 +35,8 @@ RepresentsScroll plan own specs (first ∷ []) taken = HasTaken plan own specs f
 RepresentsScroll plan own specs (first ∷ second ∷ more) taken = ⊥
 
 -- the plan at the end of a phase, once it has returned whether another follows
-pub record TurnsScroll (plan : ScrollPlan) (own : Facts) (specs : Specs) (past : List (List Measured)) (taken : List Measured) (answer : Bool) : Type 0 where
+pub record TurnsScroll (plan : ScrollPlan) (own : Facts) (specs : Specs) (past : List (List Measured))
+    (taken : List Measured) (answer : Bool) : Type 0 where
   pub answers : answer ≡ (scroll_rule own specs).turns (past ++ taken ∷ [])
   pub follows : answer ≡ true → RepresentsScroll plan own specs (past ++ taken ∷ []) []
   pub ends : answer ≡ false → RepresentsScroll plan own specs past taken

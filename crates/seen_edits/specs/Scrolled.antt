@@ -18,23 +18,31 @@ IsIn window damage views key = (x y : ℤ) → holds damage x y ≡ false → ho
 -- what is seen of the view of an entry by which a scroll view has moved its child is damage
 abbrev pub NotesEntry : Size → Rect → Views → Entry → Type 0
 NotesEntry window damage views entry =
-    (key : ℕ) → IsLive views key → (is_scroll entry.kind && entry.view == number_of views key) ≡ true → IsIn window damage views key
+    (key : ℕ) → IsLive views key → (is_scroll entry.kind && entry.view == number_of views key) ≡ true
+    → IsIn window damage views key
 
 abbrev pub NotesAll : Size → Rect → Views → List Entry → Type 0
-NotesAll window damage views entries = (key : ℕ) → IsLive views key → has_scrolled (number_of views key) entries ≡ true → IsIn window damage views key
+NotesAll window damage views entries =
+    (key : ℕ) → IsLive views key → has_scrolled (number_of views key) entries ≡ true → IsIn window damage views key
 
 -- what is seen of the view of an entry by which a scroll view has moved its child is within a rectangle
 abbrev pub EntryIn : Size → Rect → Views → Entry → Type 0
 EntryIn window box views entry =
-    (key : ℕ) → IsLive views key → (is_scroll entry.kind && entry.view == number_of views key) ≡ true → LiesIn (seen_of window views key) box
+    (key : ℕ) → IsLive views key → (is_scroll entry.kind && entry.view == number_of views key) ≡ true
+    → LiesIn (seen_of window views key) box
 
 abbrev pub ScrolledIn : Size → Rect → Views → List Entry → Type 0
-ScrolledIn window box views entries = (key : ℕ) → IsLive views key → has_scrolled (number_of views key) entries ≡ true → LiesIn (seen_of window views key) box
+ScrolledIn window box views entries =
+    (key : ℕ) → IsLive views key → has_scrolled (number_of views key) entries ≡ true
+    → LiesIn (seen_of window views key) box
 
 -- what is seen of each view that a state gives something is damage
 abbrev pub NotesGiven : List StateEntry → Size → Rect → Views → Type 0
-NotesGiven entries window damage views = (key : ℕ) → IsLive views key → is_some (wanted entries views.tree key) ≡ true → IsIn window damage views key
+NotesGiven entries window damage views =
+    (key : ℕ) → IsLive views key → is_some (wanted entries views.tree key) ≡ true → IsIn window damage views key
 
 -- and it is within a rectangle
 abbrev pub GivenIn : List StateEntry → Size → Rect → Views → Type 0
-GivenIn entries window box views = (key : ℕ) → IsLive views key → is_some (wanted entries views.tree key) ≡ true → LiesIn (seen_of window views key) box
+GivenIn entries window box views =
+    (key : ℕ) → IsLive views key → is_some (wanted entries views.tree key) ≡ true
+    → LiesIn (seen_of window views key) box

@@ -90,4 +90,5 @@ seen_of window views key = seen_at (held_of views) (whole_window window) key vie
 -- damage has grown by no more than what was seen of a view, and what is seen of it now
 abbrev pub GrowsWithin : Size → ℕ → Views → Views → Rect → Rect → Type 0
 GrowsWithin window view old new less more =
-    (box : Rect) → LiesIn less box → LiesIn (seen_of window old view) box → LiesIn (seen_of window new view) box → LiesIn more box
+    (box : Rect) → LiesIn less box → LiesIn (seen_of window old view) box → LiesIn (seen_of window new view) box
+    → LiesIn more box

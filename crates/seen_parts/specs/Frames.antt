@@ -1,5 +1,6 @@
 -- Rectangles in window coordinates whose edges may lie far outside.
-use Rattle.std.specs.Prelude.{ℕ, ◌^◌, ℤ, pos, negsuc, ◌+ℤ◌, ◌-ℤ◌, ◌≤ℤ◌, ◌<ℤ◌, ◌≡◌, Bool, false, not, ◌&&◌, int_lt, Option, Some, None}
+use Rattle.std.specs.Prelude.{ℕ, ◌^◌, ℤ, pos, negsuc, ◌+ℤ◌, ◌-ℤ◌, ◌≤ℤ◌, ◌<ℤ◌, ◌≡◌, Bool, false, not, ◌&&◌, int_lt}
+use Rattle.std.specs.Prelude.{Option, Some, None}
 use Rattle.geom_core.specs.Rects.{holds, larger_of, smaller_of}
 use Rattle.geom_core.specs.declared.geometry.Insets.{Insets}
 use Rattle.geom_core.specs.declared.geometry.Rect.{Rect}
@@ -11,7 +12,8 @@ use Rattle.seen_parts.specs.declared.frame.Frame.{Frame}
 
 -- whether a point lies in a frame
 abbrev pub frame_holds : Frame → ℤ → ℤ → Bool
-frame_holds frame x y = (not (int_lt x frame.left) && int_lt x frame.right) && (not (int_lt y frame.top) && int_lt y frame.bottom)
+frame_holds frame x y =
+    (not (int_lt x frame.left) && int_lt x frame.right) && (not (int_lt y frame.top) && int_lt y frame.bottom)
 
 -- the width and the height of a frame
 abbrev pub frame_size : Frame → Size
@@ -69,7 +71,9 @@ pub record IsSeen (frame : Frame) : Type 0 where
 
 -- the padding of a view
 abbrev pub padding_of : Facts → Insets
-padding_of facts = record { left = padding_left facts; top = facts.padding.top; right = padding_right facts; bottom = facts.padding.bottom }
+padding_of facts =
+    record
+    { left = padding_left facts; top = facts.padding.top; right = padding_right facts; bottom = facts.padding.bottom }
 
 -- a frame without this padding
 pub record IsWithout (frame : Frame) (padding : Insets) (inner : Frame) : Type 0 where

@@ -20,12 +20,14 @@ met_at x y canvas (Branch it below after) =
 
 -- the views of a list with the rectangles that are kept of them
 abbrev pub placed_rows : (ℕ → Held) → Forest Row → Forest PlacedView
-placed_rows held list = map_rows (λ (row : Row). record { view = scrolled held row; bounds = (held row.key).state.bounds }) list
+placed_rows held list =
+    map_rows (λ (row : Row). record { view = scrolled held row; bounds = (held row.key).state.bounds }) list
 
 -- at each point of the window outside of a rectangle, the views of a list of a canvas that are seen there are the same
 abbrev pub KeepsSight : Canvas → Rect → (ℕ → Held) → (ℕ → Held) → Forest Row → Type 0
 KeepsSight canvas damage old new list =
-    (x y : ℤ) → holds damage x y ≡ false → met_at x y canvas (placed_rows new list) ≡ met_at x y canvas (placed_rows old list)
+    (x y : ℤ) → holds damage x y ≡ false
+    → met_at x y canvas (placed_rows new list) ≡ met_at x y canvas (placed_rows old list)
 
 -- a canvas of the code
 abbrev pub as_seen : FramedCanvas → Canvas
@@ -37,7 +39,9 @@ abbrev pub Follows : Facts → Option Rect → Rect → Canvas → Rect → Opti
 Follows facts before rect canvas damage inner =
     (x y : ℤ) → holds damage x y ≡ false
     → ((holds (seen_in before canvas) x y ≡ false) × (holds (seen_in (Some rect) canvas) x y ≡ false))
-    ⊎ ((before ≡ Some rect) × MatchOption inner (holds (canvas_below (Some rect) facts canvas).clip x y ≡ false) (λ inner. as_seen inner ≡ canvas_below (Some rect) facts canvas))
+    ⊎
+    ((before ≡ Some rect) × MatchOption inner (holds (canvas_below (Some rect) facts canvas).clip x y ≡ false)
+    (λ inner. as_seen inner ≡ canvas_below (Some rect) facts canvas))
 
 -- the canvas in which the view of a key lies, if it is among the views of a list of a canvas and all below them
 abbrev pub canvas_around : (ℕ → Held) → Canvas → ℕ → Forest Row → Canvas

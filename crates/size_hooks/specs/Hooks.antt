@@ -1,6 +1,7 @@
 -- The armed hooks as a map from the numbers of views, and its operations.
 -- It is a list in the order of arming, on which nothing depends.
-use Rattle.std.specs.Prelude.{ℕ, ◌==◌, ◌≤◌, length, if◌then◌else◌, not, List, [], ◌∷◌, ◌++◌, Option, Some, None, filter, find, map, slice_get, All}
+use Rattle.std.specs.Prelude.{ℕ, ◌==◌, ◌≤◌, length, if◌then◌else◌, not, List, [], ◌∷◌, ◌++◌, Option, Some, None, filter}
+use Rattle.std.specs.Prelude.{find, map, slice_get, All}
 use Rattle.geom_core.specs.declared.geometry.Size.{Size}
 use Rattle.size_hooks.specs.Hook.{Hook}
 use Rattle.view_model.specs.declared.changes.NumEdit.{NumEdit}

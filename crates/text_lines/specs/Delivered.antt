@@ -7,7 +7,8 @@ use Rattle.tool_io.specs.SinkState.{SinkState}
 
 -- A text has been delivered. On `Ok` it was written whole and no call has failed. On `Err` a prefix of it was written,
 -- and then one call has failed.
-pub record Delivered {E : Type 0} (before after : SinkState) (result : Result (Unit {0}) E) (text : List ℕ) : Type 0 where
-  pub whole : OnOk result (Appends before.gone after.gone text)
-  pub prefix : OnErr result (AppendsPrefix before.gone after.gone text)
-  pub counted : after.faults ≡ faults_after before.faults (is_ok result)
+pub record Delivered {E : Type 0} (before after : SinkState) (result : Result (Unit {0}) E) (text : List ℕ) : Type 0
+  where
+    pub whole : OnOk result (Appends before.gone after.gone text)
+    pub prefix : OnErr result (AppendsPrefix before.gone after.gone text)
+    pub counted : after.faults ≡ faults_after before.faults (is_ok result)

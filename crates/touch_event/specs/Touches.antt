@@ -5,7 +5,8 @@ use Rattle.touch_event.specs.declared.event.Event.{Event}
 use Rattle.touch_event.specs.declared.event.Point.{Point}
 use Rattle.touch_event.specs.Numbers.{max_pointers}
 
--- the pointer that acts and those that are down have ids that a pointer may have, and the points are in the order of their ids
+-- the pointer that acts and those that are down have ids that a pointer may have, and the points are in the order of
+-- their ids
 pub record IsTouch (event : Event) : Type 0 where
   pub pointer : event.pointer < max_pointers
   pub ids : All (λ (p : Point). p.id < max_pointers) event.points.items

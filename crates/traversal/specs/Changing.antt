@@ -49,7 +49,8 @@ pub record IsFramed (after : Framed) (views : Views) (hooks : List Hook) (frame 
 -- gave before it. If a hook fired it is all of the window; otherwise it is within each box that has what is seen,
 -- before and after, of the views that have other bounds or another offset.
 pub record IsDamage (old new : Views) (window : Size) (frame : Frame) : Type 0 where
-  pub colors : frame.settled ≡ true → (x y : ℤ) → holds (rect_at (pos 0) (pos 0) window) x y ≡ true → holds frame.damage x y ≡ false
+  pub colors : frame.settled ≡ true → (x y : ℤ) → holds (rect_at (pos 0) (pos 0) window) x y ≡ true
+      → holds frame.damage x y ≡ false
       → pixel_color (geometry_of new) (plain_of new) x y ≡ pixel_color (geometry_of old) (plain_of old) x y
   pub whole : 0 < frame.fired → frame.damage ≡ rect_at (pos 0) (pos 0) window
   pub within : frame.fired ≡ 0 → (box : Rect) → HasShifted window box old new → LiesIn frame.damage box

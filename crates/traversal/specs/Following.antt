@@ -18,4 +18,5 @@ CoversIn canvas box old new list = IfSome canvas (λ canvas. Covered (as_seen ca
 
 -- damage that was in a box is still in it, if the box covers the list
 abbrev pub GrowsWithin : Option Canvas → Rect → Rect → (ℕ → Held) → (ℕ → Held) → Forest Row → Type 0
-GrowsWithin canvas less more old new list = (box : Rect) → LiesIn less box → CoversIn canvas box old new list → LiesIn more box
+GrowsWithin canvas less more old new list =
+    (box : Rect) → LiesIn less box → CoversIn canvas box old new list → LiesIn more box

@@ -1,5 +1,6 @@
 -- A frame of the plain tree: a pass, and a second one if a hook fired in the first.
-use Rattle.std.specs.Prelude.{ℕ, ◌+◌, Bool, true, false, ◌&&◌, not, if◌then◌else◌, List, [], ◌∷◌, Option, Some, None, find, map}
+use Rattle.std.specs.Prelude.{ℕ, ◌+◌, Bool, true, false, ◌&&◌, not, if◌then◌else◌, List, [], ◌∷◌, Option, Some, None}
+use Rattle.std.specs.Prelude.{find, map}
 use Rattle.std.specs.Option.{option_map, unwrap_or}
 use Rattle.std.specs.Ordering.{int_eq}
 use Rattle.geom_core.specs.declared.geometry.Size.{Size}
@@ -50,7 +51,12 @@ pub record Pass : Type 0 where
 abbrev pub spent : Forest PlainView → List Hook → List Laid → Option ℕ → Pass
 spent tree hooks geometry None = record { tree = tree; hooks = hooks; geometry = geometry; fired = false }
 spent tree hooks geometry (Some view) =
-    record { tree = edited_by (edits_of (hook_of hooks view)) tree; hooks = disarmed view hooks; geometry = geometry; fired = true }
+    record {
+      tree = edited_by (edits_of (hook_of hooks view)) tree;
+      hooks = disarmed view hooks;
+      geometry = geometry;
+      fired = true;
+    }
 
 -- the same if the views have these bounds, once their offsets are in range
 abbrev pub laid_so : Forest PlainView → List Hook → List Laid → Pass
@@ -62,7 +68,8 @@ after_pass tree hooks window = laid_so tree hooks (full_layout tree window)
 
 -- a hook whose view has bounds has the size of that view reported
 abbrev pub reported_by : List Laid → Hook → Hook
-reported_by geometry hook = record hook { reported = unwrap_or (option_map size_of_rect (rect_in geometry hook.view)) hook.reported }
+reported_by geometry hook =
+    record hook { reported = unwrap_or (option_map size_of_rect (rect_in geometry hook.view)) hook.reported }
 
 abbrev pub reported_in : List Laid → List Hook → List Hook
 reported_in geometry hooks = map (reported_by geometry) hooks
@@ -82,7 +89,13 @@ abbrev pub ended : ℕ → Pass → Framed
 ended before pass =
     if pass.fired
     then record { tree = pass.tree; hooks = pass.hooks; settled = false; fired = before + 1; geometry = [] }
-    else record { tree = pass.tree; hooks = reported_in pass.geometry pass.hooks; settled = true; fired = before; geometry = pass.geometry }
+    else record {
+      tree = pass.tree;
+      hooks = reported_in pass.geometry pass.hooks;
+      settled = true;
+      fired = before;
+      geometry = pass.geometry;
+    }
 
 -- a second pass follows if the first one fired a hook
 abbrev pub followed : Size → Pass → Framed

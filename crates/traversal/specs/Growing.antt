@@ -1,5 +1,6 @@
 -- How caches grow in a pass and in a frame: under which specs a view is measured there, and which views hooks edit.
-use Rattle.std.specs.Prelude.{◌≡◌, ◌⊎◌, ◌<◌, ◌++◌, ℕ, zero, suc, true, false, if◌then◌else◌, List, [], ◌∷◌, Option, Some, None}
+use Rattle.std.specs.Prelude.{◌≡◌, ◌⊎◌, ◌<◌, ◌++◌, ℕ, zero, suc, true, false, if◌then◌else◌, List, [], ◌∷◌, Option}
+use Rattle.std.specs.Prelude.{Some, None}
 use Rattle.geom_core.specs.declared.geometry.Size.{Size}
 use Rattle.kept_views.specs.Pressing.{path_of}
 use Rattle.measure_pass.specs.Caches.{AskedAt}
@@ -19,12 +20,14 @@ use Rattle.traversal.specs.Frames.{after_pass, edits_of, fired_in}
 -- the last specs of the view at this place of a list, if it takes part in layout
 abbrev pub LastAt : (ℕ → Held) → Forest Row → ℕ → Specs → Type 0
 LastAt held Nothing place specs = ⊥
-LastAt held (Branch row kids siblings) zero specs = (is_shown row.view.facts ≡ true) × (specs ≡ specs_of (held row.key).state)
+LastAt held (Branch row kids siblings) zero specs =
+    (is_shown row.view.facts ≡ true) × (specs ≡ specs_of (held row.key).state)
 LastAt held (Branch row kids siblings) (suc place) specs = LastAt held siblings place specs
 
 -- those under which a view that is measured under good ones asks for the child at this place
 abbrev pub AskedOf : PlainView → Forest PlainView → (Specs → Type 0) → ℕ → Specs → Type 0
-AskedOf view below ok place other = (specs : Specs) × ok specs × AskedAt (course_by (for_layout view) (children_of below) specs).kids place other
+AskedOf view below ok place other =
+    (specs : Specs) × ok specs × AskedAt (course_by (for_layout view) (children_of below) specs).kids place other
 
 -- the view of this number is measured under these specs, if each view of a list is under those that are good at its
 -- place
@@ -32,13 +35,16 @@ abbrev pub IsMeasuredIn : (ℕ → Specs → Type 0) → Forest PlainView → �
 IsMeasuredIn ok Nothing number specs = ⊥
 IsMeasuredIn ok (Branch view below after) number specs =
     ((view.number ≡ number) × ok 0 specs)
-    ⊎ (IsMeasuredIn (AskedOf view below (ok 0)) below number specs ⊎ IsMeasuredIn (λ place. ok (suc place)) after number specs)
+    ⊎
+    (IsMeasuredIn (AskedOf view below (ok 0)) below number specs ⊎ IsMeasuredIn (λ place. ok (suc place)) after
+    number specs)
 
 -- so it is in a pass, from the root down, in a window of this size; a root that is gone is not measured
 abbrev pub IsMeasuredByPass : Forest PlainView → Size → ℕ → Specs → Type 0
 IsMeasuredByPass Nothing window number specs = ⊥
 IsMeasuredByPass (Branch view below after) window number specs =
-    (is_shown view.facts ≡ true) × IsMeasuredIn (λ place other. other ≡ root_specs window view.facts) (Branch view below after) number specs
+    (is_shown view.facts ≡ true)
+    × IsMeasuredIn (λ place other. other ≡ root_specs window view.facts) (Branch view below after) number specs
 
 -- so it is in a pass of a frame
 abbrev pub IsMeasuredByFrame : Forest PlainView → List Hook → Size → ℕ → Specs → Type 0
@@ -69,7 +75,8 @@ IsEdited (edit ∷ edits) number = (edit.view ≡ number) ⊎ IsEdited edits num
 -- the view of this key is edited by none of these edits, and is above no view that is
 abbrev pub IsUnedited : Forest Row → List NumEdit → ℕ → Type 0
 IsUnedited tree edits key =
-    (view : ℕ) → 0 < count_of_key view tree → IsEdited edits (head_view (part_from view tree)).number → among key (path_of view tree) ≡ false
+    (view : ℕ) → 0 < count_of_key view tree → IsEdited edits (head_view (part_from view tree)).number
+    → among key (path_of view tree) ≡ false
 
 -- it is none of these views, and is above none
 abbrev pub IsOffPaths : List ℕ → Forest Row → ℕ → Type 0

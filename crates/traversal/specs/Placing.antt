@@ -4,7 +4,8 @@ use Rattle.frame_layout.specs.Room.{IsRoom}
 use Rattle.geom_core.specs.declared.geometry.Rect.{Rect}
 use Rattle.linear_layout.specs.Cursor.{PlacesLinear}
 use Rattle.view_model.specs.declared.kinds.Class.{Class}
-use Rattle.view_model.specs.declared.kinds.Class.TheVariants.{View, TextView, FrameLayout, LinearLayout, ScrollView, RelativeLayout}
+use Rattle.view_model.specs.declared.kinds.Class.TheVariants.{View, TextView, FrameLayout, LinearLayout, ScrollView}
+use Rattle.view_model.specs.declared.kinds.Class.TheVariants.{RelativeLayout}
 use Rattle.view_model.specs.Forest.{Forest}
 use Rattle.view_model.specs.FrameLayout.{frame_place}
 use Rattle.view_model.specs.Layout.{Spot, place_in}
@@ -28,12 +29,16 @@ lays_over RelativeLayout = false
 abbrev pub PlacesAs : Placer → Spot → List Measured → Type 0
 PlacesAs (Over room) spot before =
     IsRoom room spot.view.facts spot.room
-    × ((others : List Measured) (kid : Measured) (edges : Option Rect) → place_in spot others kid edges ≡ frame_place spot.view.facts spot.room kid.facts kid.size)
+    ×
+    ((others : List Measured) (kid : Measured) (edges : Option Rect)
+    → place_in spot others kid edges ≡ frame_place spot.view.facts spot.room kid.facts kid.size)
 PlacesAs Between spot before = spot.view.class ≡ RelativeLayout
-PlacesAs (InLine cursor) spot before = (spot.view.class ≡ LinearLayout) × PlacesLinear cursor spot.view.facts spot.room spot.total before
+PlacesAs (InLine cursor) spot before =
+    (spot.view.class ≡ LinearLayout) × PlacesLinear cursor spot.view.facts spot.room spot.total before
 
 -- a list of children that was laid, and where that leaves the placing
-pub record LaidKids (placer : Placer) (spot : Spot) (before : List Measured) (old new : ℕ → Held) (list : Forest Row) : Type 0 where
+pub record LaidKids (placer : Placer) (spot : Spot) (before : List Measured) (old new : ℕ → Held) (list : Forest Row) :
+    Type 0 where
   pub quiet : IsQuiet new spot before old list
   pub places : PlacesAs placer spot (before ++ last_sizes old list)
 

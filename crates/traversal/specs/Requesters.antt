@@ -15,5 +15,6 @@ with_requester (Some view) keys = view ∷ keys
 
 -- the root that is laid out: `None` if there is none, or it is gone
 abbrev pub IsRootToLay : Views → Option ℕ → Type 0
-IsRootToLay views None = (is_shown (head_view views.tree).facts ≡ true → views.tree ≡ Nothing) × (later_siblings views.tree ≡ Nothing)
+IsRootToLay views None =
+    (is_shown (head_view views.tree).facts ≡ true → views.tree ≡ Nothing) × (later_siblings views.tree ≡ Nothing)
 IsRootToLay views (Some root) = (first_key views.tree ≡ Some root) × (is_shown (head_view views.tree).facts ≡ true)

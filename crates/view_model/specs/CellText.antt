@@ -1,5 +1,6 @@
 -- A text in cells of one character each: its segments, the lines that they take, and the character of a cell.
-use Rattle.std.specs.Prelude.{ℕ, ◌+◌, ◌-◌, ◌*◌, ◌==◌, max, nat_lt, if◌then◌else◌, List, [], ◌∷◌, ◌++◌, length, map, fold, sum_by, slice_get, Option, None}
+use Rattle.std.specs.Prelude.{ℕ, ◌+◌, ◌-◌, ◌*◌, ◌==◌, max, nat_lt, if◌then◌else◌, List, [], ◌∷◌, ◌++◌, length, map}
+use Rattle.std.specs.Prelude.{fold, sum_by, slice_get, Option, None}
 use Rattle.std.specs.Int.{div_ceil}
 
 -- the code of the character that ends a segment

@@ -55,7 +55,8 @@ sizes_of (kid ∷ kids) = size_in kid ++ sizes_of kids
 -- children after a phase, following others that got these sizes in it
 abbrev pub after_phase : (List Measured → Measured → Option Specs) → List Measured → List Requested → List Requested
 after_phase ask taken [] = []
-after_phase ask taken (kid ∷ kids) = after_turn ask taken kid ∷ after_phase ask (taken ++ size_in (after_turn ask taken kid)) kids
+after_phase ask taken (kid ∷ kids) =
+    after_turn ask taken kid ∷ after_phase ask (taken ++ size_in (after_turn ask taken kid)) kids
 
 -- how far a measuring in phases has come: the sizes of the children at the end of each phase so far, and the children
 pub record MeasuringProgress : Type 0 where
@@ -63,7 +64,8 @@ pub record MeasuringProgress : Type 0 where
   pub kids : List Requested
 
 abbrev pub begun : List Child → MeasuringProgress
-begun kids = record { past = []; kids = map (λ (kid : Child). record { child = kid; requests = []; edges = None }) kids }
+begun kids =
+    record { past = []; kids = map (λ (kid : Child). record { child = kid; requests = []; edges = None }) kids }
 
 -- after one phase more
 abbrev pub one_phase : Rule → MeasuringProgress → MeasuringProgress
@@ -74,7 +76,8 @@ one_phase rule progress =
 -- after as many more phases as follow, up to this number
 abbrev pub phases_on : ℕ → Rule → MeasuringProgress → MeasuringProgress
 phases_on zero rule progress = progress
-phases_on (suc left) rule progress = if rule.turns progress.past then phases_on left rule (one_phase rule progress) else progress
+phases_on (suc left) rule progress =
+    if rule.turns progress.past then phases_on left rule (one_phase rule progress) else progress
 
 -- after all phases: no group has more than three
 abbrev pub ended : Rule → List Child → MeasuringProgress

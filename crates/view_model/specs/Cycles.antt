@@ -1,5 +1,6 @@
 -- Cycles among the children of relative layouts, and why they make a tree refused.
-use Rattle.std.specs.Prelude.{ℕ, suc, ◌-◌, Bool, true, false, if◌then◌else◌, nat_lt, List, [], ◌∷◌, length, map, slice_index, Option, Some, None}
+use Rattle.std.specs.Prelude.{ℕ, suc, ◌-◌, Bool, true, false, if◌then◌else◌, nat_lt, List, [], ◌∷◌, length, map}
+use Rattle.std.specs.Prelude.{slice_index, Option, Some, None}
 use Rattle.std.specs.Option.{option_or}
 use Rattle.view_model.specs.declared.kinds.Class.{Class}
 use Rattle.view_model.specs.declared.refusal.Member.{Member}
@@ -34,7 +35,8 @@ numbers_in list = each (λ view. view.number) list
 
 -- the children of a list that reach themselves on an axis, in list order
 abbrev pub cyclic : Axis → Forest PlainView → List ℕ
-cyclic axis kids = map (slice_index (numbers_in kids)) (members_of (leads axis (links_in kids)) (length (links_in kids)))
+cyclic axis kids =
+    map (slice_index (numbers_in kids)) (members_of (leads axis (links_in kids)) (length (links_in kids)))
 
 -- a cycle with these members is reported, by the names that these numbers have
 abbrev pub cycle_with : (ℕ → Member) → Bool → List ℕ → Option PlainRefusal
@@ -43,7 +45,8 @@ cycle_with name down (number ∷ more) = Some (record { number = cycle; reason =
 
 -- why a relative layout can't have these children: their cycles on the horizontal axis, or else those on the vertical
 abbrev pub cycle_among : (ℕ → Member) → Forest PlainView → Option PlainRefusal
-cycle_among name kids = option_or (cycle_with name false (cyclic Horizontal kids)) (cycle_with name true (cyclic Vertical kids))
+cycle_among name kids =
+    option_or (cycle_with name false (cyclic Horizontal kids)) (cycle_with name true (cyclic Vertical kids))
 
 abbrev pub cycle_below : (ℕ → Member) → Class → Forest PlainView → Option PlainRefusal
 cycle_below name class kids = if is_relative class then cycle_among name kids else None

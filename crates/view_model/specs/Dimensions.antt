@@ -1,5 +1,6 @@
 -- The meaning of the words of dimensions and of floats in a layout file.
-use Rattle.std.specs.Prelude.{ℕ, ◌+◌, ◌*◌, ◌-◌, ◌^◌, ◌/◌, ◌%◌, ◌==◌, ◌&&◌, ◌||◌, not, nat_lt, int_lt, ℤ, pos, negsuc, ◌+ℤ◌, ◌*ℤ◌, Bool, Option, Some, None, if◌then◌else◌}
+use Rattle.std.specs.Prelude.{ℕ, ◌+◌, ◌*◌, ◌-◌, ◌^◌, ◌/◌, ◌%◌, ◌==◌, ◌&&◌, ◌||◌, not, nat_lt, int_lt, ℤ, pos, negsuc}
+use Rattle.std.specs.Prelude.{◌+ℤ◌, ◌*ℤ◌, Bool, Option, Some, None, if◌then◌else◌}
 use Rattle.std.specs.Int.{int_div_euclid}
 use Rattle.std.specs.Ordering.{int_eq}
 use Rattle.view_model.specs.Numbers.{max_weight}
@@ -24,7 +25,9 @@ radix bits = if bits == 0 then 1 else (if bits == 1 then 2 ^ 7 else (if bits == 
 
 -- an integer near x, but if that is 0 and x is not, 1 or -1 by the sign of x
 unfoldable pub never_lost : ℤ → ℤ → ℤ
-never_lost near x = if not (int_eq near (pos 0)) then near else (if int_eq x (pos 0) then near else (if int_lt x (pos 0) then negsuc 0 else pos 1))
+never_lost near x =
+    if not (int_eq near (pos 0)) then near
+    else (if int_eq x (pos 0) then near else (if int_lt x (pos 0) then negsuc 0 else pos 1))
 
 -- x / d to the nearest integer, a half rounded up, and never 0 if x is not 0
 unfoldable pub nearest : ℤ → ℕ → ℤ

@@ -24,14 +24,16 @@ directed above trees = directed_by (λ (view : PlainView). view.facts.direction)
 abbrev pub IsDirected : {R : Type 0} → (R → Facts) → Bool → Forest R → Type 0
 IsDirected facts above Nothing = Unit {0}
 IsDirected facts above (Branch row below after) =
-    ((facts row).rtl ≡ dir above (facts row).direction) × IsDirected facts (facts row).rtl below × IsDirected facts above after
+    ((facts row).rtl ≡ dir above (facts row).direction) × IsDirected facts (facts row).rtl below
+    × IsDirected facts above after
 
 -- the rows that run another way than their directions say
 abbrev pub turned : {R : Type 0} → (R → Facts) → Bool → Forest R → List R
 turned facts above Nothing = []
 turned facts above (Branch row below after) =
     let rtl = dir above (facts row).direction in
-    (if (if rtl then (facts row).rtl else not (facts row).rtl) then [] else row ∷ []) ++ (turned facts rtl below ++ turned facts above after)
+    (if (if rtl then (facts row).rtl else not (facts row).rtl) then [] else row ∷ [])
+    ++ (turned facts rtl below ++ turned facts above after)
 
 -- whether what comes below a view, or as all there is, has a parent that runs from right to left
 abbrev pub rtl_of : Option PlainView → Bool

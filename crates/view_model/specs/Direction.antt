@@ -3,8 +3,8 @@ use Rattle.std.specs.Prelude.{Bool, true, false, if◌then◌else◌}
 use Rattle.view_model.specs.declared.placing.Direction.{Direction}
 use Rattle.view_model.specs.declared.placing.Direction.TheVariants.{Inherit, Ltr, Rtl}
 
--- whether a view of this direction runs from right to left, below a parent that does so or not; of a root that counts as
--- not
+-- whether a view of this direction runs from right to left, below a parent that does so or not; of a root that counts
+-- as not
 abbrev pub dir : Bool → Direction → Bool
 dir parent Inherit = parent
 dir parent Ltr = false

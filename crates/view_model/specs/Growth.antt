@@ -24,7 +24,8 @@ growth_refusal_of (Some view) occupied depth count = growth_refusal view.class o
 -- why the tree takes no child of this parent; a root is taken
 abbrev pub refusal_at : Forest PlainView → Option ℕ → Option PlainRefusal
 refusal_at tree None = None
-refusal_at tree (Some parent) = growth_refusal_of (view_in tree parent) (has_child parent tree) (depth_of parent tree) (count_of tree)
+refusal_at tree (Some parent) =
+    growth_refusal_of (view_in tree parent) (has_child parent tree) (depth_of parent tree) (count_of tree)
 
 -- the tree with a view after the children of its parent, or as its root
 abbrev pub grown_at : Option ℕ → Forest PlainView → Forest PlainView → Forest PlainView

@@ -1,6 +1,7 @@
 -- A linear layout: its children form a line, from left to right or from top to bottom, and share by weight what is left
 -- of its length. An axis is vertical or not: `vertical` is that of the line, and `not vertical` the one across it.
-use Rattle.std.specs.Prelude.{ℤ, pos, ℕ, ◌+◌, ◌==◌, ◌+ℤ◌, ◌-ℤ◌, ◌*ℤ◌, int_div, int_lt, Bool, false, ◌&&◌, ◌||◌, not, if◌then◌else◌, nat_lt, List, [], ◌∷◌, fold, sum_by, Option, Some, None}
+use Rattle.std.specs.Prelude.{ℤ, pos, ℕ, ◌+◌, ◌==◌, ◌+ℤ◌, ◌-ℤ◌, ◌*ℤ◌, int_div, int_lt, Bool, false, ◌&&◌, ◌||◌, not}
+use Rattle.std.specs.Prelude.{if◌then◌else◌, nat_lt, List, [], ◌∷◌, fold, sum_by, Option, Some, None}
 use Rattle.std.specs.Int.{int_max}
 use Rattle.std.specs.List.{list_all, list_any}
 use Rattle.std.specs.Ordering.{int_eq}
@@ -15,7 +16,8 @@ use Rattle.view_model.specs.declared.facts.Facts.{Facts}
 use Rattle.view_model.specs.declared.placing.Alignment.{Alignment}
 use Rattle.view_model.specs.declared.placing.Alignment.TheVariants.{Low, Middle, High}
 use Rattle.view_model.specs.declared.placing.Gravity.{Gravity}
-use Rattle.view_model.specs.Facts.{is_match, margin_left, margin_right, margins_across, margins_down, padding_across, padding_down, padding_left, padding_right}
+use Rattle.view_model.specs.Facts.{is_match, margin_left, margin_right, margins_across, margins_down, padding_across}
+use Rattle.view_model.specs.Facts.{padding_down, padding_left, padding_right}
 use Rattle.view_model.specs.FrameLayout.{is_exactly}
 use Rattle.view_model.specs.Geometry.{rect_at}
 use Rattle.view_model.specs.Measuring.{Specs, Measured, Rule}
@@ -54,14 +56,16 @@ unfoldable pub high_padding : Bool → Facts → ℤ
 high_padding vertical facts = if vertical then facts.padding.bottom else padding_right facts
 
 unfoldable pub alignment_on : Bool → Bool → Gravity → Alignment
-alignment_on vertical rtl gravity = if vertical then alignment_down gravity.down else alignment_across rtl gravity.across
+alignment_on vertical rtl gravity =
+    if vertical then alignment_down gravity.down else alignment_across rtl gravity.across
 
 -- the two sides, the two specs and the rectangle of what is known along and beside a line
 abbrev pub size_by : Bool → ℤ → ℤ → Size
 size_by vertical along beside = if vertical then record { w = beside; h = along } else record { w = along; h = beside }
 
 abbrev pub specs_by : Bool → Spec → Spec → Specs
-specs_by vertical along beside = if vertical then record { across = beside; down = along } else record { across = along; down = beside }
+specs_by vertical along beside =
+    if vertical then record { across = beside; down = along } else record { across = along; down = beside }
 
 abbrev pub rect_by : Bool → ℤ → ℤ → Size → Rect
 rect_by vertical along beside size = if vertical then rect_at beside along size else rect_at along beside size
@@ -87,7 +91,9 @@ unfoldable pub claim : Bool → ℤ → ℤ → ℤ → ℤ
 claim exact dim size margins = if not exact && is_match dim then margins else size +ℤ margins
 
 abbrev pub claim_of : Bool → Bool → Measured → ℤ
-claim_of vertical exact kid = claim exact (dim_on (not vertical) kid.facts) (size_on (not vertical) kid.size) (margins_on (not vertical) kid.facts)
+claim_of vertical exact kid =
+    claim exact (dim_on (not vertical) kid.facts) (size_on (not vertical) kid.size)
+    (margins_on (not vertical) kid.facts)
 
 unfoldable pub where_even : ℕ → ℤ → ℤ
 where_even weight n = if weight == 0 then n else pos 0
@@ -111,10 +117,12 @@ abbrev pub broadest_from : ℤ → Bool → List Measured → ℤ
 broadest_from least vertical kids = greatest_from least (breadth_of vertical) kids
 
 abbrev pub even_claim : Bool → Bool → List Measured → ℤ
-even_claim vertical exact kids = greatest_from (pos 0) (λ kid. where_even kid.facts.weight (claim_of vertical exact kid)) kids
+even_claim vertical exact kids =
+    greatest_from (pos 0) (λ kid. where_even kid.facts.weight (claim_of vertical exact kid)) kids
 
 abbrev pub weighted_claim : Bool → Bool → List Measured → ℤ
-weighted_claim vertical exact kids = greatest_from (pos 0) (λ kid. where_weighted kid.facts.weight (claim_of vertical exact kid)) kids
+weighted_claim vertical exact kids =
+    greatest_from (pos 0) (λ kid. where_weighted kid.facts.weight (claim_of vertical exact kid)) kids
 
 abbrev pub claim_from : ℤ → Bool → Bool → List Measured → ℤ
 claim_from least vertical exact kids = greatest_from least (claim_of vertical exact) kids
@@ -161,7 +169,8 @@ abbrev pub full_length : Facts → List Measured → ℤ
 full_length own kids = length_of own.vertical kids +ℤ padding_on own.vertical own
 
 abbrev pub own_length : Facts → Specs → List Measured → ℤ
-own_length own specs first = resolve_of (greater (full_length own first) (min_on own.vertical own)) (spec_on own.vertical specs)
+own_length own specs first =
+    resolve_of (greater (full_length own first) (min_on own.vertical own)) (spec_on own.vertical specs)
 
 abbrev pub spare_of : Facts → Specs → List Measured → ℤ
 spare_of own specs first = own_length own specs first -ℤ full_length own first
@@ -170,7 +179,8 @@ spare_of own specs first = own_length own specs first -ℤ full_length own first
 -- something to share
 abbrev pub has_weight_pass : Facts → Specs → List Measured → Bool
 has_weight_pass own specs first =
-    list_any (λ (kid : Measured). skips own specs kid.facts) first || (not (int_eq (spare_of own specs first) (pos 0)) && nat_lt 0 (weight_of first))
+    list_any (λ (kid : Measured). skips own specs kid.facts) first
+    || (not (int_eq (spare_of own specs first) (pos 0)) && nat_lt 0 (weight_of first))
 
 -- what the weights are counted against: a sum of its own, or the sum of all
 unfoldable pub whole_weight : ℕ → ℕ → ℤ
@@ -186,7 +196,8 @@ pub record Rest : Type 0 where
   pub spare : ℤ
 
 unfoldable pub after_share : Rest → ℕ → Rest
-after_share rest weight = record { weight = rest.weight -ℤ pos weight; spare = rest.spare -ℤ share rest.weight rest.spare weight }
+after_share rest weight =
+    record { weight = rest.weight -ℤ pos weight; spare = rest.spare -ℤ share rest.weight rest.spare weight }
 
 abbrev pub rest_of : Facts → Specs → List Measured → List Measured → Rest
 rest_of own specs first taken =
@@ -203,12 +214,14 @@ first_length skipped size = if skipped then pos 0 else size
 abbrev pub shared_length : Facts → Specs → List Measured → List Measured → Measured → ℤ
 shared_length own specs first taken kid =
     let rest = rest_of own specs first taken in
-    first_length (skips own specs kid.facts) (size_on own.vertical kid.size) +ℤ share rest.weight rest.spare kid.facts.weight
+    first_length (skips own specs kid.facts) (size_on own.vertical kid.size)
+    +ℤ share rest.weight rest.spare kid.facts.weight
 
 abbrev pub weight_pass : Facts → Specs → List Measured → List Measured → Measured → Option Specs
 weight_pass own specs first taken kid =
     if kid.facts.weight == 0 then None
-    else Some (specs_by own.vertical (exactly (shared_length own specs first taken kid)) (spec_beside own specs kid.facts))
+    else Some
+    (specs_by own.vertical (exactly (shared_length own specs first taken kid)) (spec_beside own specs kid.facts))
 
 -- what the children need across the line: the greatest breadth if the group's was given or all children want to be as
 -- broad as the group, otherwise the greatest claim
@@ -216,7 +229,8 @@ unfoldable pub needed_breadth : Bool → ℤ → ℤ → ℤ
 needed_breadth by_breadth broadest claim = if by_breadth then broadest else claim
 
 abbrev pub goes_by_breadth : Facts → Specs → List Measured → Bool
-goes_by_breadth own specs first = is_exact_beside own specs || list_all (λ (kid : Measured). is_match (dim_on (not own.vertical) kid.facts)) first
+goes_by_breadth own specs first =
+    is_exact_beside own specs || list_all (λ (kid : Measured). is_match (dim_on (not own.vertical) kid.facts)) first
 
 -- the same after the first pass and after the weight pass
 abbrev pub breadth_once : Facts → Specs → List Measured → ℤ
@@ -228,7 +242,8 @@ breadth_once own specs first =
 abbrev pub breadth_twice : Facts → Specs → List Measured → List Measured → ℤ
 breadth_twice own specs first second =
     let exact = is_exact_beside own specs in
-    needed_breadth (goes_by_breadth own specs first) (broadest_from (broadest_from (pos 0) own.vertical first) own.vertical second)
+    needed_breadth (goes_by_breadth own specs first)
+    (broadest_from (broadest_from (pos 0) own.vertical first) own.vertical second)
     (claim_from (even_claim own.vertical exact first) own.vertical exact second)
 
 -- the breadth of a group whose children need this
@@ -244,7 +259,8 @@ abbrev pub own_breadth : Facts → Specs → List (List Measured) → ℤ
 own_breadth own specs [] = pos 0
 own_breadth own specs (first ∷ []) = breadth_for own specs (breadth_once own specs first)
 own_breadth own specs (first ∷ second ∷ more) =
-    breadth_for own specs (if has_weight_pass own specs first then breadth_twice own specs first second else breadth_once own specs first)
+    breadth_for own specs
+    (if has_weight_pass own specs first then breadth_twice own specs first second else breadth_once own specs first)
 
 -- the uniform pass: children that want to be as broad as the group are. It runs if the group's breadth was not given
 abbrev pub uniform_pass : Facts → ℤ → Measured → Option Specs
@@ -261,7 +277,8 @@ linear_ask own specs [] taken kid = first_pass own specs taken kid
 linear_ask own specs (first ∷ []) taken kid =
     if has_weight_pass own specs first then weight_pass own specs first taken kid
     else uniform_pass own (own_breadth own specs (first ∷ [])) kid
-linear_ask own specs (first ∷ second ∷ more) taken kid = uniform_pass own (own_breadth own specs (first ∷ second ∷ [])) kid
+linear_ask own specs (first ∷ second ∷ more) taken kid =
+    uniform_pass own (own_breadth own specs (first ∷ second ∷ [])) kid
 
 abbrev pub linear_turns : Facts → Specs → List (List Measured) → Bool
 linear_turns own specs [] = false
@@ -271,13 +288,15 @@ linear_turns own specs (first ∷ second ∷ third ∷ more) = false
 
 abbrev pub linear_size : Facts → Specs → List (List Measured) → Size
 linear_size own specs [] = record { w = pos 0; h = pos 0 }
-linear_size own specs (first ∷ more) = size_by own.vertical (own_length own specs first) (own_breadth own specs (first ∷ more))
+linear_size own specs (first ∷ more) =
+    size_by own.vertical (own_length own specs first) (own_breadth own specs (first ∷ more))
 
 -- what children and padding take of the line after the last pass that gave them their lengths
 abbrev pub linear_total : Facts → Specs → List (List Measured) → ℤ
 linear_total own specs [] = pos 0
 linear_total own specs (first ∷ []) = full_length own first
-linear_total own specs (first ∷ second ∷ more) = if has_weight_pass own specs first then full_length own second else full_length own first
+linear_total own specs (first ∷ second ∷ more) =
+    if has_weight_pass own specs first then full_length own second else full_length own first
 
 abbrev pub linear_rule : Facts → Specs → Rule
 linear_rule own specs = record {
@@ -299,22 +318,26 @@ line_begin High padding room total = padding +ℤ (room -ℤ total)
 
 -- what children that were placed have taken of it
 abbrev pub passed : Bool → List Measured → ℤ
-passed vertical before = fold (λ sum kid. sum +ℤ size_on vertical kid.size +ℤ margins_on vertical kid.facts) (pos 0) before
+passed vertical before =
+    fold (λ sum kid. sum +ℤ size_on vertical kid.size +ℤ margins_on vertical kid.facts) (pos 0) before
 
 -- the low edges of a child along the line and across it
 abbrev pub edge_along : Facts → Size → ℤ → List Measured → Facts → ℤ
 edge_along own room total before kid =
     let along = own.vertical in
-    line_begin (alignment_on along own.rtl (started own.gravity)) (low_padding along own) (size_on along room) total +ℤ passed along before +ℤ low_margin along kid
+    line_begin (alignment_on along own.rtl (started own.gravity)) (low_padding along own) (size_on along room) total
+    +ℤ passed along before +ℤ low_margin along kid
 
 abbrev pub edge_beside : Facts → Size → Measured → ℤ
 edge_beside own room kid =
     let beside = not own.vertical in
-    low_edge (alignment_on beside own.rtl (gravity_for own.gravity kid.facts.layout_gravity)) (size_on beside room) (low_padding beside own) (high_padding beside own)
+    low_edge (alignment_on beside own.rtl (gravity_for own.gravity kid.facts.layout_gravity)) (size_on beside room)
+    (low_padding beside own) (high_padding beside own)
     (size_on beside kid.size) (low_margin beside kid.facts) (high_margin beside kid.facts)
 
 -- the rectangle of a child, after those that were placed before it, in a group of the size `room` whose children take
 -- `total` pixels of its length
 abbrev pub linear_place : Facts → Size → ℤ → List Measured → Measured → Rect
 linear_place own room total before kid =
-    rect_by own.vertical (clamp_coordinate (edge_along own room total before kid.facts)) (clamp_coordinate (edge_beside own room kid)) kid.size
+    rect_by own.vertical (clamp_coordinate (edge_along own room total before kid.facts))
+    (clamp_coordinate (edge_beside own room kid)) kid.size

@@ -1,5 +1,5 @@
--- The numbers of definitions: the limits of a tree, of what may be set of a view, of hooks, resources and layout files, the
--- cells of texts, and the refusals. The code names each of them once; `NumberLaws` says that its numbers are these.
+-- The numbers of definitions: the limits of a tree, of what may be set of a view, of hooks, resources and layout files,
+-- the cells of texts, and the refusals. The code names each of them once; `NumberLaws` says that its numbers are these.
 use Rattle.std.specs.Prelude.{ℕ, ◌*◌, ◌^◌, ℤ, pos, negsuc}
 
 -- the most views of a tree

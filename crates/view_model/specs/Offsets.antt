@@ -4,7 +4,8 @@ use Rattle.std.specs.Option.{option_map}
 use Rattle.geom_core.specs.declared.geometry.Rect.{Rect}
 use Rattle.view_model.specs.declared.facts.Facts.{Facts}
 use Rattle.view_model.specs.declared.kinds.Class.{Class}
-use Rattle.view_model.specs.declared.kinds.Class.TheVariants.{View, TextView, FrameLayout, LinearLayout, ScrollView, RelativeLayout}
+use Rattle.view_model.specs.declared.kinds.Class.TheVariants.{View, TextView, FrameLayout, LinearLayout, ScrollView}
+use Rattle.view_model.specs.declared.kinds.Class.TheVariants.{RelativeLayout}
 use Rattle.view_model.specs.Forest.{Forest, Nothing, Branch}
 use Rattle.view_model.specs.Geometry.{Laid, rect_in, size_of_rect}
 use Rattle.view_model.specs.PlainTree.{PlainView}
@@ -18,7 +19,8 @@ range_by TextView own rect child = None
 range_by FrameLayout own rect child = None
 range_by LinearLayout own rect child = None
 range_by RelativeLayout own rect child = None
-range_by ScrollView own rect child = option_map (λ (rect : Rect). scroll_range own (size_of_rect rect) (option_map size_of_rect child)) rect
+range_by ScrollView own rect child =
+    option_map (λ (rect : Rect). scroll_range own (size_of_rect rect) (option_map size_of_rect child)) rect
 
 -- an offset brought into a range, if there is one
 abbrev pub brought : Option ℤ → ℤ → ℤ
@@ -39,4 +41,5 @@ ranged_view geometry view below =
 -- the trees of a list if their views have these bounds, each scroll view that has bounds with its offset in range
 abbrev pub ranged : List Laid → Forest PlainView → Forest PlainView
 ranged geometry Nothing = Nothing
-ranged geometry (Branch view below after) = Branch (ranged_view geometry view below) (ranged geometry below) (ranged geometry after)
+ranged geometry (Branch view below after) =
+    Branch (ranged_view geometry view below) (ranged geometry below) (ranged geometry after)

@@ -14,7 +14,8 @@ IsAcyclic leads = (place : ℕ) → Reaches leads place place → ⊥
 -- some places, each once, and each after all places to which it leads
 pub record IsAnchorsFirst (leads : ℕ → ℕ → Bool) (order : List ℕ) : Type 0 where
   pub once : (p q : ℕ) → p < length order → q < length order → slice_index order p ≡ slice_index order q → p ≡ q
-  pub first : (p anchor : ℕ) → p < length order → leads (slice_index order p) anchor ≡ true → (q : ℕ) × (q < p) × (slice_index order q ≡ anchor)
+  pub first : (p anchor : ℕ) → p < length order → leads (slice_index order p) anchor ≡ true
+      → (q : ℕ) × (q < p) × (slice_index order q ≡ anchor)
 
 -- all of `count` places, each once, and each after all places to which it leads
 pub record IsOrder (leads : ℕ → ℕ → Bool) (count : ℕ) (order : List ℕ) : Type 0 where
@@ -28,7 +29,8 @@ pub record AreMembers (leads : ℕ → ℕ → Bool) (count : ℕ) (members : Li
   pub below : (p : ℕ) → p < length members → slice_index members p < count
   pub rising : (p q : ℕ) → p < q → q < length members → slice_index members p < slice_index members q
   pub sound : (p : ℕ) → p < length members → Reaches leads (slice_index members p) (slice_index members p)
-  pub whole : (place : ℕ) → place < count → Reaches leads place place → (p : ℕ) × (p < length members) × (slice_index members p ≡ place)
+  pub whole : (place : ℕ) → place < count → Reaches leads place place
+      → (p : ℕ) × (p < length members) × (slice_index members p ≡ place)
 
 -- there are cycles, and these are their members
 pub record IsCycle (leads : ℕ → ℕ → Bool) (count : ℕ) (members : List ℕ) : Type 0 where
@@ -38,7 +40,8 @@ pub record IsCycle (leads : ℕ → ℕ → Bool) (count : ℕ) (members : List 
 -- the same in a form that can be computed: a leads to b, directly or only through others below a number
 abbrev pub leads_by : (ℕ → ℕ → Bool) → ℕ → ℕ → ℕ → Bool
 leads_by leads zero a b = leads a b
-leads_by leads (suc other) a b = leads_by leads other a b || (leads_by leads other a other && leads_by leads other other b)
+leads_by leads (suc other) a b =
+    leads_by leads other a b || (leads_by leads other a other && leads_by leads other other b)
 
 abbrev pub members_of : (ℕ → ℕ → Bool) → ℕ → List ℕ
 members_of leads count = filter (λ place. leads_by leads count place place) (range_with_len 0 count)

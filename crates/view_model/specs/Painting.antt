@@ -1,5 +1,6 @@
 -- The colour of each point of a picture. Points are whole numbers, x growing to the right and y downwards.
-use Rattle.std.specs.Prelude.{ℕ, ◌*◌, ◌/◌, ◌%◌, ℤ, pos, negsuc, ◌-ℤ◌, ◌+ℤ◌, Bool, true, false, ◌&&◌, ◌||◌, not, if◌then◌else◌, List, map, Option, Some, None}
+use Rattle.std.specs.Prelude.{ℕ, ◌*◌, ◌/◌, ◌%◌, ℤ, pos, negsuc, ◌-ℤ◌, ◌+ℤ◌, Bool, true, false, ◌&&◌, ◌||◌, not}
+use Rattle.std.specs.Prelude.{if◌then◌else◌, List, map, Option, Some, None}
 use Rattle.std.specs.List.{range_with_len}
 use Rattle.geom_core.specs.Color.{blend_of}
 use Rattle.geom_core.specs.Numbers.{unpainted}
@@ -27,7 +28,8 @@ pub record PlacedView : Type 0 where
 
 -- the views of a tree with the rectangles that a geometry gives them
 abbrev pub placed_by : List Laid → Forest PlainView → Forest PlacedView
-placed_by geometry tree = map_rows (λ (view : PlainView). record { view = view; bounds = rect_in geometry view.number }) tree
+placed_by geometry tree =
+    map_rows (λ (view : PlainView). record { view = view; bounds = rect_in geometry view.number }) tree
 
 -- what becomes of the colour at a point
 abbrev pub Painter : Type 0
@@ -46,7 +48,8 @@ cell_pixel (Some c) column row = has_bit (glyph_of c column) row
 
 -- whether a point is a set pixel of a text in lines of n cells, whose corner is the origin
 abbrev pub text_pixel : ℕ → List ℕ → ℤ → ℤ → Bool
-text_pixel n text (pos x) (pos y) = cell_pixel (cell_of n text (y / cell_height) (x / cell_width)) (x % cell_width) (y % cell_height)
+text_pixel n text (pos x) (pos y) =
+    cell_pixel (cell_of n text (y / cell_height) (x / cell_width)) (x % cell_width) (y % cell_height)
 text_pixel n text (pos x) (negsuc y) = false
 text_pixel n text (negsuc x) y = false
 

@@ -1,6 +1,7 @@
 -- The course of a relative layout's measuring, over the list of its children: what each is asked, its sides, and the
 -- size of the whole.
-use Rattle.std.specs.Prelude.{ℕ, zero, suc, ℤ, pos, Bool, if◌then◌else◌, List, [], ◌∷◌, filter, length, map, Option, Some, None, slice_index_or, unwrap_or}
+use Rattle.std.specs.Prelude.{ℕ, zero, suc, ℤ, pos, Bool, if◌then◌else◌, List, [], ◌∷◌, filter, length, map, Option}
+use Rattle.std.specs.Prelude.{Some, None, slice_index_or, unwrap_or}
 use Rattle.std.specs.Option.{option_map}
 use Rattle.geom_core.specs.declared.geometry.Rect.{Rect}
 use Rattle.geom_core.specs.declared.geometry.Size.{Size}
@@ -17,7 +18,8 @@ use Rattle.view_model.specs.Course.{Child, Requested, Course}
 use Rattle.view_model.specs.Facts.{is_shown, new_facts}
 use Rattle.view_model.specs.Geometry.{rect_at}
 use Rattle.view_model.specs.Measuring.{Specs}
-use Rattle.view_model.specs.RelativeLayout.{Spanned, across_specs, down_specs, far_margin, final_rect, near_margin, relative_size, span_on}
+use Rattle.view_model.specs.RelativeLayout.{Spanned, across_specs, down_specs, far_margin, final_rect, near_margin}
+use Rattle.view_model.specs.RelativeLayout.{relative_size, span_on}
 use Rattle.view_model.specs.SiblingRules.{anchor_of}
 
 -- a place beyond the list has a child that is gone
@@ -68,12 +70,14 @@ unknown place = (pos 0, pos 0)
 
 -- the specs of a child in the first phase, and its sides from left to right, by those of its anchors
 abbrev pub asked_across : Facts → Specs → List Child → (ℕ → ℤ × ℤ) → ℕ → Specs
-asked_across own specs kids spans place = across_specs own specs (child_at kids place).facts (anchors_by own.rtl Horizontal kids spans place)
+asked_across own specs kids spans place =
+    across_specs own specs (child_at kids place).facts (anchors_by own.rtl Horizontal kids spans place)
 
 abbrev pub span_across : Facts → Specs → List Child → (ℕ → ℤ × ℤ) → ℕ → ℤ × ℤ
 span_across own specs kids spans place =
     let kid = child_at kids place in
-    span_on Horizontal own specs kid.facts (anchors_by own.rtl Horizontal kids spans place) (kid.measure (asked_across own specs kids spans place))
+    span_on Horizontal own specs kid.facts (anchors_by own.rtl Horizontal kids spans place)
+    (kid.measure (asked_across own specs kids spans place))
 
 abbrev pub spans_across : Facts → Specs → List Child → ℕ → ℤ × ℤ
 spans_across own specs kids = following (span_across own specs kids) unknown (length kids)
@@ -86,7 +90,8 @@ asked_down own specs kids across down place =
 abbrev pub span_down : Facts → Specs → List Child → (across down : ℕ → ℤ × ℤ) → ℕ → ℤ × ℤ
 span_down own specs kids across down place =
     let kid = child_at kids place in
-    span_on Vertical own specs kid.facts (anchors_by own.rtl Vertical kids down place) (kid.measure (asked_down own specs kids across down place))
+    span_on Vertical own specs kid.facts (anchors_by own.rtl Vertical kids down place)
+    (kid.measure (asked_down own specs kids across down place))
 
 abbrev pub spans_down : Facts → Specs → List Child → (ℕ → ℤ × ℤ) → ℕ → ℤ × ℤ
 spans_down own specs kids across = following (span_down own specs kids across) unknown (length kids)
@@ -130,12 +135,17 @@ abbrev pub edges_at : Facts → Specs → List Child → Arrangement → ℕ →
 edges_at own specs kids found place =
     let kid = child_at kids place in
     let size = kid.measure (asked_down own specs kids found.across found.down place) in
-    final_rect own specs found.size kid.facts (record { across = Some (found.across place); down = Some (found.down place) }) size
+    final_rect own specs found.size kid.facts
+    (record { across = Some (found.across place); down = Some (found.down place) }) size
 
 abbrev pub requested_at : Facts → Specs → List Child → Arrangement → ℕ → Child → Requested
 requested_at own specs kids found place kid =
     if is_shown kid.facts
-    then record { child = kid; requests = requests_at own specs kids found place; edges = Some (edges_at own specs kids found place) }
+    then record {
+      child = kid;
+      requests = requests_at own specs kids found place;
+      edges = Some (edges_at own specs kids found place);
+    }
     else record { child = kid; requests = []; edges = None }
 
 -- the course of the measuring

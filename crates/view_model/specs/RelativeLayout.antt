@@ -1,6 +1,7 @@
 -- A relative layout: its children are tied to its sides and to one another. It measures each child twice, on the
 -- horizontal axis and then on the vertical one, and a child always after its anchors. Lengths are in pixels.
-use Rattle.std.specs.Prelude.{ℕ, ℤ, pos, ◌+ℤ◌, ◌-ℤ◌, int_div, int_lt, Bool, false, ◌&&◌, ◌||◌, not, ◌==◌, if◌then◌else◌, List, [], ◌∷◌, fold, Option, Some, None, unwrap_or}
+use Rattle.std.specs.Prelude.{ℕ, ℤ, pos, ◌+ℤ◌, ◌-ℤ◌, int_div, int_lt, Bool, false, ◌&&◌, ◌||◌, not, ◌==◌, if◌then◌else◌}
+use Rattle.std.specs.Prelude.{List, [], ◌∷◌, fold, Option, Some, None, unwrap_or}
 use Rattle.std.specs.Int.{int_max, int_min}
 use Rattle.std.specs.Option.{option_map}
 use Rattle.geom_core.specs.Limits.{clamp_coordinate, clamp_size}
@@ -32,8 +33,10 @@ abbrev pub is_set : Rules → ℕ → Bool
 is_set rules verb = not (value_of rules verb == 0)
 
 abbrev pub band_on : Axis → Facts → Specs → Band
-band_on Horizontal own specs = record { spec = specs.across; padding_near = padding_left own; padding_far = padding_right own; min = own.min.w }
-band_on Vertical own specs = record { spec = specs.down; padding_near = own.padding.top; padding_far = own.padding.bottom; min = own.min.h }
+band_on Horizontal own specs =
+    record { spec = specs.across; padding_near = padding_left own; padding_far = padding_right own; min = own.min.w }
+band_on Vertical own specs =
+    record { spec = specs.down; padding_near = own.padding.top; padding_far = own.padding.bottom; min = own.min.h }
 
 -- the margins of a child on an axis
 abbrev pub near_margin : Axis → Facts → ℤ
@@ -44,15 +47,19 @@ abbrev pub far_margin : Axis → Facts → ℤ
 far_margin Horizontal kid = margin_right kid
 far_margin Vertical kid = kid.margins.bottom
 
--- a child in a group that runs from right to left or not. Where it does, one without a rule for the axis rests at the far
--- side; down there is no such thing
+-- a child in a group that runs from right to left or not. Where it does, one without a rule for the axis rests at the
+-- far side; down there is no such thing
 abbrev pub tied_on : Bool → Axis → Facts → Tied
 tied_on rtl Horizontal kid = record {
   dim = kid.width;
   margin_near = margin_left kid;
   margin_far = margin_right kid;
-  at_near = is_set kid.rules verb.parent_left || not (left_of_two rtl (value_of kid.rules verb.parent_start) (value_of kid.rules verb.parent_end) == 0);
-  at_far = is_set kid.rules verb.parent_right || not (right_of_two rtl (value_of kid.rules verb.parent_start) (value_of kid.rules verb.parent_end) == 0);
+  at_near =
+      is_set kid.rules verb.parent_left
+      || not (left_of_two rtl (value_of kid.rules verb.parent_start) (value_of kid.rules verb.parent_end) == 0);
+  at_far =
+      is_set kid.rules verb.parent_right
+      || not (right_of_two rtl (value_of kid.rules verb.parent_start) (value_of kid.rules verb.parent_end) == 0);
   centered = is_set kid.rules verb.center || is_set kid.rules verb.center_h;
   rests_far = rtl && is_free kid.rules;
 }
@@ -200,7 +207,8 @@ rest_near band kid room length = room -ℤ (far_inset band kid +ℤ length)
 abbrev pub centered_in : ℤ → ℤ → ℤ
 centered_in room length = int_div (room -ℤ length) (pos 2)
 
--- if no side is set: in the middle of a group whose size is given, at its far side if it rests there, or at its near side
+-- if no side is set: in the middle of a group whose size is given, at its far side if it rests there, or at its near
+-- side
 unfoldable pub free_near : Band → Tied → ℤ → ℤ
 free_near band kid length =
     if is_exactly band.spec.mode
@@ -280,7 +288,8 @@ down_specs own specs kid span anchors =
 
 -- the sides of a child, measured with this size, on an axis
 abbrev pub span_on : Axis → Facts → Specs → Facts → Anchors → Size → ℤ × ℤ
-span_on axis own specs kid anchors size = settled_span (band_on axis own specs) (tied_on own.rtl axis kid) anchors (length_on axis size)
+span_on axis own specs kid anchors size =
+    settled_span (band_on axis own specs) (tied_on own.rtl axis kid) anchors (length_on axis size)
 
 -- the axis of a phase, by the phases before
 abbrev pub phase_axis : List (List Spanned) → Axis
@@ -308,15 +317,18 @@ sides_of edges = sides_by edges.across edges.down
 
 -- its final sides
 abbrev pub final_span : Axis → Facts → Specs → ℤ → Facts → ℤ × ℤ → Size → ℤ × ℤ
-final_span axis own specs size kid span kid_size = moved_span (band_on axis own specs) (tied_on own.rtl axis kid) size span (length_on axis kid_size)
+final_span axis own specs size kid span kid_size =
+    moved_span (band_on axis own specs) (tied_on own.rtl axis kid) size span (length_on axis kid_size)
 
 -- the size of the group, whose children were taken with these sides from left to right and from top to bottom
 abbrev pub relative_size : Facts → Specs → List Spanned → List Spanned → Size
-relative_size own specs across down = record { w = own_length Horizontal own specs across; h = own_length Vertical own specs down }
+relative_size own specs across down =
+    record { w = own_length Horizontal own specs across; h = own_length Vertical own specs down }
 
 -- a rectangle between two pairs of sides: a far side before the near one counts as the near one
 abbrev pub rect_between : ℤ × ℤ → ℤ × ℤ → Rect
-rect_between across down = record { left = across.0; top = down.0; right = int_max across.0 across.1; bottom = int_max down.0 down.1 }
+rect_between across down =
+    record { left = across.0; top = down.0; right = int_max across.0 across.1; bottom = int_max down.0 down.1 }
 
 -- the final rectangle of a child of this size that has these sides after the second phase
 abbrev pub final_rect : Facts → Specs → Size → Facts → Edges → Size → Rect

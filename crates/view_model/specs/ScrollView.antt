@@ -1,5 +1,6 @@
 -- A scroll view: a frame layout that lets its child be as high as the child wants to be, and moves it up by an offset.
-use Rattle.std.specs.Prelude.{ℤ, pos, ◌+ℤ◌, ◌-ℤ◌, int_lt, Bool, true, false, ◌&&◌, not, if◌then◌else◌, List, [], ◌∷◌, Option, Some, None}
+use Rattle.std.specs.Prelude.{ℤ, pos, ◌+ℤ◌, ◌-ℤ◌, int_lt, Bool, true, false, ◌&&◌, not, if◌then◌else◌, List, [], ◌∷◌}
+use Rattle.std.specs.Prelude.{Option, Some, None}
 use Rattle.std.specs.Int.{int_min, int_max}
 use Rattle.geom_core.specs.Limits.{clamp_size}
 use Rattle.geom_core.specs.Spec.{remaining_of}
@@ -23,8 +24,8 @@ free_specs own specs kid = record {
 unfoldable pub is_short : Facts → ℤ → Measured → Bool
 is_short own height kid = int_lt kid.size.h (height -ℤ (padding_down own +ℤ margins_down kid.facts))
 
--- the specs of a child that is to fill a group of this height: those of its first measuring across, and all of the height
--- that is left for it
+-- the specs of a child that is to fill a group of this height: those of its first measuring across, and all of the
+-- height that is left for it
 abbrev pub filling_specs : Facts → Specs → ℤ → Facts → Specs
 filling_specs own specs height kid = record {
   across = (first_specs own specs kid).across;

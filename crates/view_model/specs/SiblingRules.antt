@@ -1,5 +1,6 @@
 -- Which children of a relative layout are tied to which: the rules that name a sibling, by axis.
-use Rattle.std.specs.Prelude.{ℕ, zero, suc, ◌==◌, Bool, ◌&&◌, not, if◌then◌else◌, List, [], ◌∷◌, length, Option, Some, None, slice_index, slice_index_or}
+use Rattle.std.specs.Prelude.{ℕ, zero, suc, ◌==◌, Bool, ◌&&◌, not, if◌then◌else◌, List, [], ◌∷◌, length, Option, Some}
+use Rattle.std.specs.Prelude.{None, slice_index, slice_index_or}
 use Rattle.std.specs.List.{list_all, list_any}
 use Rattle.view_model.specs.declared.facts.Rules.{Rules}
 use Rattle.view_model.specs.declared.relative.Axis.{Axis}
@@ -12,12 +13,16 @@ use Rattle.view_model.specs.Verbs as verb
 
 -- the verbs of an axis that name a sibling
 abbrev pub sibling_verbs : Axis → List ℕ
-sibling_verbs Horizontal = verb.left_of ∷ verb.right_of ∷ verb.align_left ∷ verb.align_right ∷ verb.start_of ∷ verb.end_of ∷ verb.align_start ∷ verb.align_end ∷ []
+sibling_verbs Horizontal =
+    verb.left_of ∷ verb.right_of ∷ verb.align_left ∷ verb.align_right ∷ verb.start_of ∷ verb.end_of ∷ verb.align_start
+    ∷ verb.align_end ∷ []
 sibling_verbs Vertical = verb.above ∷ verb.below ∷ verb.align_top ∷ verb.align_bottom ∷ []
 
 -- the verbs that speak of left and right
 abbrev pub across_verbs : List ℕ
-across_verbs = verb.left_of ∷ verb.right_of ∷ verb.align_left ∷ verb.align_right ∷ verb.start_of ∷ verb.end_of ∷ verb.align_start ∷ verb.align_end
+across_verbs =
+    verb.left_of ∷ verb.right_of ∷ verb.align_left ∷ verb.align_right ∷ verb.start_of ∷ verb.end_of ∷ verb.align_start
+    ∷ verb.align_end
     ∷ verb.parent_left ∷ verb.parent_right ∷ verb.parent_start ∷ verb.parent_end ∷ verb.center ∷ verb.center_h ∷ []
 
 abbrev pub value_of : Rules → ℕ → ℕ
@@ -33,7 +38,8 @@ no_link = record { id = 0; rules = record { values = [] } }
 
 -- the rule relation of an axis: a child leads to each other child whose id it names, gone or not
 unfoldable pub leads : Axis → List Link → ℕ → ℕ → Bool
-leads axis kids a b = not (a == b) && names axis (slice_index_or kids a no_link).rules (slice_index_or kids b no_link).id
+leads axis kids a b =
+    not (a == b) && names axis (slice_index_or kids a no_link).rules (slice_index_or kids b no_link).id
 
 -- a start or end form, if set, replaces the left or right form
 abbrev pub form_of : ℕ → ℕ → ℕ
@@ -41,10 +47,17 @@ form_of start left = if start == 0 then left else start
 
 -- the id of the sibling to which rules tie a child, or 0, in a group that runs from right to left or not
 abbrev pub anchor_id : Bool → Axis → Tie → Rules → ℕ
-anchor_id rtl Horizontal Before rules = form_of (left_of_two rtl (value_of rules verb.start_of) (value_of rules verb.end_of)) (value_of rules verb.left_of)
-anchor_id rtl Horizontal After rules = form_of (right_of_two rtl (value_of rules verb.start_of) (value_of rules verb.end_of)) (value_of rules verb.right_of)
-anchor_id rtl Horizontal AlignNear rules = form_of (left_of_two rtl (value_of rules verb.align_start) (value_of rules verb.align_end)) (value_of rules verb.align_left)
-anchor_id rtl Horizontal AlignFar rules = form_of (right_of_two rtl (value_of rules verb.align_start) (value_of rules verb.align_end)) (value_of rules verb.align_right)
+anchor_id rtl Horizontal Before rules =
+    form_of (left_of_two rtl (value_of rules verb.start_of) (value_of rules verb.end_of)) (value_of rules verb.left_of)
+anchor_id rtl Horizontal After rules =
+    form_of (right_of_two rtl (value_of rules verb.start_of) (value_of rules verb.end_of))
+    (value_of rules verb.right_of)
+anchor_id rtl Horizontal AlignNear rules =
+    form_of (left_of_two rtl (value_of rules verb.align_start) (value_of rules verb.align_end))
+    (value_of rules verb.align_left)
+anchor_id rtl Horizontal AlignFar rules =
+    form_of (right_of_two rtl (value_of rules verb.align_start) (value_of rules verb.align_end))
+    (value_of rules verb.align_right)
 anchor_id rtl Vertical Before rules = value_of rules verb.above
 anchor_id rtl Vertical After rules = value_of rules verb.below
 anchor_id rtl Vertical AlignNear rules = value_of rules verb.align_top
@@ -61,7 +74,8 @@ last_below passes (suc place) = if passes place then Some place else last_below 
 
 -- the last of all children with this id
 abbrev pub last_with_id : List Link → ℕ → Option ℕ
-last_with_id kids id = if id == 0 then None else last_below (λ place. (slice_index_or kids place no_link).id == id) (length kids)
+last_with_id kids id =
+    if id == 0 then None else last_below (λ place. (slice_index_or kids place no_link).id == id) (length kids)
 
 abbrev pub other_than : ℕ → Option ℕ → Option ℕ
 other_than place None = None
@@ -69,7 +83,8 @@ other_than place (Some other) = if other == place then None else Some other
 
 -- the sibling that a child's own rule names; if that is the child itself, the rule has no effect
 abbrev pub named_sibling : Bool → Axis → Tie → List Link → ℕ → Option ℕ
-named_sibling rtl axis tie kids place = other_than place (last_with_id kids (anchor_id rtl axis tie (slice_index_or kids place no_link).rules))
+named_sibling rtl axis tie kids place =
+    other_than place (last_with_id kids (anchor_id rtl axis tie (slice_index_or kids place no_link).rules))
 
 -- a sibling that takes part in layout, or what is used instead of one that is gone
 abbrev pub shown_or : (ℕ → Bool) → (ℕ → Option ℕ) → Option ℕ → Option ℕ

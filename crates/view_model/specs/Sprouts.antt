@@ -1,5 +1,6 @@
 -- Views that are to come into a tree: as trees, and as a list in preorder with depths.
-use Rattle.std.specs.Prelude.{◌≡◌, ℕ, suc, ◌+◌, ◌==◌, ◌&&◌, Bool, true, false, nat_lt, nat_le, List, [], ◌∷◌, ◌++◌, if◌then◌else◌}
+use Rattle.std.specs.Prelude.{◌≡◌, ℕ, suc, ◌+◌, ◌==◌, ◌&&◌, Bool, true, false, nat_lt, nat_le, List, [], ◌∷◌, ◌++◌}
+use Rattle.std.specs.Prelude.{if◌then◌else◌}
 use Rattle.view_model.specs.declared.facts.Facts.{Facts}
 use Rattle.view_model.specs.declared.kinds.Class.{Class}
 use Rattle.view_model.specs.declared.sprout.Sprout.{Sprout}
@@ -21,7 +22,8 @@ sprout_of depth seed = record { class = seed.class; facts = seed.facts; text = s
 -- the views after one of this depth are deeper than the outermost, and each at most one deeper than the one before
 abbrev pub follows : ℕ → List Sprout → Bool
 follows before [] = true
-follows before (sprout ∷ more) = nat_lt 1 sprout.depth && (nat_le sprout.depth (before + 1) && follows sprout.depth more)
+follows before (sprout ∷ more) =
+    nat_lt 1 sprout.depth && (nat_le sprout.depth (before + 1) && follows sprout.depth more)
 
 -- there is a first one, which has the depth 1, and the others follow
 abbrev pub is_preorder : List Sprout → Bool
@@ -54,7 +56,8 @@ pub record Stem : Type 0 where
 -- the first stems, as long as they are deeper than this, as trees
 abbrev pub deeper : ℕ → List Stem → Forest Seed
 deeper depth [] = Nothing
-deeper depth (stem ∷ more) = if nat_lt depth stem.depth then Branch stem.seed stem.below (deeper depth more) else Nothing
+deeper depth (stem ∷ more) =
+    if nat_lt depth stem.depth then Branch stem.seed stem.below (deeper depth more) else Nothing
 
 -- the stems after those
 abbrev pub beyond : ℕ → List Stem → List Stem
@@ -65,7 +68,8 @@ beyond depth (stem ∷ more) = if nat_lt depth stem.depth then beyond depth more
 abbrev pub stems : List Sprout → List Stem
 stems [] = []
 stems (sprout ∷ more) =
-    record { depth = sprout.depth; seed = seed_of sprout; below = deeper sprout.depth (stems more) } ∷ beyond sprout.depth (stems more)
+    record { depth = sprout.depth; seed = seed_of sprout; below = deeper sprout.depth (stems more) }
+    ∷ beyond sprout.depth (stems more)
 
 -- the trees of a list in preorder whose outermost views have the depth 1
 abbrev pub seeds_of : List Sprout → Forest Seed

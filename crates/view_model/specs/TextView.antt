@@ -26,7 +26,8 @@ text_width own text spec = resolve_of (int_max own.min.w (pos (cell_width * wide
 
 unfoldable pub text_height : Facts → List ℕ → Spec → ℤ → ℤ
 text_height own text spec width =
-    resolve_of (int_max own.min.h (pos (cell_height * count_of_lines (cells_across own width) text) +ℤ padding_down own)) spec
+    resolve_of
+    (int_max own.min.h (pos (cell_height * count_of_lines (cells_across own width) text) +ℤ padding_down own)) spec
 
 abbrev pub text_size : Facts → List ℕ → Specs → Size
 text_size own text specs =

@@ -1,5 +1,5 @@
--- The verbs of the rules of a relative layout's children, by the places that a child's rules have for them. The first twelve
--- name a sibling, the others do not; `NumberLaws` says that the places of the code are these.
+-- The verbs of the rules of a relative layout's children, by the places that a child's rules have for them. The first
+-- twelve name a sibling, the others do not; `NumberLaws` says that the places of the code are these.
 use Rattle.std.specs.Prelude.{ℕ}
 
 abbrev pub left_of : ℕ

@@ -15,7 +15,8 @@ no_rect = record { left = pos 0; top = pos 0; right = pos 0; bottom = pos 0 }
 
 -- a rectangle of coordinates whose origin is this point of the window
 abbrev pub moved_rect : Rect → ℤ → ℤ → Rect
-moved_rect rect left top = record { left = rect.left +ℤ left; top = rect.top +ℤ top; right = rect.right +ℤ left; bottom = rect.bottom +ℤ top }
+moved_rect rect left top =
+    record { left = rect.left +ℤ left; top = rect.top +ℤ top; right = rect.right +ℤ left; bottom = rect.bottom +ℤ top }
 
 -- the part of a window in which the views of a list are seen, and the origin of their coordinates
 pub record Canvas : Type 0 where
@@ -47,13 +48,17 @@ visible_in Nothing canvas number = None
 visible_in (Branch it below after) canvas number =
     if it.view.number == number
     then Some (seen_in it.bounds canvas)
-    else option_or (visible_in below (canvas_below it.bounds it.view.facts canvas) number) (visible_in after canvas number)
+    else option_or (visible_in below (canvas_below it.bounds it.view.facts canvas) number)
+    (visible_in after canvas number)
 
 abbrev pub whole_window : Size → Canvas
-whole_window window = record { left = pos 0; top = pos 0; clip = record { left = pos 0; top = pos 0; right = window.w; bottom = window.h } }
+whole_window window =
+    record
+    { left = pos 0; top = pos 0; clip = record { left = pos 0; top = pos 0; right = window.w; bottom = window.h } }
 
 -- the rectangle of a window in which a view is seen: its bounds, intersected with the window and with the parts that
 -- its ancestors show of their children. It is empty if the view or an ancestor has no bounds. Views that are not drawn
 -- count as seen
 abbrev pub visible_rect : Forest PlainView → List Laid → Size → ℕ → Rect
-visible_rect tree geometry window number = unwrap_or (visible_in (placed_by geometry tree) (whole_window window) number) no_rect
+visible_rect tree geometry window number =
+    unwrap_or (visible_in (placed_by geometry tree) (whole_window window) number) no_rect

@@ -1,5 +1,6 @@
 -- The order of the windows of a stack.
-use Rattle.std.specs.Prelude.{ℕ, ◌==◌, ◌+ℤ◌, ◌≤◌, Bool, true, false, ◌≡◌, ◌&&◌, not, if◌then◌else◌, ℤ, int_le, int_lt, List, [], ◌∷◌, ◌++◌, Option, Some, None, IfSome, filter, find, map, slice_index_or}
+use Rattle.std.specs.Prelude.{ℕ, ◌==◌, ◌+ℤ◌, ◌≤◌, Bool, true, false, ◌≡◌, ◌&&◌, not, if◌then◌else◌, ℤ, int_le, int_lt}
+use Rattle.std.specs.Prelude.{List, [], ◌∷◌, ◌++◌, Option, Some, None, IfSome, filter, find, map, slice_index_or}
 use Rattle.std.specs.Option.{is_some, option_map}
 use Rattle.geom_core.specs.declared.geometry.Size.{Size}
 use Rattle.window_stack.specs.Numbers.{max_pane}

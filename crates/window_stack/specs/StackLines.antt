@@ -69,7 +69,8 @@ close_of words = do
 -- whether a command that begins with this word is one of touch
 unfoldable pub is_touch_word : List ℕ → Bool
 is_touch_word head =
-    bytes_eq head (codes "down") || bytes_eq head (codes "move") || bytes_eq head (codes "up") || bytes_eq head (codes "cancel")
+    bytes_eq head (codes "down") || bytes_eq head (codes "move") || bytes_eq head (codes "up")
+    || bytes_eq head (codes "cancel")
 
 -- the command of a line that a window carries out, which is not one of touch
 unfoldable pub given_of : List ℕ → Result PlainCommand LineFault
@@ -143,7 +144,8 @@ stack_line_by head rest =
 
 -- what a line asks for; bytes that are not valid UTF-8 ask for nothing
 unfoldable pub stack_line_of : List ℕ → Result PlainLine LineFault
-stack_line_of line = if is_utf8 line then (word_in (words line) >>= λ head. stack_line_by head.0 (after_word line)) else Err Syntax
+stack_line_of line =
+    if is_utf8 line then (word_in (words line) >>= λ head. stack_line_by head.0 (after_word line)) else Err Syntax
 
 -- how many bytes the text of a line has
 abbrev pub text_length_in : PlainLine → ℕ
