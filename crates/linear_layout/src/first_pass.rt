@@ -6,10 +6,10 @@ ghost use Rattle.geom_core.specs.Spec.{child_spec_of};
 ghost use Rattle.view_model.specs.declared.facts.Facts.{Facts as FactsValue};
 ghost use Rattle.view_model.specs.declared.limits.TheConstants.{MAX_VIEWS};
 ghost use Rattle.view_model.specs.Facts.{layout_facts};
-ghost use Rattle.view_model.specs.LinearLayout.{first_along, first_dim, first_pass, full_length, has_weight_pass, margins_on, own_length, spare_of, used_before, whole_weight};
+ghost use Rattle.view_model.specs.LinearLayout.{first_along, first_dim, first_pass, full_length, has_weight_pass, margins_on, own_length, spare_of, spec_beside, specs_by, used_before, whole_weight};
 ghost use Rattle.view_model.specs.Measuring.{Measured, Specs, pair_of};
 
-use crate::axis::{dim_on, margins_by, pair_by};
+use crate::axis::{dim_on, margins_by, pair_by, spec_on};
 use crate::line::{Line, even_claim, weighted_claim};
 use crate::running::{Greatest, Total, Weights, greater};
 use geom_core::{Size, Spec, WRAP, child_spec, resolve};
@@ -83,17 +83,35 @@ impl FirstPass {
         if line.skips(kid) {
             return None;
         }
-        let margins = margins_by(line.vertical(), kid);
-        Some(pair_by(
-            line.vertical(),
-            self.spec_along(line, kid, margins.along),
-            line.kid_spec_beside(kid, margins.beside),
-        ))
+        if line.vertical() {
+            return Some(self.specs_on(true, line, kid));
+        }
+        Some(self.specs_on(false, line, kid))
     }
 
-    /// The spec of a child with these margins along the line.
+    /// The specs of a child that is not left out, in a line on this axis, which is a constant where it is called: each axis
+    /// has code of its own.
     #[inline(always)]
-    fn spec_along(&self, line: &Line, kid: &Facts, margins: i64) -> Spec
+    fn specs_on(&self, vertical: bool, line: &Line, kid: &Facts) -> (Spec, Spec)
+        requires { vertical ≡ line.now.vertical }
+        ensures { (kids : List Measured)
+            → IsFirstPass self.now (own_in line.now) (specs_in line.now) kids
+            → result ≡ pair_of (specs_by line.now.vertical
+            (first_along (own_in line.now) (specs_in line.now) kids (layout_facts kid.now))
+            (spec_beside (own_in line.now) (specs_in line.now) (layout_facts kid.now))) }
+    {
+        let margins = margins_by(vertical, kid);
+        pair_by(
+            vertical,
+            self.spec_along(vertical, line, kid, margins.along),
+            line.kid_spec_beside(vertical, kid, margins.beside),
+        )
+    }
+
+    /// The spec of a child with these margins along a line on this axis.
+    #[inline(always)]
+    fn spec_along(&self, vertical: bool, line: &Line, kid: &Facts, margins: i64) -> Spec
+        requires axis { vertical ≡ line.now.vertical }
         requires margins { margins ≡ margins_on line.now.vertical (layout_facts kid.now) }
         requires low { negsuc 4294967295 ≤ℤ margins }
         requires high { margins ≤ℤ pos 4294967294 }
@@ -101,13 +119,12 @@ impl FirstPass {
             → IsFirstPass self.now (own_in line.now) (specs_in line.now) kids
             → result ≡ first_along (own_in line.now) (specs_in line.now) kids (layout_facts kid.now) }
     {
-        let along = line.vertical();
         spec_after(
-            line.spec_along(),
-            line.padding_on(along),
+            spec_on(vertical, line.ws, line.hs),
+            line.padding_on(vertical),
             margins,
             self.used_before(kid),
-            first_dim(dim_on(along, kid), kid.weight),
+            first_dim(dim_on(vertical, kid), kid.weight),
         )
     }
 

@@ -120,17 +120,18 @@ impl Line {
         dim_on(!self.vertical(), kid) == MATCH
     }
 
-    /// The spec of a child with these margins across the line.
+    /// The spec of a child with these margins across a line on this axis.
     #[inline(always)]
-    pub fn kid_spec_beside(&self, kid: &Facts, margins: i64) -> Spec
+    pub fn kid_spec_beside(&self, vertical: bool, kid: &Facts, margins: i64) -> Spec
+        requires axis { vertical ≡ self.now.vertical }
         requires margins { margins ≡ margins_on (not self.now.vertical) (layout_facts kid.now) }
         requires low { negsuc 4294967295 ≤ℤ margins }
         requires high { margins ≤ℤ pos 4294967294 }
         ensures { result ≡ spec_beside (own_in self.now) (specs_in self.now) (layout_facts kid.now) }
     {
-        let beside = !self.vertical();
+        let beside = !vertical;
         child_spec_within(
-            self.spec_beside(),
+            spec_on(beside, self.ws, self.hs),
             self.padding_on(beside),
             margins,
             dim_on(beside, kid),
@@ -145,27 +146,42 @@ impl Line {
         ensures claim { result.claim ≡ claim_of self.now.vertical
             (is_exact_beside (own_in self.now) (specs_in self.now)) (kid_with kid.now size) }
     {
-        let along = self.vertical();
-        let margins = margins_by(along, kid);
-        let beside = size_on(!along, size);
+        if self.vertical() {
+            return self.taken_on(true, kid, size);
+        }
+        self.taken_on(false, kid, size)
+    }
+
+    /// The same of a line on this axis, which is a constant where it is called: each axis has code of its own.
+    #[inline(always)]
+    fn taken_on(&self, vertical: bool, kid: &Facts, size: Size) -> Taken
+        requires { vertical ≡ self.now.vertical }
+        ensures extent { result.extent ≡ extent_of self.now.vertical (kid_with kid.now size) }
+        ensures breadth { result.breadth ≡ breadth_of self.now.vertical (kid_with kid.now size) }
+        ensures claim { result.claim ≡ claim_of self.now.vertical
+            (is_exact_beside (own_in self.now) (specs_in self.now)) (kid_with kid.now size) }
+    {
+        let margins = margins_by(vertical, kid);
+        let beside = size_on(!vertical, size);
         Taken {
-            extent: extent(size_on(along, size), margins.along),
+            extent: extent(size_on(vertical, size), margins.along),
             breadth: breadth(beside, margins.beside),
-            claim: self.claim(kid, beside, margins.beside),
+            claim: self.claim(vertical, kid, beside, margins.beside),
         }
     }
 
     /// What a child of this breadth with these margins takes of the breadth of a group that is as broad as its children are.
     #[tactic(auto, unfolding(view_model::specs::LinearLayout::claim))]
     #[inline(always)]
-    fn claim(&self, kid: &Facts, size: i32, margins: i64) -> i64
+    fn claim(&self, vertical: bool, kid: &Facts, size: i32, margins: i64) -> i64
+        requires axis { vertical ≡ self.now.vertical }
         requires low { negsuc 4294967295 ≤ℤ margins }
         requires high { margins ≤ℤ pos 4294967294 }
         ensures value { result ≡ claim (is_exact_beside (own_in self.now) (specs_in self.now))
             (dim_on (not self.now.vertical) (layout_facts kid.now)) size margins }
         ensures high { result ≤ℤ pos (2 ^ 33) }
     {
-        if !self.is_exact_beside() && self.matches(kid) {
+        if !is_exact(spec_on(!vertical, self.ws, self.hs)) && dim_on(!vertical, kid) == MATCH {
             return margins;
         }
         breadth(size, margins)

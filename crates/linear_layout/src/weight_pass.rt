@@ -77,7 +77,7 @@ impl WeightPass {
         Some(pair_by(
             line.vertical(),
             self.spec_along(line, kid, size),
-            line.kid_spec_beside(kid, margins_on(!line.vertical(), kid)),
+            line.kid_spec_beside(line.vertical(), kid, margins_on(!line.vertical(), kid)),
         ))
     }
 
