@@ -14,7 +14,7 @@ use Rattle.std.specs.Prelude.{◌==◌, replicate, slice_get, ℤ, pos, negsuc, 
 use Rattle.std.specs.Result.{MatchResult}
 use Rattle.saved_state.specs.Restoring.{IsEntry, entry_at, meets, suits, value_for}
 use Rattle.saved_state.specs.State.{IsState, IsValue, IsValueOf, RisesFrom, StateEntry}
-use Rattle.saved_state.specs.declared.format.TheConstants.{VERSION}
+use Rattle.saved_state.specs.Numbers.{last_version}
 use Rattle.saved_state.specs.declared.value.Value.{Value}
 use Rattle.saved_state.specs.declared.value.Value.TheVariants.{Offset, Text}
 use Rattle.view_model.specs.PlainTree.{PlainView}
@@ -53,8 +53,8 @@ value_absent [] id apart = refl
 value_absent (entry ∷ entries) id apart = rw (ne_eqb entry.0 id (apart 0 (omega arith))) (value_absent entries id (λ j there. apart (suc j) (omega arith)))
 
 -- no entry has the id 0
-pub zero_absent : (entries : List StateEntry) (id : ℕ) → IsState VERSION entries → id ≡ 0 → value_for entries id ≡ None
-zero_absent entries id state none = value_absent entries id (λ j there is. let above = ids_above VERSION 0 entries j state.rises there in absurd (omega arith))
+pub zero_absent : (entries : List StateEntry) (id : ℕ) → IsState last_version entries → id ≡ 0 → value_for entries id ≡ None
+zero_absent entries id state none = value_absent entries id (λ j there is. let above = ids_above last_version 0 entries j state.rises there in absurd (omega arith))
 
 value_present : (entries : List StateEntry) (id place : ℕ) → place < length entries → (entry_at entries place).0 ≡ id → ((j : ℕ) → j < place → (entry_at entries j).0 ≢ id)
     → value_for entries id ≡ Some (entry_at entries place).1

@@ -1,8 +1,8 @@
 mod EntryLaws
 mod Examples
 mod FoundLaws
-mod LimitExamples
 pub mod NoEntryLaws
+mod NumberLaws
 mod OffsetLaws
 pub mod RestoredLaws
 mod ReadingLaws

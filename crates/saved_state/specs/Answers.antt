@@ -1,18 +1,18 @@
 -- What calls return, by what is defined. Memory may run out where something is read.
 use Rattle.std.specs.Prelude.{◌≡◌, ℕ, Bool, true, false, Result, Ok, Err}
+use Rattle.view_model.specs.Numbers.{bad_state, state_class}
 use Rattle.view_model.specs.Refusals.{AtPlace, plain_refusal, refusal_numbered}
-use Rattle.view_model.specs.declared.refusals.TheConstants.{BAD_STATE, STATE_CLASS}
 use Rattle.view_model.specs.declared.fault.Fault.{Fault}
 use Rattle.view_model.specs.declared.fault.Fault.TheVariants as fault
 
 -- a fault says that what is at this place is wrong
 abbrev pub is_bad_at : ℕ → Fault → Type 0
-is_bad_at place (fault.Refused refusal) = plain_refusal refusal ≡ record { number = BAD_STATE; reason = AtPlace place }
+is_bad_at place (fault.Refused refusal) = plain_refusal refusal ≡ record { number = bad_state; reason = AtPlace place }
 is_bad_at place fault.NoMemory = ⊥
 
 -- a fault says that a view of another class has the id of an entry
 abbrev pub is_other_class : Fault → Type 0
-is_other_class (fault.Refused refusal) = plain_refusal refusal ≡ refusal_numbered STATE_CLASS
+is_other_class (fault.Refused refusal) = plain_refusal refusal ≡ refusal_numbered state_class
 is_other_class fault.NoMemory = ⊥
 
 -- a fault reports the first wrong place of what is read, or there was no memory

@@ -1,4 +1,5 @@
 pub mod Answers
+pub mod Numbers
 pub mod Restored
 pub mod Restoring
 pub mod Saving

@@ -9,13 +9,13 @@ use Rattle.view_model.specs.PlainTree.{PlainView}
 use Rattle.view_model.specs.declared.kinds.Class.{Class}
 use Rattle.view_model.specs.declared.kinds.Class.TheVariants.{View, TextView, FrameLayout, LinearLayout, ScrollView, RelativeLayout}
 use Rattle.saved_state.specs.State.{StateEntry}
-use Rattle.saved_state.specs.declared.format.TheConstants.{MAX_OFFSET, MAX_TEXT_BYTES}
+use Rattle.saved_state.specs.Numbers.{max_offset, max_text_bytes}
 use Rattle.saved_state.specs.declared.value.Value.{Value}
 use Rattle.saved_state.specs.declared.value.Value.TheVariants.{Offset, Text}
 
 -- what is saved of a text, unless it is too long
 abbrev pub text_value : List ℕ → Option Value
-text_value text = if nat_lt MAX_TEXT_BYTES (length (encode_utf8_all text)) then None else Some (Text text)
+text_value text = if nat_lt max_text_bytes (length (encode_utf8_all text)) then None else Some (Text text)
 
 -- what is saved of a view of this class that has an id
 abbrev pub value_by : Class → PlainView → Option Value
@@ -44,7 +44,7 @@ saved_of tree = fold with_view [] (rows tree)
 
 -- a scroll view has an offset that may be saved
 abbrev pub FitsOffset : PlainView → Type 0
-FitsOffset view = scrolls view.class ≡ true → (pos 0 ≤ℤ view.facts.offset) × (view.facts.offset ≤ℤ pos MAX_OFFSET)
+FitsOffset view = scrolls view.class ≡ true → (pos 0 ≤ℤ view.facts.offset) × (view.facts.offset ≤ℤ pos max_offset)
 
 -- each scroll view of a tree has such an offset
 abbrev pub OffsetsFit : Forest PlainView → Type 0

@@ -4,7 +4,7 @@ use Rattle.std.specs.Str.{is_utf8}
 use lib.Utf8.{scalars}
 use Rattle.std.specs.List.{flat_map}
 use Rattle.byteorder.specs.Endian.{little_bytes, little_number}
-use Rattle.saved_state.specs.declared.format.TheConstants.{FIRST_VERSION, HEAD_BYTES, MAX_ENTRIES, MAX_OFFSET, MAX_TEXT_BYTES, OFFSET_ENTRY_BYTES, OFFSET_KIND, TEXT_ENTRY_BYTES, TEXT_KIND, VERSION}
+use Rattle.saved_state.specs.Numbers.{first_version, head_bytes, last_version, max_entries, max_offset, max_text_bytes, offset_entry_bytes, offset_kind, text_entry_bytes, text_kind}
 use Rattle.saved_state.specs.declared.value.Value.{Value}
 use Rattle.saved_state.specs.declared.value.Value.TheVariants.{Offset, Text}
 
@@ -14,13 +14,13 @@ StateEntry = ℕ × Value
 
 -- an offset is no greater than it may be, and a text, which is one of characters, no longer
 abbrev pub IsValue : Value → Type 0
-IsValue (Offset offset) = offset ≤ MAX_OFFSET
-IsValue (Text text) = (scalars text ≡ true) × (length (encode_utf8_all text) ≤ MAX_TEXT_BYTES)
+IsValue (Offset offset) = offset ≤ max_offset
+IsValue (Text text) = (scalars text ≡ true) × (length (encode_utf8_all text) ≤ max_text_bytes)
 
 -- the first version has no texts
 abbrev pub IsValueOf : ℕ → Value → Type 0
 IsValueOf version (Offset offset) = IsValue (Offset offset)
-IsValueOf version (Text text) = (version ≢ FIRST_VERSION) × IsValue (Text text)
+IsValueOf version (Text text) = (version ≢ first_version) × IsValue (Text text)
 
 -- the ids of entries rise from above this one, and their values are those of a version
 abbrev pub RisesFrom : ℕ → ℕ → List StateEntry → Type 0
@@ -29,14 +29,14 @@ RisesFrom version before (entry ∷ entries) = (before < entry.0) × (entry.0 < 
 
 -- what a state of a version may be: entries by rising ids, of which none is 0
 pub record IsState (version : ℕ) (entries : List StateEntry) : Type 0 where
-  pub known : (version ≡ FIRST_VERSION) ⊎ (version ≡ VERSION)
+  pub known : (version ≡ first_version) ⊎ (version ≡ last_version)
   pub rises : RisesFrom version 0 entries
-  pub few : length entries ≤ MAX_ENTRIES
+  pub few : length entries ≤ max_entries
 
 -- the kind of a value, and the value: a text with its length before it, as UTF-8
 abbrev pub value_bytes : Value → List ℕ
-value_bytes (Offset offset) = OFFSET_KIND ∷ little_bytes 4 offset
-value_bytes (Text text) = TEXT_KIND ∷ (little_bytes 2 (length (encode_utf8_all text)) ++ encode_utf8_all text)
+value_bytes (Offset offset) = offset_kind ∷ little_bytes 4 offset
+value_bytes (Text text) = text_kind ∷ (little_bytes 2 (length (encode_utf8_all text)) ++ encode_utf8_all text)
 
 abbrev pub entry_bytes : StateEntry → List ℕ
 entry_bytes entry = little_bytes 4 entry.0 ++ value_bytes entry.1
@@ -47,7 +47,7 @@ encoded_as version entries = 86 ∷ 83 ∷ version ∷ (little_bytes 2 (length e
 
 -- the bytes that are written of a state
 abbrev pub encoded : List StateEntry → List ℕ
-encoded entries = encoded_as VERSION entries
+encoded entries = encoded_as last_version entries
 
 -- how many bytes a value takes after its kind
 abbrev pub value_size : Value → ℕ
@@ -56,8 +56,8 @@ value_size (Text text) = 2 + length (encode_utf8_all text)
 
 -- how many bytes its entry takes
 abbrev pub entry_size : Value → ℕ
-entry_size (Offset offset) = OFFSET_ENTRY_BYTES
-entry_size (Text text) = TEXT_ENTRY_BYTES + length (encode_utf8_all text)
+entry_size (Offset offset) = offset_entry_bytes
+entry_size (Text text) = text_entry_bytes + length (encode_utf8_all text)
 
 -- the next step gets what was read; the first wrong place stays
 infixl 10 ◌>>=◌
@@ -69,8 +69,8 @@ abbrev pub ◌>>=◌ : {A B : Type 0} → Result A ℕ → (A → Result B ℕ) 
 unfoldable pub head_of : List ℕ → Result (ℕ × ℕ) ℕ
 head_of bytes =
     if nat_lt (length bytes) 2 || not (slice_index bytes 0 == 86) || not (slice_index bytes 1 == 83) then Err 0
-    else (if nat_lt (length bytes) 3 || not (slice_index bytes 2 == FIRST_VERSION || slice_index bytes 2 == VERSION) then Err 2
-    else (if nat_lt (length bytes) HEAD_BYTES then Err 3
+    else (if nat_lt (length bytes) 3 || not (slice_index bytes 2 == first_version || slice_index bytes 2 == last_version) then Err 2
+    else (if nat_lt (length bytes) head_bytes then Err 3
     else Ok (slice_index bytes 2, little_number 2 (drop 3 bytes))))
 
 -- the id with which these bytes begin, at this place; it is above that of the entry before
@@ -82,7 +82,7 @@ id_of before place rest =
 
 -- whether entries of a version may have this kind
 abbrev pub has_kind : ℕ → ℕ → Bool
-has_kind version kind = kind == OFFSET_KIND || (not (version == FIRST_VERSION) && kind == TEXT_KIND)
+has_kind version kind = kind == offset_kind || (not (version == first_version) && kind == text_kind)
 
 -- the kind with which they begin
 unfoldable pub kind_of : ℕ → ℕ → List ℕ → Result ℕ ℕ
@@ -92,7 +92,7 @@ kind_of version place rest = if nat_lt (length rest) 1 || not (has_kind version 
 unfoldable pub offset_of : ℕ → List ℕ → Result ℕ ℕ
 offset_of place rest =
     if nat_lt (length rest) 4 then Err place
-    else (if nat_lt MAX_OFFSET (little_number 4 rest) then Err place
+    else (if nat_lt max_offset (little_number 4 rest) then Err place
     else Ok (little_number 4 rest))
 
 -- the text of the first n bytes
@@ -106,7 +106,7 @@ text_of place rest = if nat_lt (length rest) 2 then Err place else words_of (lit
 -- the value of a kind
 abbrev pub value_of : ℕ → ℕ → List ℕ → Result Value ℕ
 value_of kind place rest =
-    if kind == OFFSET_KIND then (offset_of place rest >>= λ (offset : ℕ). Ok (Offset offset))
+    if kind == offset_kind then (offset_of place rest >>= λ (offset : ℕ). Ok (Offset offset))
     else (text_of place rest >>= λ (text : List ℕ). Ok (Text text))
 
 -- the entry of a version with which these bytes begin, at this place; its id is above that of the entry before
@@ -125,4 +125,4 @@ entries_of version (suc n) before place rest =
 
 -- the state of bytes, or the place of the first field that is cut short or wrong, or that follows the state
 unfoldable pub decoded : List ℕ → Result (List StateEntry) ℕ
-decoded bytes = head_of bytes >>= λ (head : ℕ × ℕ). entries_of head.0 head.1 0 HEAD_BYTES (drop HEAD_BYTES bytes)
+decoded bytes = head_of bytes >>= λ (head : ℕ × ℕ). entries_of head.0 head.1 0 head_bytes (drop head_bytes bytes)

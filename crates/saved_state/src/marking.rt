@@ -1,7 +1,7 @@
 //! Whether a state fits a tree: its entries are marked for which there is a view that suits them.
 ghost use Rattle.std.specs.Prelude.{◌≡◌, ◌≤◌, ◌<◌, ◌||◌, ℕ, false, length, slice_index_or};
 ghost use Rattle.saved_state.specs.Restoring.{AreMarks, entry_at, is_for_other_class, is_unmet, meets};
-ghost use Rattle.saved_state.specs.declared.format.TheConstants.{MAX_ENTRIES};
+ghost use Rattle.saved_state.specs.Numbers.{max_entries};
 ghost use Rattle.view_model.specs.Forest.{rows};
 ghost use Rattle.view_tree.specs.Views.{IsLive, plain_of, view_at};
 
@@ -42,7 +42,7 @@ fn few_are_for_other_class(tree: &ViewTree, states: &States) -> bool
 /// The same of any state. Its marks are many, and clearing them takes time.
 #[inline(never)]
 fn many_are_for_other_class(tree: &ViewTree, states: &States) -> bool
-    requires { length states.now ≤ MAX_ENTRIES }
+    requires { length states.now ≤ max_entries }
     ensures { result ≡ is_for_other_class states.now (rows (plain_of tree.now)) }
 {
     let mut marks = [false; MAX_ENTRIES];

@@ -2,7 +2,7 @@
 ghost use Rattle.std.specs.Prelude.{◌≡◌, ℕ, ◌≤◌, ◌+◌, List, Ok, drop, encode_utf8_all, length, slice_index, IfOk};
 ghost use Rattle.saved_state.specs.Answers.{ReadAs};
 ghost use Rattle.saved_state.specs.State.{IsState, decoded, encoded_as, entries_of, entry_of, entry_size, has_kind, head_of, id_of, kind_of, offset_of, text_of, value_of, value_size, words_of};
-ghost use Rattle.saved_state.specs.declared.format.TheConstants.{VERSION};
+ghost use Rattle.saved_state.specs.Numbers.{head_bytes, last_version};
 ghost use Rattle.saved_state.specs.declared.value.Value.{Value};
 ghost use Rattle.saved_state.specs.declared.value.Value.TheVariants.{Text as TextValue};
 
@@ -20,7 +20,7 @@ use view_model::Text;
 #[tactic(auto, unfolding(crate::specs::State::decoded))]
 pub fn read(alloc: Global, bytes: &[u8]) -> Result<States, StateFault>
     ensures read { ReadAs (decoded bytes.now) result }
-    ensures state { IfOk result (λ states. IsState VERSION states) }
+    ensures state { IfOk result (λ states. IsState last_version states) }
     ensures found { IfOk result (λ states. IsState (slice_index bytes.now 2) states
         × (bytes.now ≡ encoded_as (slice_index bytes.now 2) states)) }
     ensures only { (version : ℕ) (entries : List (ℕ × Value))
@@ -34,9 +34,9 @@ pub fn read(alloc: Global, bytes: &[u8]) -> Result<States, StateFault>
 
 /// The state of `count` entries of a version, which follow the head and end with the bytes.
 fn entries_of(alloc: Global, bytes: &[u8], version: u8, count: u16) -> Result<States, StateFault>
-    requires { HEAD_BYTES ≤ length bytes.now }
-    ensures read { ReadAs (entries_of version count 0 HEAD_BYTES (drop HEAD_BYTES bytes.now)) result }
-    ensures state { IfOk result (λ states. IsState VERSION states) }
+    requires { head_bytes ≤ length bytes.now }
+    ensures read { ReadAs (entries_of version count 0 head_bytes (drop head_bytes bytes.now)) result }
+    ensures state { IfOk result (λ states. IsState last_version states) }
 {
     let mut entries = Vec::new(alloc);
     let mut before = 0;
@@ -57,7 +57,7 @@ fn entries_of(alloc: Global, bytes: &[u8], version: u8, count: u16) -> Result<St
 #[tactic(auto, unfolding(crate::specs::State::head_of))]
 fn head_of(bytes: &[u8]) -> Result<(u8, u16), StateFault>
     ensures value { ReadAs (head_of bytes.now) result }
-    ensures there { IfOk result (λ _. HEAD_BYTES ≤ length bytes.now) }
+    ensures there { IfOk result (λ _. head_bytes ≤ length bytes.now) }
 {
     if bytes.len() < 2 || bytes[0] != b'V' || bytes[1] != b'S' {
         return Err(bad_state(0));

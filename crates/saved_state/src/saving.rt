@@ -4,7 +4,7 @@ ghost use Rattle.std.specs.BTreeMap.{insert_entry};
 ghost use Rattle.std.specs.Ordering.{nat_cmp};
 ghost use Rattle.saved_state.specs.Saving.{FitsOffset, OffsetsFit, saved_of, with_view};
 ghost use Rattle.saved_state.specs.State.{IsState, RisesFrom, decoded, encoded};
-ghost use Rattle.saved_state.specs.declared.format.TheConstants.{MAX_OFFSET, MAX_TEXT_BYTES, VERSION};
+ghost use Rattle.saved_state.specs.Numbers.{last_version, max_offset, max_text_bytes};
 ghost use Rattle.saved_state.specs.declared.value.Value.TheVariants.{Offset as OffsetValue, Text as TextValue};
 ghost use Rattle.view_tree.specs.Views.{IsLive, plain_of, view_at};
 
@@ -31,7 +31,7 @@ pub fn save(alloc: Global, tree: &ViewTree) -> Result<Vec<u8>, AllocError>
 /// The offsets and texts that are saved, by the ids of the views that have them.
 fn saved_values(alloc: Global, tree: &ViewTree) -> Result<BTreeMap<u32, Value>, AllocError>
     requires { OffsetsFit (plain_of tree.now) }
-    ensures state { IfOk result (λ saved. IsState VERSION saved.entries) }
+    ensures state { IfOk result (λ saved. IsState last_version saved.entries) }
     ensures entries { IfOk result (λ saved. saved.entries ≡ saved_of (plain_of tree.now)) }
 {
     let mut saved = BTreeMap::new(alloc);
@@ -53,7 +53,8 @@ fn note_view(
     requires live { IsLive tree.now view }
     requires fits { FitsOffset (view_at tree.now view) }
     ensures entries { OnOk result (saved.new.entries ≡ with_view saved.old.entries (view_at tree.now view)) }
-    ensures rises { OnOk result (RisesFrom VERSION 0 saved.old.entries → RisesFrom VERSION 0 saved.new.entries) }
+    ensures rises { OnOk result (RisesFrom last_version 0 saved.old.entries
+        → RisesFrom last_version 0 saved.new.entries) }
     ensures more { OnOk result (length saved.new.entries ≤ length saved.old.entries + 1) }
 {
     let facts = tree.facts(view);
@@ -71,10 +72,11 @@ fn note_view(
 fn note_offset(saved: &mut BTreeMap<u32, Value>, id: u32, offset: i32) -> Result<(), AllocError>
     requires id { 0 < id }
     requires not_negative { pos 0 ≤ℤ offset }
-    requires few { offset ≤ℤ pos MAX_OFFSET }
+    requires few { offset ≤ℤ pos max_offset }
     ensures entries { OnOk result (saved.new.entries
         ≡ insert_entry nat_cmp saved.old.entries id (OffsetValue (unsigned_abs offset))) }
-    ensures rises { OnOk result (RisesFrom VERSION 0 saved.old.entries → RisesFrom VERSION 0 saved.new.entries) }
+    ensures rises { OnOk result (RisesFrom last_version 0 saved.old.entries
+        → RisesFrom last_version 0 saved.new.entries) }
     ensures more { OnOk result (length saved.new.entries ≤ length saved.old.entries + 1) }
 {
     saved.insert(id, Value::Offset(offset.unsigned_abs()))?;
@@ -89,9 +91,10 @@ fn note_text(
     text: &Text,
 ) -> Result<(), AllocError>
     requires { 0 < id }
-    ensures entries { OnOk result (saved.new.entries ≡ (if nat_lt MAX_TEXT_BYTES (length (encode_utf8_all text.now))
+    ensures entries { OnOk result (saved.new.entries ≡ (if nat_lt max_text_bytes (length (encode_utf8_all text.now))
         then saved.old.entries else insert_entry nat_cmp saved.old.entries id (TextValue text.now))) }
-    ensures rises { OnOk result (RisesFrom VERSION 0 saved.old.entries → RisesFrom VERSION 0 saved.new.entries) }
+    ensures rises { OnOk result (RisesFrom last_version 0 saved.old.entries
+        → RisesFrom last_version 0 saved.new.entries) }
     ensures more { OnOk result (length saved.new.entries ≤ length saved.old.entries + 1) }
 {
     if text_bytes(text) > MAX_TEXT_BYTES {
@@ -104,7 +107,7 @@ fn note_text(
 
 /// The bytes of a state that has these values.
 fn encode(alloc: Global, saved: &BTreeMap<u32, Value>) -> Result<Vec<u8>, AllocError>
-    requires { IsState VERSION saved.now.entries }
+    requires { IsState last_version saved.now.entries }
     ensures bytes { IfOk result (λ bytes. bytes.items ≡ encoded saved.now.entries) }
     ensures back { IfOk result (λ bytes. decoded bytes.items ≡ Ok saved.now.entries) }
 {

@@ -2,7 +2,7 @@
 ghost use Rattle.std.specs.Prelude.{◌≡◌, ◌↔◌, ◌<◌, ◌≤◌, true, [], IfSome, length};
 ghost use Rattle.saved_state.specs.Restoring.{FindsEntry, IsEntry, entry_at};
 ghost use Rattle.saved_state.specs.State.{IsState, IsValue};
-ghost use Rattle.saved_state.specs.declared.format.TheConstants.{MAX_ENTRIES, VERSION};
+ghost use Rattle.saved_state.specs.Numbers.{last_version, max_entries};
 
 use crate::value::Value;
 use std::alloc::Global;
@@ -18,14 +18,14 @@ pub struct States {
 impl Model for States {
     ghost use Rattle.std.specs.Prelude.{List, ℕ};
     ghost use Rattle.saved_state.specs.State.{IsState};
-    ghost use Rattle.saved_state.specs.declared.format.TheConstants.{VERSION};
+    ghost use Rattle.saved_state.specs.Numbers.{last_version};
     ghost use Rattle.saved_state.specs.declared.value.Value.{Value as ValueHere};
 
     ghost Value = { List (ℕ × ValueHere) };
 
     ghost view = { λ states. states.entries.items };
 
-    ghost invariant = { λ states. IsState VERSION states.entries.items };
+    ghost invariant = { λ states. IsState last_version states.entries.items };
 }
 
 impl States {
@@ -40,7 +40,7 @@ impl States {
 
     /// The invariant of every state, for contracts alone.
     pub(crate) fn recall(&self)
-        ensures { IsState VERSION self.now }
+        ensures { IsState last_version self.now }
     {
         let _count = self.entries.len();
     }
@@ -56,7 +56,7 @@ impl States {
     /// How many entries there are.
     pub(crate) fn count(&self) -> usize
         ensures value { result ≡ length self.now }
-        ensures few { result ≤ MAX_ENTRIES }
+        ensures few { result ≤ max_entries }
     {
         self.entries.len()
     }
@@ -66,7 +66,7 @@ impl States {
     #[tactic(auto, using(crate::proofs::EntryLaws::zero_absent))]
     pub(crate) fn place_of(&self, id: u32) -> Option<usize>
         ensures entry { FindsEntry self.now id result }
-        ensures few { length self.now ≤ MAX_ENTRIES }
+        ensures few { length self.now ≤ max_entries }
     {
         self.recall();
         if id == 0 {
@@ -93,7 +93,7 @@ impl States {
     /// The place of the entry of an id, found in as many steps as their number has bits.
     fn place_in(&self, id: u32) -> Option<usize>
         ensures entry { FindsEntry self.now id result }
-        ensures few { length self.now ≤ MAX_ENTRIES }
+        ensures few { length self.now ≤ max_entries }
     {
         match self.entries.binary_search_by_key(&id, |entry| entry.0) {
             Ok(place) => Some(place),

@@ -2,7 +2,7 @@
 ghost use Rattle.std.specs.Prelude.{◌≡◌, ◌≤◌, ◌++◌, ◌∷◌, OnOk, encode_utf8, encode_utf8_all, length};
 ghost use Rattle.byteorder.specs.Endian.{little_bytes};
 ghost use Rattle.saved_state.specs.State.{IsValue, entry_bytes, value_bytes};
-ghost use Rattle.saved_state.specs.declared.format.TheConstants.{MAX_TEXT_BYTES, VERSION};
+ghost use Rattle.saved_state.specs.Numbers.{last_version, max_text_bytes};
 ghost use Rattle.saved_state.specs.declared.value.Value.TheVariants.{Text as TextValue};
 
 use crate::bytes::text_bytes;
@@ -14,7 +14,7 @@ use view_model::Text;
 
 /// Adds the head of a state of `count` entries.
 pub fn put_head(bytes: &mut Vec<u8>, count: u16) -> Result<(), AllocError>
-    ensures { OnOk result (bytes.new.items ≡ bytes.old.items ++ (86 ∷ 83 ∷ VERSION ∷ little_bytes 2 count)) }
+    ensures { OnOk result (bytes.new.items ≡ bytes.old.items ++ (86 ∷ 83 ∷ last_version ∷ little_bytes 2 count)) }
 {
     bytes.extend_from_slice(&[b'V', b'S', VERSION])?;
     put_short(bytes, count)
@@ -37,7 +37,7 @@ pub fn put_entry(bytes: &mut Vec<u8>, id: u32, value: &Value) -> Result<(), Allo
 
 /// Adds the kind of a text, its length and its characters.
 fn put_text(bytes: &mut Vec<u8>, text: &Text) -> Result<(), AllocError>
-    requires { length (encode_utf8_all text.now) ≤ MAX_TEXT_BYTES }
+    requires { length (encode_utf8_all text.now) ≤ max_text_bytes }
     ensures { OnOk result (bytes.new.items ≡ bytes.old.items ++ value_bytes (TextValue text.now)) }
 {
     bytes.push(TEXT_KIND)?;

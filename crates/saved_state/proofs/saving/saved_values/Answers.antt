@@ -6,7 +6,7 @@ use Rattle.view_tree.specs.Views.{plain_of}
 use Rattle.view_tree.proofs.forest.PreorderLaws.{rows_from_root, views_from_root}
 use Rattle.saved_state.specs.Saving.{FitsOffset, with_view}
 use Rattle.saved_state.specs.State.{RisesFrom, StateEntry}
-use Rattle.saved_state.specs.declared.format.TheConstants.{VERSION}
+use Rattle.saved_state.specs.Numbers.{last_version}
 use Rattle.saved_state.proofs.SavingLaws.{every_row, length-rows}
 use Rattle.saved_state.proofs.saving.saved_values.Goals as goal
 
@@ -20,7 +20,7 @@ loop-next-init c =
     record {
       live = c.root-next.ensures.live;
       fit = subst (AllByRecursion FitsOffset) (sym whole) (every_row FitsOffset (plain_of views) c.requires);
-      rises = subst (RisesFrom VERSION 0) (sym c.new-saved.ensures.empty) tt;
+      rises = subst (RisesFrom last_version 0) (sym c.new-saved.ensures.empty) tt;
       few = let none = c.new-saved.ensures.len in omega arith;
       left = ap (λ (entries : List StateEntry). fold with_view entries (views_from views root)) c.new-saved.ensures.empty ∙ ap (fold with_view []) whole;
     }

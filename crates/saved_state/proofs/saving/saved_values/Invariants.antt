@@ -6,14 +6,14 @@ use Rattle.view_tree.specs.tree.Preorder.{rows_from, views_from}
 use Rattle.view_tree.specs.Views.{IsLive, plain_of}
 use Rattle.saved_state.specs.Saving.{FitsOffset, saved_of, with_view}
 use Rattle.saved_state.specs.State.{RisesFrom}
-use Rattle.saved_state.specs.declared.format.TheConstants.{VERSION}
+use Rattle.saved_state.specs.Numbers.{last_version}
 use Rattle.saved_state.proofs.saving.saved_values.Given as goal
 
 abbrev pub invariant-loop-next : goal.invariant-loop-next
 invariant-loop-next l = record {
   live : IfSome l.next (λ view. IsLive l.tree view);
   fit : AllByRecursion FitsOffset (views_from l.tree l.next);
-  rises : RisesFrom VERSION 0 l.saved.entries;
+  rises : RisesFrom last_version 0 l.saved.entries;
   few : length l.saved.entries + length (rows_from l.next l.tree.tree) ≤ count_of l.tree.tree;
   left : fold with_view l.saved.entries (views_from l.tree l.next) ≡ saved_of (plain_of l.tree);
 }
