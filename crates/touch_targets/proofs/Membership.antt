@@ -6,7 +6,7 @@ use Rattle.std.specs.Option.{option_flatten}
 use Rattle.std.proofs.lemmas.Bool.{cases_Bool, cases_eq, eq-eqb, ne_eqb}
 use Rattle.std.proofs.lemmas.List.{map-append}
 use Rattle.slab.specs.Slab.{Slab, get, slab_len}
-use Rattle.slab_link.specs.declared.link.TheConstants.{LINKS_END}
+use Rattle.slab_link.specs.Numbers.{links_end}
 use Rattle.indexmap.specs.IndexMap.{get as get_key, insert_entry, swap_remove_entry}
 use Rattle.indexmap.proofs.CallerLemmas.{insert_entry-new}
 use Rattle.touch_targets.specs.Captures.{Target, is_target, without_child}
@@ -26,7 +26,7 @@ module _ (a b : Inside) (nodes : b.nodes ≡ record a.nodes { capacity = b.nodes
   node_same p = ap (λ (s : Slab Node). get s p) nodes
 
   pub sound_room : IsSoundPool a.nodes a.places → count_by has_node b.places.entries ≡ count_by has_node a.places.entries → length b.places.entries ≤ b.nodes.capacity
-      → b.nodes.capacity ≤ LINKS_END → IsSoundPool b.nodes b.places
+      → b.nodes.capacity ≤ links_end → IsSoundPool b.nodes b.places
   sound_room sound counts room small = record {
     linked = subst AreLinked (sym nodes) sound.linked;
     named = λ view p h. ap view_of (node_same p) ∙ sound.named view p (sym (places view) ∙ h);
@@ -38,7 +38,7 @@ module _ (a b : Inside) (nodes : b.nodes ≡ record a.nodes { capacity = b.nodes
 
 -- room for the entries too
 pub sound_reserved : (a b : Inside) → b.nodes ≡ record a.nodes { capacity = b.nodes.capacity } → b.places.entries ≡ a.places.entries → IsSoundPool a.nodes a.places
-    → length a.places.entries + 1 ≤ b.nodes.capacity → b.nodes.capacity ≤ LINKS_END → IsSoundPool b.nodes b.places
+    → length a.places.entries + 1 ≤ b.nodes.capacity → b.nodes.capacity ≤ links_end → IsSoundPool b.nodes b.places
 sound_reserved a b nodes entries sound room small =
     sound_room a b nodes (λ view. ap (λ es. option_flatten (lookup (nat_eq view) es)) entries) sound
     (ap (count_by has_node) entries) (omega (arith, ap length entries, room)) small
@@ -59,7 +59,7 @@ module _
   place_same : (other : ℕ) → place_in b.places other ≡ place_in a.places other
   place_same other = ap (λ es. option_flatten (lookup (nat_eq other) es)) entries ∙ place_added a.places.entries view other
 
-  pub sound_opened : IsSoundPool a.nodes a.places → length a.places.entries + 1 ≤ b.nodes.capacity → b.nodes.capacity ≤ LINKS_END → IsSoundPool b.nodes b.places
+  pub sound_opened : IsSoundPool a.nodes a.places → length a.places.entries + 1 ≤ b.nodes.capacity → b.nodes.capacity ≤ links_end → IsSoundPool b.nodes b.places
   sound_opened sound room small =
       let counts = ap (count_by has_node) entries ∙ count-added a.places.entries view in
       let long = ap length entries ∙ length-append a.places.entries ((view, None) ∷ []) in

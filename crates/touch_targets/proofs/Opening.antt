@@ -3,7 +3,7 @@ use Rattle.std.proofs.Common.{◌≡◌, ◌≢◌, ◌⊎◌, ◌<◌, ◌^◌,
 use Rattle.std.specs.Prelude.{◌==◌, if◌then◌else◌}
 use Rattle.std.proofs.lemmas.Bool.{cases_eq, eq-eqb, ne_eqb}
 use Rattle.slab.specs.Slab.{Slab, Updates, get}
-use Rattle.slab_link.specs.declared.link.TheConstants.{LINKS_END}
+use Rattle.slab_link.specs.Numbers.{links_end}
 use Rattle.touch_targets.specs.Nodes.{AreLinked, Chain, IsLinked, caught_at, caught_by, fresh_node, has_place, places_by, view_at}
 use Rattle.touch_targets.specs.Seats.{is_caught}
 use Rattle.touch_targets.specs.declared.node.Node.{Node}
@@ -80,7 +80,7 @@ module _
     (s t : Slab Node) (place view : ℕ)
     (linked : AreLinked s)
     (unused : get s place ≡ None)
-    (low : place < LINKS_END)
+    (low : place < links_end)
     (unknown : (x : ℕ) (n : Node) → get s x ≡ Some n → n.view ≢ view)
     (written : (x : ℕ) → get t x ≡ (if x == place then Some (fresh_node view) else get s x)) where
   come : (x : ℕ) → x ≡ place → get t x ≡ Some (fresh_node view)
@@ -134,7 +134,7 @@ module _
         ];
     small = λ p n h.
         elim (old_or p n h) [
-          | inl new ↦ subst (λ x. x < LINKS_END) (sym new.0) low
+          | inl new ↦ subst (λ x. x < links_end) (sym new.0) low
           | inr old ↦ linked.small p n old
         ];
     single = λ p q n m h i same.

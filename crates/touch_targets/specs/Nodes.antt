@@ -2,7 +2,7 @@
 use Rattle.std.specs.Prelude.{ℕ, zero, suc, ◌≡◌, ◌≢◌, ◌==◌, ◌<◌, ◌^◌, true, false, Bool, not, if◌then◌else◌, List, [], ◌∷◌, ◌++◌, Option, Some, None, option_map, IsSome, length, map, filter}
 use Rattle.std.specs.List.{last_or, list_any}
 use Rattle.slab.specs.Slab.{Slab, get}
-use Rattle.slab_link.specs.declared.link.TheConstants.{LINKS_END}
+use Rattle.slab_link.specs.Numbers.{links_end}
 use Rattle.touch_targets.specs.Seats.{Caught, mask_without}
 use Rattle.touch_targets.specs.declared.node.Node.{Node}
 
@@ -57,7 +57,7 @@ pub record IsLinked (at : ℕ → Option Node) (places : ℕ → List ℕ) : Typ
   pub free : (place : ℕ) (node : Node) → at place ≡ Some node → node.group ≡ None → (node.next ≡ None) × (node.ids ≡ 0)
   pub held : (place group : ℕ) (node : Node) → at place ≡ Some node → node.group ≡ Some group → node.ids ≢ 0
   pub fits : (place : ℕ) (node : Node) → at place ≡ Some node → node.ids < 2 ^ 32
-  pub small : (place : ℕ) (node : Node) → at place ≡ Some node → place < LINKS_END
+  pub small : (place : ℕ) (node : Node) → at place ≡ Some node → place < links_end
   pub single : (place other : ℕ) (node its : Node) → at place ≡ Some node → at other ≡ Some its → node.view ≡ its.view → place ≡ other
 
 abbrev pub AreLinked : Slab Node → Type 0

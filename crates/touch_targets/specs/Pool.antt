@@ -2,7 +2,7 @@
 use Rattle.std.specs.Prelude.{ℕ, ◌≡◌, ◌≤◌, nat_eq, Bool, List, [], Option, Some, None, is_some, map, length, count_by}
 use Rattle.std.specs.Option.{option_flatten}
 use Rattle.slab.specs.Slab.{Slab, get, slab_len}
-use Rattle.slab_link.specs.declared.link.TheConstants.{LINKS_END}
+use Rattle.slab_link.specs.Numbers.{links_end}
 use Rattle.indexmap.specs.IndexMap.{IndexMap, get as get_key}
 use Rattle.touch_targets.specs.Nodes.{AreLinked, caught_by, view_of}
 use Rattle.touch_targets.specs.Seats.{Caught, Seat}
@@ -36,4 +36,4 @@ module _ {S : Type 0} where
     pub found : (place : ℕ) (node : Node) → get nodes place ≡ Some node → place_in places node.view ≡ Some place
     pub counted : slab_len nodes ≤ count_by has_node places.entries
     pub room : length places.entries ≤ nodes.capacity
-    pub small : nodes.capacity ≤ LINKS_END
+    pub small : nodes.capacity ≤ links_end

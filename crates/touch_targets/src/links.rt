@@ -1,7 +1,7 @@
 //! How nodes join and leave the targets of a group. A group and a target are named by the places of their nodes.
 ghost use Rattle.std.specs.Prelude.{◌≡◌, ◌≢◌, ◌==◌, ◌≤◌, ◌&&◌, true, if◌then◌else◌, ℕ, [], ◌∷◌, false, Some, None, OnErr, OnOk, ◌+◌};
 ghost use Rattle.slab.specs.Slab.{get, ContainsKey, HasRoomFor, slab_len};
-ghost use Rattle.slab_link.specs.declared.link.TheConstants.{LINKS_END};
+ghost use Rattle.slab_link.specs.Numbers.{links_end};
 ghost use Rattle.touch_targets.specs.declared.node.Node.{Node};
 ghost use Rattle.touch_targets.specs.Nodes.{AreLinked, IsFollowing, IsTarget, caught_at, caught_by, caught_in_place, changed, fresh_node, has_place, left_at, places_by, relinked, view_at, view_of, without_place, without_caught};
 ghost use Rattle.touch_targets.specs.Seats.{drop_caught, is_caught, mask_with, mask_without, put_caught};
@@ -207,10 +207,10 @@ pub fn take_out(nodes: &mut Slab<Node>, place: usize)
 /// Takes the memory for the nodes of this many views, if links can name their places. A copy grows, so that nothing has
 /// changed if they can't.
 pub fn make_room(nodes: &mut Slab<Node>, views: usize) -> Result<(), AllocError>
-    requires small { nodes.old.capacity ≤ LINKS_END }
+    requires small { nodes.old.capacity ≤ links_end }
     ensures rest_kept { nodes.new ≡ record nodes.old { capacity = nodes.new.capacity } }
     ensures room { OnOk result (views ≤ nodes.new.capacity) }
-    ensures small { nodes.new.capacity ≤ LINKS_END }
+    ensures small { nodes.new.capacity ≤ links_end }
     ensures unchanged { OnErr result (nodes.new ≡ nodes.old) }
 {
     let capacity = nodes.capacity();
@@ -230,7 +230,7 @@ pub fn make_room(nodes: &mut Slab<Node>, views: usize) -> Result<(), AllocError>
 /// Inserts the node of a view that has none yet, into free room. Returns its place.
 pub fn put_in(nodes: &mut Slab<Node>, view: u64) -> usize
     requires room { HasRoomFor nodes.old 1 }
-    requires small { nodes.old.capacity ≤ LINKS_END }
+    requires small { nodes.old.capacity ≤ links_end }
     requires linked { AreLinked nodes.old }
     requires unknown { (x : ℕ) (node : Node) → get nodes.old x ≡ Some node → node.view ≢ view }
     ensures linked { AreLinked nodes.new }
