@@ -1,6 +1,6 @@
 -- Areas, bytes and new pictures, by computation.
 use Rattle.std.specs.Prelude.{◌≡◌, ℤ, pos, negsuc, refl, [], ◌∷◌}
-use Rattle.geom_core.specs.declared.color.TheConstants.{BLACK}
+use Rattle.geom_core.specs.Numbers.{unpainted}
 use Rattle.geom_core.specs.declared.geometry.Rect.{Rect}
 use Rattle.geom_core.specs.Color.{blue_of, green_of, red_of}
 use Rattle.pixel_raster.specs.Bytes.{bytes_of}
@@ -32,7 +32,7 @@ two_pixels : bytes_of (record { 0 = 0xff61_6263 } ∷ record { 0 = 0xff00_0102 }
 unfolding red_of green_of blue_of
 two_pixels = refl
 
-new_one : black_raster (record { w = pos 2; h = pos 1 }) ≡ record { width = 2; height = 1; pixels = BLACK ∷ BLACK ∷ []; filled = 0 }
+new_one : black_raster (record { w = pos 2; h = pos 1 }) ≡ record { width = 2; height = 1; pixels = unpainted ∷ unpainted ∷ []; filled = 0 }
 unfolding from_zero
 new_one = refl
 

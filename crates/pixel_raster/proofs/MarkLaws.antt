@@ -7,7 +7,7 @@ use Rattle.std.proofs.lemmas.List.{get_or-replicate, length-replicate, same_list
 use Rattle.std.proofs.lemmas.List.FromFn.{get_or-map-range_with_len, length-map-range_with_len}
 use Rattle.geom_core.specs.Color.{alpha_of}
 use Rattle.geom_core.specs.declared.color.Argb.{Argb}
-use Rattle.geom_core.specs.declared.color.TheConstants.{BLACK}
+use Rattle.geom_core.specs.Numbers.{unpainted}
 use Rattle.pixel_raster.specs.Marks.{AreWritten, mark_of, seen_at, seen_of, seen_pixels}
 use Rattle.pixel_raster.specs.Raster.{pixel_at}
 use Rattle.pixel_raster.proofs.BlackLaws.{black-pixel}
@@ -116,27 +116,27 @@ pub pixel_at-seen : (width height : ℕ) (pixels : List Argb) (x y : ℕ) → le
 unfolding seen_pixels
 pixel_at-seen width height pixels x y size column row =
     let rows : suc y * width ≤ height * width = mul-le-mul_right width row in
-    get_or-map-range_with_len _ 0 (length pixels) (y * width + x) (y * width + x) BLACK (omega arith) (omega arith)
-    ∙ ap (λ (n : ℕ). seen_of (slice_index_or pixels (n * width) BLACK) (pixel_at width pixels x y)) (div-mul-add y width x column)
-    ∙ ap (λ (n : ℕ). seen_of (slice_index_or pixels n BLACK) (pixel_at width pixels x y)) (omega arith)
+    get_or-map-range_with_len _ 0 (length pixels) (y * width + x) (y * width + x) unpainted (omega arith) (omega arith)
+    ∙ ap (λ (n : ℕ). seen_of (slice_index_or pixels (n * width) unpainted) (pixel_at width pixels x y)) (div-mul-add y width x column)
+    ∙ ap (λ (n : ℕ). seen_of (slice_index_or pixels n unpainted) (pixel_at width pixels x y)) (omega arith)
 
 pub length-seen_pixels : (width : ℕ) (pixels : List Argb) → length (seen_pixels width pixels) ≡ length pixels
 unfolding seen_pixels
 length-seen_pixels width pixels = length-map-range_with_len _ 0 (length pixels)
 
 -- a picture whose pixels are black is seen as it is
-black-seen : seen_of BLACK BLACK ≡ BLACK
+black-seen : seen_of unpainted unpainted ≡ unpainted
 unfolding seen_of alpha_of
 black-seen = refl
 
-pub seen_pixels-black : (width count : ℕ) (pixels : List Argb) → pixels ≡ replicate count BLACK → seen_pixels width pixels ≡ replicate count BLACK
+pub seen_pixels-black : (width count : ℕ) (pixels : List Argb) → pixels ≡ replicate count unpainted → seen_pixels width pixels ≡ replicate count unpainted
 unfolding seen_pixels
 seen_pixels-black width count pixels is = rw is (
-    same_lists (seen_pixels width (replicate count BLACK)) (replicate count BLACK) (length-seen_pixels width (replicate count BLACK))
+    same_lists (seen_pixels width (replicate count unpainted)) (replicate count unpainted) (length-seen_pixels width (replicate count unpainted))
     (λ k d lt.
-    let long = length-seen_pixels width (replicate count BLACK) in
-    let many = length-replicate count BLACK in
-    get_or-map-range_with_len _ 0 (length (replicate count BLACK)) k k d (omega (arith, lt, long)) (omega arith)
-    ∙ ap (λ (first : Argb). seen_of first (slice_index_or (replicate count BLACK) k BLACK)) (black-pixel count (k / width * width))
-    ∙ ap (λ (pixel : Argb). seen_of BLACK pixel) (black-pixel count k)
-    ∙ black-seen ∙ sym (get_or-replicate count k BLACK d (omega (arith, lt, long, many)))))
+    let long = length-seen_pixels width (replicate count unpainted) in
+    let many = length-replicate count unpainted in
+    get_or-map-range_with_len _ 0 (length (replicate count unpainted)) k k d (omega (arith, lt, long)) (omega arith)
+    ∙ ap (λ (first : Argb). seen_of first (slice_index_or (replicate count unpainted) k unpainted)) (black-pixel count (k / width * width))
+    ∙ ap (λ (pixel : Argb). seen_of unpainted pixel) (black-pixel count k)
+    ∙ black-seen ∙ sym (get_or-replicate count k unpainted d (omega (arith, lt, long, many)))))

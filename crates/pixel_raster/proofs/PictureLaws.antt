@@ -4,7 +4,7 @@ use Rattle.std.proofs.lemmas.List.{get_or_default, same_lists}
 use Rattle.std.proofs.lemmas.List.FromFn.{get_or-map-range_with_len, length-map-range_with_len}
 use Rattle.std.proofs.Math.Nat.{div-add-mod, div-lt_iff_lt-mul}
 use Rattle.geom_core.specs.declared.color.Argb.{Argb}
-use Rattle.geom_core.specs.declared.color.TheConstants.{BLACK}
+use Rattle.geom_core.specs.Numbers.{unpainted}
 use Rattle.pixel_raster.specs.Raster.{IsRaster, Raster, color_at}
 use Rattle.view_model.specs.Painting.{picture_of}
 
@@ -36,7 +36,7 @@ pixels-picture raster color is each =
     (size ∙ sym (length-map-range_with_len point 0 (raster.width * raster.height)))
     (λ k d lt.
     let inside : k < raster.width * raster.height = omega (arith, size, lt) in
-    get_or_default raster.pixels k d BLACK lt
-    ∙ ap (λ (n : ℕ). get_or raster.pixels n BLACK) (sym (place_of raster.width raster.height k inside))
+    get_or_default raster.pixels k d unpainted lt
+    ∙ ap (λ (n : ℕ). get_or raster.pixels n unpainted) (sym (place_of raster.width raster.height k inside))
     ∙ each (k % raster.width) (k / raster.width) (column_of raster.width raster.height k inside) (row_of raster.width raster.height k inside)
     ∙ sym (get_or-map-range_with_len point 0 (raster.width * raster.height) k k d inside (omega arith)))

@@ -6,7 +6,7 @@ use Rattle.std.proofs.lemmas.Bool.{cases_order}
 use Rattle.std.proofs.lemmas.Bool.Decides.{nat_tests}
 use borrow.Rule.Slice.PartMut.{put_mid}
 use Rattle.geom_core.specs.declared.color.Argb.{Argb}
-use Rattle.geom_core.specs.declared.color.TheConstants.{BLACK}
+use Rattle.geom_core.specs.Numbers.{unpainted}
 use Rattle.pixel_raster.specs.Cuts.{is_between}
 use Rattle.pixel_raster.specs.Raster.{pixel_at}
 use Rattle.pixel_raster.proofs.RunLaws.{get_or-mapped_run}
@@ -62,7 +62,7 @@ pub pixel_at-next_row : (f : Argb → Argb) (start now : List Argb) (width left 
     → pixel_at width (put_mid (z * width + left) (z * width + right - (z * width + left)) now (map f (between (z * width + left) (z * width + right) now))) x y
     ≡ (if is_between left right x && is_between top (z + 1) y then f (pixel_at width start x y) else pixel_at width start x y)
 pixel_at-next_row f start now width left right top z x y ordered fits begun inside column was =
-    let mapped = get_or-mapped_run f now (z * width + left) (z * width + right) (y * width + x) BLACK (omega arith) inside in
+    let mapped = get_or-mapped_run f now (z * width + left) (z * width + right) (y * width + x) unpainted (omega arith) inside in
     one_row_more f (is_between left right x) (is_between top z y) (is_between z (z + 1) y) (is_between top (z + 1) y)
     (pixel_at width start x y) (pixel_at width now x y) _ (rows_apart top z y) (rows_more top z y begun) was
     (mapped ∙ ap (λ (test : Bool). if test then f (pixel_at width now x y) else pixel_at width now x y) (place_in_run width left right x y z fits column))

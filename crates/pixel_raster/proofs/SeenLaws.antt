@@ -4,7 +4,7 @@ use Rattle.std.proofs.lemmas.List.{get_or_default, get_or_past, get_or-drop, get
 use Rattle.std.proofs.lemmas.Bool.{cases_lt}
 use Rattle.geom_core.specs.Color.{alpha_of}
 use Rattle.geom_core.specs.declared.color.Argb.{Argb}
-use Rattle.geom_core.specs.declared.color.TheConstants.{BLACK}
+use Rattle.geom_core.specs.Numbers.{unpainted}
 use Rattle.pixel_raster.specs.Marks.{seen_at, seen_of, seen_pixels}
 use Rattle.pixel_raster.specs.Raster.{AllOpaque, IsRaster, pixel_at}
 use Rattle.pixel_raster.proofs.BlackLaws.{black-opaque}
@@ -15,9 +15,9 @@ use Rattle.pixel_raster.proofs.PictureLaws.{column_of, place_of, row_of}
 points-opaque : (width height : ℕ) (pixels : List Argb) → length pixels ≡ width * height
     → ((x y : ℕ) → x < width → y < height → alpha_of (pixel_at width pixels x y) ≡ 255) → AllOpaque pixels
 points-opaque width height pixels size each place = elim (cases_lt place (width * height)) [
-  | inl inside ↦ ap (λ (n : ℕ). alpha_of (get_or pixels n BLACK)) (sym (place_of width height place inside))
+  | inl inside ↦ ap (λ (n : ℕ). alpha_of (get_or pixels n unpainted)) (sym (place_of width height place inside))
       ∙ each (place % width) (place / width) (column_of width height place inside) (row_of width height place inside)
-  | inr outside ↦ ap (λ (color : Argb). alpha_of color) (get_or_past pixels place BLACK (omega arith)) ∙ black-opaque
+  | inr outside ↦ ap (λ (color : Argb). alpha_of color) (get_or_past pixels place unpainted (omega arith)) ∙ black-opaque
 ]
 
 module _ (f : Argb → Argb) (test : ℕ → ℕ → Bool) (width height : ℕ) (old new : List Argb) (size : length old ≡ width * height) (size_new : length new ≡ width * height)
@@ -54,7 +54,7 @@ module _ (f : Argb → Argb) (test : ℕ → ℕ → Bool) (width height : ℕ) 
 -- what is seen of one row
 pub seen_pixels-row : (width height y : ℕ) (pixels : List Argb) → length pixels ≡ width * height → y < height
     → take ((y + 1) * width - y * width) (drop (y * width) (seen_pixels width pixels))
-    ≡ map (seen_of (slice_index_or (take ((y + 1) * width - y * width) (drop (y * width) pixels)) 0 BLACK)) (take ((y + 1) * width - y * width) (drop (y * width) pixels))
+    ≡ map (seen_of (slice_index_or (take ((y + 1) * width - y * width) (drop (y * width) pixels)) 0 unpainted)) (take ((y + 1) * width - y * width) (drop (y * width) pixels))
 seen_pixels-row width height y pixels size row =
     let rows : suc y * width ≤ height * width = mul-le-mul_right width row in
     let many : (y + 1) * width - y * width ≡ width = omega arith in
@@ -62,19 +62,19 @@ seen_pixels-row width height y pixels size row =
     rw many (same_row (omega (arith, rows, seen_long)) (omega (arith, rows)))
   where
     same_row : y * width + width ≤ length (seen_pixels width pixels) → y * width + width ≤ length pixels
-        → take width (drop (y * width) (seen_pixels width pixels)) ≡ map (seen_of (slice_index_or (take width (drop (y * width) pixels)) 0 BLACK)) (take width (drop (y * width) pixels))
+        → take width (drop (y * width) (seen_pixels width pixels)) ≡ map (seen_of (slice_index_or (take width (drop (y * width) pixels)) 0 unpainted)) (take width (drop (y * width) pixels))
     same_row fits fits_too =
         let left = long (seen_pixels width pixels) fits in
         let right = long pixels fits_too in
-        same_lists _ _ (left ∙ sym right ∙ sym (length-map (take width (drop (y * width) pixels)) (seen_of (slice_index_or (take width (drop (y * width) pixels)) 0 BLACK))))
+        same_lists _ _ (left ∙ sym right ∙ sym (length-map (take width (drop (y * width) pixels)) (seen_of (slice_index_or (take width (drop (y * width) pixels)) 0 unpainted))))
         (λ k d lt.
         let column : k < width = omega (arith, lt, left) in
-        get_or_default _ k d BLACK lt
+        get_or_default _ k d unpainted lt
         ∙ read (seen_pixels width pixels) k column
         ∙ pixel_at-seen width height pixels k y size column row
         ∙ ap (λ (first : Argb). seen_of first (pixel_at width pixels k y)) (sym (read pixels 0 (omega arith)))
-        ∙ ap (λ (pixel : Argb). seen_of (slice_index_or (take width (drop (y * width) pixels)) 0 BLACK) pixel) (sym (read pixels k column))
-        ∙ sym (get_or-map _ (take width (drop (y * width) pixels)) k BLACK d (omega (arith, column, right))))
+        ∙ ap (λ (pixel : Argb). seen_of (slice_index_or (take width (drop (y * width) pixels)) 0 unpainted) pixel) (sym (read pixels k column))
+        ∙ sym (get_or-map _ (take width (drop (y * width) pixels)) k unpainted d (omega (arith, column, right))))
       where
         long : (items : List Argb) → y * width + width ≤ length items → length (take width (drop (y * width) items)) ≡ width
         long items fits =
@@ -82,5 +82,5 @@ seen_pixels-row width height y pixels size row =
             let taken = length-take width (drop (y * width) items) in
             omega arith
 
-        read : (items : List Argb) (k : ℕ) → k < width → get_or (take width (drop (y * width) items)) k BLACK ≡ get_or items (y * width + k) BLACK
-        read items k lt = get_or-take width (drop (y * width) items) k BLACK lt ∙ get_or-drop (y * width) items k BLACK
+        read : (items : List Argb) (k : ℕ) → k < width → get_or (take width (drop (y * width) items)) k unpainted ≡ get_or items (y * width + k) unpainted
+        read items k lt = get_or-take width (drop (y * width) items) k unpainted lt ∙ get_or-drop (y * width) items k unpainted

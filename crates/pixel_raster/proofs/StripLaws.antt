@@ -3,7 +3,7 @@ use Rattle.std.proofs.Common.{◌≡◌, ◌≢◌, ℕ, zero, suc, ◌+◌, ◌
 use Rattle.std.specs.Prelude.{◌&&◌, ◌||◌, ◌==◌}
 use Rattle.std.proofs.lemmas.Bool.Decides.{nat_tests}
 use Rattle.geom_core.specs.declared.color.Argb.{Argb}
-use Rattle.geom_core.specs.declared.color.TheConstants.{BLACK}
+use Rattle.geom_core.specs.Numbers.{unpainted}
 use Rattle.view_model.specs.Glyphs.{has_bit}
 use Rattle.pixel_raster.specs.Cuts.{is_between}
 use Rattle.pixel_raster.specs.Raster.{pixel_at}
@@ -42,7 +42,7 @@ one_row_more f true false true next false true start old new apart is same e g =
 
 pub pixel_at-next_place : (f : Argb → Argb) (start now : List Argb) (width column top z bits x y : ℕ) → column < width → top ≤ z → z * width + column < length now → x < width
     → pixel_at width now x y ≡ (if (x == column) && (is_between top z y && has_bit bits (y - top)) then f (pixel_at width start x y) else pixel_at width start x y)
-    → pixel_at width (set now (z * width + column) (if has_bit bits (z - top) then f (get_or now (z * width + column) BLACK) else get_or now (z * width + column) BLACK)) x y
+    → pixel_at width (set now (z * width + column) (if has_bit bits (z - top) then f (get_or now (z * width + column) unpainted) else get_or now (z * width + column) unpainted)) x y
     ≡ (if (x == column) && (is_between top (z + 1) y && has_bit bits (y - top)) then f (pixel_at width start x y) else pixel_at width start x y)
 pixel_at-next_place f start now width column top z bits x y within begun inside wide was =
     let at = z * width + column in
@@ -54,9 +54,9 @@ pixel_at-next_place f start now width column top z bits x y within begun inside 
     (pixel_at width start x y) (pixel_at width now x y) _ (rows_apart top z y) (rows_more top z y begun)
     (λ is. let between = between_from z (z + 1) y is in let row : y ≡ z = omega (arith, between.0, between.1) in ap (λ (n : ℕ). has_bit bits (n - top)) row)
     was
-    (get_or-written now at (y * width + x) _ BLACK inside
-    ∙ ap (λ (t : Bool). if t then (if here then f (get_or now at BLACK) else get_or now at BLACK) else pixel_at width now x y) test
-    ∙ at_place (x == column) (is_between z (z + 1) y) here (get_or now at BLACK) (pixel_at width now x y)
+    (get_or-written now at (y * width + x) _ unpainted inside
+    ∙ ap (λ (t : Bool). if t then (if here then f (get_or now at unpainted) else get_or now at unpainted) else pixel_at width now x y) test
+    ∙ at_place (x == column) (is_between z (z + 1) y) here (get_or now at unpainted) (pixel_at width now x y)
     (λ across down.
     let between = between_from z (z + 1) y down in
     let row : y ≡ z = omega (arith, between.0, between.1) in

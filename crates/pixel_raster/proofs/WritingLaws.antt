@@ -6,7 +6,7 @@ use Rattle.std.proofs.lemmas.Bool.Decides.{nat_tests}
 use Rattle.std.proofs.lemmas.List.{get_or-drop, get_or-take}
 use borrow.Rule.Slice.PartMut.{put_mid}
 use Rattle.geom_core.specs.declared.color.Argb.{Argb}
-use Rattle.geom_core.specs.declared.color.TheConstants.{BLACK}
+use Rattle.geom_core.specs.Numbers.{unpainted}
 use Rattle.pixel_raster.specs.Cuts.{is_between}
 use Rattle.pixel_raster.specs.Marks.{seen_at, seen_of}
 use Rattle.pixel_raster.specs.Raster.{pixel_at}
@@ -24,7 +24,7 @@ pixel_at-next_mark mark start now width top z x y some begun inside column was =
     ∙ ap (λ (t : Bool). t && is_between z (z + 1) y) (one_column 0 x) in
     one_row_more (λ (_ : Argb). mark) (x == 0) (is_between top z y) (is_between z (z + 1) y) (is_between top (z + 1) y)
     (pixel_at width start x y) (pixel_at width now x y) _ (rows_apart top z y) (rows_more top z y begun) was
-    (get_or-written now (z * width) (y * width + x) mark BLACK inside ∙ ap (λ (t : Bool). if t then mark else pixel_at width now x y) test)
+    (get_or-written now (z * width) (y * width + x) mark unpainted inside ∙ ap (λ (t : Bool). if t then mark else pixel_at width now x y) test)
 
 -- one more row of what is changed by a rule of its own in each row
 one_row_more_by : {A : Type 0} (rule : A) (here : A) (was now next : Bool) (start old new : A) → (now ≡ true → was ≡ false) → next ≡ (was || now)
@@ -38,7 +38,7 @@ one_row_more_by rule here false false next start old new apart is same e g = rw 
 module _ (start now : List Argb) (width top z : ℕ) (begun : top ≤ z) (inside : (z + 1) * width ≤ length now)
     (was : (x y : ℕ) → x < width → pixel_at width now x y ≡ (if is_between top z y then seen_at width start x y else pixel_at width start x y)) where
   abbrev first : Argb
-  first = slice_index_or (between (z * width) ((z + 1) * width) now) 0 BLACK
+  first = slice_index_or (between (z * width) ((z + 1) * width) now) 0 unpainted
 
   not_yet : is_between top z z ≡ false
   not_yet = grind (arith, nat_tests)
@@ -48,8 +48,8 @@ module _ (start now : List Argb) (width top z : ℕ) (begun : top ≤ z) (inside
 
   first_is : 0 < width → first ≡ pixel_at width start 0 z
   first_is some =
-      get_or-take ((z + 1) * width - z * width) _ 0 BLACK (omega arith)
-      ∙ get_or-drop (z * width) now 0 BLACK
+      get_or-take ((z + 1) * width - z * width) _ 0 unpainted (omega arith)
+      ∙ get_or-drop (z * width) now 0 unpainted
       ∙ as_before 0 some
 
   rule_is : (x y : ℕ) → x < width → y ≡ z → seen_of first (pixel_at width now x y) ≡ seen_at width start x y
@@ -70,5 +70,5 @@ module _ (start now : List Argb) (width top z : ℕ) (begun : top ≤ z) (inside
       (pixel_at width start x y) (pixel_at width now x y) _ (rows_apart top z y) (rows_more top z y begun)
       (λ is. let at = between_from z (z + 1) y is in rule_is x y column (omega (arith, at.0, at.1)))
       (was x y column)
-      (get_or-mapped_run (seen_of first) now (z * width) ((z + 1) * width) (y * width + x) BLACK (omega arith) inside
+      (get_or-mapped_run (seen_of first) now (z * width) ((z + 1) * width) (y * width + x) unpainted (omega arith) inside
       ∙ ap (λ (t : Bool). if t then seen_of first (pixel_at width now x y) else pixel_at width now x y) (in_row x y column))

@@ -2,8 +2,8 @@
 use Rattle.std.specs.Prelude.{ℕ, ◌≡◌, true, false, ◌+◌, ◌*◌, ◌/◌, ◌%◌, ◌==◌, List, length, map, slice_index_or, if◌then◌else◌}
 use Rattle.std.specs.List.{range_with_len}
 use Rattle.geom_core.specs.Color.{alpha_of}
+use Rattle.geom_core.specs.Numbers.{unpainted}
 use Rattle.geom_core.specs.declared.color.Argb.{Argb}
-use Rattle.geom_core.specs.declared.color.TheConstants.{BLACK}
 use Rattle.pixel_raster.specs.Cuts.{is_between}
 use Rattle.pixel_raster.specs.Raster.{pixel_at}
 use Rattle.pixel_raster.specs.declared.marks.Band.{Band}
@@ -23,7 +23,7 @@ seen_at width pixels x y = seen_of (pixel_at width pixels 0 y) (pixel_at width p
 -- the colours that are seen of all pixels
 unfoldable pub seen_pixels : ℕ → List Argb → List Argb
 seen_pixels width pixels =
-    map (λ place. seen_of (slice_index_or pixels (place / width * width) BLACK) (slice_index_or pixels place BLACK)) (range_with_len 0 (length pixels))
+    map (λ place. seen_of (slice_index_or pixels (place / width * width) unpainted) (slice_index_or pixels place unpainted)) (range_with_len 0 (length pixels))
 
 -- none of the rows of a band is marked
 abbrev pub AreWritten : ℕ → Band → List Argb → Type 0

@@ -1,9 +1,9 @@
 -- What contracts see of a picture in memory.
 use Rattle.std.specs.Prelude.{ℕ, ℤ, pos, ◌≡◌, ◌<◌, ◌≤◌, ◌<ℤ◌, ◌≤ℤ◌, ◌+◌, ◌-◌, ◌*◌, ◌^◌, min, List, [], length, replicate, slice_index_or, if◌then◌else◌}
 use Rattle.geom_core.specs.Color.{alpha_of, blend_of}
+use Rattle.geom_core.specs.Numbers.{unpainted}
 use Rattle.geom_core.specs.Rects.{holds}
 use Rattle.geom_core.specs.declared.color.Argb.{Argb}
-use Rattle.geom_core.specs.declared.color.TheConstants.{BLACK}
 use Rattle.geom_core.specs.declared.geometry.Rect.{Rect}
 use Rattle.geom_core.specs.declared.geometry.Size.{Size}
 use Rattle.pixel_raster.specs.Cuts.{area_within, from_zero}
@@ -18,7 +18,7 @@ pub record Raster : Type 0 where
 
 -- the colour of a pixel in rows of this width
 abbrev pub pixel_at : ℕ → List Argb → ℕ → ℕ → Argb
-pixel_at width pixels x y = slice_index_or pixels (y * width + x) BLACK
+pixel_at width pixels x y = slice_index_or pixels (y * width + x) unpainted
 
 abbrev pub color_at : Raster → ℕ → ℕ → Argb
 color_at raster x y = pixel_at raster.width raster.pixels x y
@@ -28,7 +28,7 @@ abbrev pub black_raster : Size → Raster
 black_raster size = record {
   width = from_zero size.w;
   height = from_zero size.h;
-  pixels = replicate (from_zero size.w * from_zero size.h) BLACK;
+  pixels = replicate (from_zero size.w * from_zero size.h) unpainted;
   filled = 0;
 }
 
@@ -41,7 +41,7 @@ abbrev pub size_of : Raster → Size
 size_of raster = record { w = pos raster.width; h = pos raster.height }
 
 abbrev pub AllOpaque : List Argb → Type 0
-AllOpaque pixels = (place : ℕ) → alpha_of (slice_index_or pixels place BLACK) ≡ 255
+AllOpaque pixels = (place : ℕ) → alpha_of (slice_index_or pixels place unpainted) ≡ 255
 
 -- what every picture keeps
 pub record IsRaster (raster : Raster) : Type 0 where

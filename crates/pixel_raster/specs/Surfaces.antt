@@ -1,6 +1,6 @@
 -- The picture that a surface is for contracts, and what a surface keeps.
 use Rattle.std.specs.Prelude.{◌≡◌, ◌*◌, IfSome, length, replicate, true}
-use Rattle.geom_core.specs.declared.color.TheConstants.{BLACK}
+use Rattle.geom_core.specs.Numbers.{unpainted}
 use Rattle.pixel_raster.specs.Bytes.{digest_of}
 use Rattle.pixel_raster.specs.Marks.{AreWritten, seen_pixels}
 use Rattle.pixel_raster.specs.Raster.{IsRaster, Raster}
@@ -21,4 +21,4 @@ pub record IsSurface (surface : Inside) : Type 0 where
   pub raster : IsRaster (raster_of surface)
   pub unmarked : AreWritten surface.width surface.written surface.pixels.items
   pub digest : IfSome surface.digest (λ digest. digest ≡ digest_of (seen_pixels surface.width surface.pixels.items))
-  pub black : surface.black ≡ true → surface.pixels.items ≡ replicate (surface.width * surface.height) BLACK
+  pub black : surface.black ≡ true → surface.pixels.items ≡ replicate (surface.width * surface.height) unpainted

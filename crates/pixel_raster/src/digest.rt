@@ -1,6 +1,6 @@
 //! The digest of pixels, without a copy of all their bytes.
 ghost use Rattle.std.specs.Prelude.{◌≡◌, ◌≤◌, ◌*◌, ◌++◌, ℕ, List, length, map, slice_index_or, take};
-ghost use Rattle.geom_core.specs.declared.color.TheConstants.{BLACK};
+ghost use Rattle.geom_core.specs.Numbers.{unpainted};
 ghost use Rattle.sha2.specs.Hashers.{Holds256};
 ghost use Rattle.sha2.specs.Sha256.{sha256};
 ghost use Rattle.pixel_raster.specs.Bytes.{bytes_of};
@@ -28,7 +28,7 @@ pub fn digest_of(pixels: &[Argb], width: usize, height: usize) -> [u8; 32]
 /// Passes what is seen of a row to the hasher.
 fn absorb_row(hasher: &mut Sha256, row: &[Argb])
     ensures { (message : List ℕ) → Holds256 hasher.old message
-        → Holds256 hasher.new (message ++ bytes_of (map (seen_of (slice_index_or row.now 0 BLACK)) row.now)) }
+        → Holds256 hasher.new (message ++ bytes_of (map (seen_of (slice_index_or row.now 0 unpainted)) row.now)) }
 {
     let mut at = 0;
     'pieces: while at < row.len() {

@@ -2,7 +2,7 @@
 //! which no pixel has. What the other pixels of such a row hold is not seen.
 ghost use Rattle.std.specs.Prelude.{◌≡◌, ◌<◌, ◌≤◌, ◌*◌, ℕ, ◌&&◌, ◌==◌, length, map, slice_index_or, if◌then◌else◌};
 ghost use Rattle.geom_core.specs.Color.{alpha_of};
-ghost use Rattle.geom_core.specs.declared.color.TheConstants.{BLACK};
+ghost use Rattle.geom_core.specs.Numbers.{unpainted};
 ghost use Rattle.pixel_raster.specs.Cuts.{is_between};
 ghost use Rattle.pixel_raster.specs.Marks.{AreWritten, mark_of, seen_at, seen_of};
 ghost use Rattle.pixel_raster.specs.Raster.{pixel_at};
@@ -79,7 +79,7 @@ pub fn write_band(pixels: &mut [Argb], width: usize, band: Band, written: Band) 
 
 /// Writes out a row if it is marked.
 fn write_row(row: &mut [Argb])
-    ensures { row.new ≡ map (seen_of (slice_index_or row.old 0 BLACK)) row.old }
+    ensures { row.new ≡ map (seen_of (slice_index_or row.old 0 unpainted)) row.old }
 {
     if row.is_empty() {
         return;

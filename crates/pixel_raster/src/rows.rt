@@ -1,6 +1,6 @@
 //! How a colour is blended over the rows of a part of a picture.
 ghost use Rattle.std.specs.Prelude.{◌≡◌, ◌<◌, ◌≤◌, ◌*◌, ℕ, IsOk, OnErr, OnOk, length, replicate, if◌then◌else◌};
-ghost use Rattle.geom_core.specs.declared.color.TheConstants.{BLACK};
+ghost use Rattle.geom_core.specs.Numbers.{unpainted};
 ghost use Rattle.geom_core.specs.Color.{blend_of};
 ghost use Rattle.pixel_raster.specs.Cuts.{has_pixel};
 ghost use Rattle.pixel_raster.specs.Marks.{seen_at};
@@ -14,7 +14,7 @@ use std::alloc::AllocError;
 
 /// Turns the buffer into this many black pixels. It takes memory only if there are more of them than before.
 pub fn cover_black(pixels: &mut Vec<Argb>, count: usize) -> Result<(), AllocError>
-    ensures black { OnOk result (pixels.new.items ≡ replicate count BLACK) }
+    ensures black { OnOk result (pixels.new.items ≡ replicate count unpainted) }
     ensures unchanged { OnErr result (pixels.new.items ≡ pixels.old.items) }
     ensures fits { count ≤ length pixels.old.items → IsOk result }
 {

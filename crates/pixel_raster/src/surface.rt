@@ -3,7 +3,7 @@
 //! A pixel is a word of 32 bits with the alpha 255, and not three bytes: a fill writes words. A fill counts the pixels
 //! that it goes over, and not those that it changes: so work follows from rectangles, not from colours.
 ghost use Rattle.std.specs.Prelude.{◌≡◌, ◌<◌, ◌≤◌, ◌+◌, ◌-◌, ◌*◌, ◌^◌, IfOk, IsOk, OnErr, OnOk, length, min, replicate, true};
-ghost use Rattle.geom_core.specs.declared.color.TheConstants.{BLACK};
+ghost use Rattle.geom_core.specs.Numbers.{unpainted};
 ghost use Rattle.pixel_raster.specs.Bytes.{digest_of};
 ghost use Rattle.pixel_raster.specs.Cuts.{area_within, from_zero};
 ghost use Rattle.pixel_raster.specs.Raster.{Fills, IsPointOf, IsRaster, black_raster, color_at, empty_raster, size_of};
@@ -133,7 +133,7 @@ impl Surface {
     /// Whether a colour leaves each pixel as it is: it is black, and so are they all.
     fn stays_black(&self, color: Argb) -> bool
         ensures { result ≡ true
-            → (color ≡ BLACK) × (self.now.pixels ≡ replicate (self.now.width * self.now.height) BLACK) }
+            → (color ≡ unpainted) × (self.now.pixels ≡ replicate (self.now.width * self.now.height) unpainted) }
     {
         self.black && color.0 == BLACK.0
     }

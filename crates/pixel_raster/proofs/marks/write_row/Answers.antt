@@ -4,7 +4,7 @@ use Rattle.std.proofs.lemmas.Bool.Decides.{nat_tests}
 use Rattle.std.proofs.lemmas.List.{get_or_default}
 use Rattle.geom_core.specs.Color.{alpha_of}
 use Rattle.geom_core.specs.declared.color.Argb.{Argb}
-use Rattle.geom_core.specs.declared.color.TheConstants.{BLACK}
+use Rattle.geom_core.specs.Numbers.{unpainted}
 use Rattle.pixel_raster.specs.Marks.{seen_of}
 use Rattle.pixel_raster.proofs.marks.write_row.Goals as goal
 
@@ -33,14 +33,14 @@ differs n other = grind (arith, nat_tests)
 pub returns-then-alpha-eq0 : goal.returns-then-alpha-eq0
 returns-then-alpha-eq0 c =
     let row = c.args.row.now in
-    let same = get_or_default row 0 (record { 0 = 0 }) BLACK (some row (sym c.is_empty.ensures ∙ c.if-is_empty.false)) in
+    let same = get_or_default row 0 (record { 0 = 0 }) unpainted (some row (sym c.is_empty.ensures ∙ c.if-is_empty.false)) in
     c.cover_run.ensures
     ∙ ap (λ (color : Argb). map (λ (_ : Argb). color) row) (c.seen_of.ensures ∙ ap (λ (first : Argb). seen_of first first) same)
-    ∙ map-mark (get_or row 0 BLACK) (get_or row 0 BLACK) row (rw same at (sym c.alpha.ensures ∙ c.if-alpha-eq0.true))
+    ∙ map-mark (get_or row 0 unpainted) (get_or row 0 unpainted) row (rw same at (sym c.alpha.ensures ∙ c.if-alpha-eq0.true))
 
 pub returns-else-alpha-eq0 : goal.returns-else-alpha-eq0
 returns-else-alpha-eq0 c =
     let row = c.args.row.now in
-    let same = get_or_default row 0 (record { 0 = 0 }) BLACK (some row (sym c.is_empty.ensures ∙ c.if-is_empty.false)) in
-    let other : alpha_of (get_or row 0 BLACK) ≢ 0 = λ none. c.if-alpha-eq0.false (c.alpha.ensures ∙ ap (λ (first : Argb). alpha_of first) same ∙ none) in
-    sym (map-pixels (get_or row 0 BLACK) row (differs (alpha_of (get_or row 0 BLACK)) other))
+    let same = get_or_default row 0 (record { 0 = 0 }) unpainted (some row (sym c.is_empty.ensures ∙ c.if-is_empty.false)) in
+    let other : alpha_of (get_or row 0 unpainted) ≢ 0 = λ none. c.if-alpha-eq0.false (c.alpha.ensures ∙ ap (λ (first : Argb). alpha_of first) same ∙ none) in
+    sym (map-pixels (get_or row 0 unpainted) row (differs (alpha_of (get_or row 0 unpainted)) other))

@@ -1,7 +1,7 @@
 use Rattle.std.proofs.Common.{◌≡◌, suc, ◌+◌, ◌*◌, ◌<◌, ◌≤◌, ℕ, get_or, refl, sym, ap, ◌∙◌, arith, mul-le-mul_right}
 use Rattle.std.proofs.lemmas.List.{get_or_read_under}
 use Rattle.geom_core.specs.declared.color.Argb.{Argb}
-use Rattle.geom_core.specs.declared.color.TheConstants.{BLACK}
+use Rattle.geom_core.specs.Numbers.{unpainted}
 use Rattle.pixel_raster.specs.Marks.{seen_of}
 use Rattle.pixel_raster.proofs.MarkLaws.{pixel_at-seen}
 use Rattle.pixel_raster.proofs.surface.Surface.color_at.Goals as goal
@@ -32,12 +32,12 @@ returns c =
     let column : c.args.column < width = rw (← c.self.view_is) at c.requires.column in
     let row : c.args.row < c.self.inside.height = rw (← c.self.view_is) at c.requires.row in
     let start = place c.args.row 0 width c.self.inside.height _ row (omega arith) c.self.invariant.size in
-    let first : c.index.result.now ≡ get_or items (c.args.row * width + 0) BLACK =
-    get_or_read_under items (c.args.row * width) _ c.index.result.now BLACK c.index.ensures (omega (arith, start)) refl ∙ ap (λ (n : ℕ). get_or items n BLACK) (omega arith) in
-    let own = get_or_read_under items (c.args.row * width + c.args.column) _ c.index-2.result.now BLACK c.index-2.ensures
+    let first : c.index.result.now ≡ get_or items (c.args.row * width + 0) unpainted =
+    get_or_read_under items (c.args.row * width) _ c.index.result.now unpainted c.index.ensures (omega (arith, start)) refl ∙ ap (λ (n : ℕ). get_or items n unpainted) (omega arith) in
+    let own = get_or_read_under items (c.args.row * width + c.args.column) _ c.index-2.result.now unpainted c.index-2.ensures
     (place c.args.row c.args.column width c.self.inside.height _ row column c.self.invariant.size) refl in
     rw (← c.self.view_is)
     (c.seen_of.ensures
     ∙ ap (λ (first : Argb). seen_of first c.index-2.result.now) first
-    ∙ ap (λ (pixel : Argb). seen_of (get_or items (c.args.row * width + 0) BLACK) pixel) own
+    ∙ ap (λ (pixel : Argb). seen_of (get_or items (c.args.row * width + 0) unpainted) pixel) own
     ∙ sym (pixel_at-seen width c.self.inside.height items c.args.column c.args.row c.self.invariant.size column row))

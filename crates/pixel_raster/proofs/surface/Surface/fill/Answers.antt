@@ -7,7 +7,7 @@ use Rattle.geom_core.proofs.ColorLaws.{alpha_of-blend_of, blend_of-clear}
 use Rattle.pixel_raster.specs.Cuts.{has_pixel}
 use Rattle.pixel_raster.specs.Marks.{seen_pixels}
 use Rattle.pixel_raster.specs.Raster.{Raster, pixel_at}
-use Rattle.geom_core.specs.declared.color.TheConstants.{BLACK}
+use Rattle.geom_core.specs.Numbers.{unpainted}
 use Rattle.pixel_raster.proofs.BlackLaws.{black-pixel, blend_of-black}
 use Rattle.pixel_raster.proofs.CutLaws.{by_rect, by_rect-none}
 use Rattle.pixel_raster.proofs.MarkLaws.{unmarked-none}
@@ -55,7 +55,7 @@ returns-then-stays-clause-fills c =
       grew = omega arith;
     })
   where
-    stays : (test : Bool) (color was : Argb) → color ≡ BLACK → was ≡ BLACK → was ≡ (if test then blend_of color was else was)
+    stays : (test : Bool) (color was : Argb) → color ≡ unpainted → was ≡ unpainted → was ≡ (if test then blend_of color was else was)
     stays true color was black is = rw (black, is) (sym blend_of-black)
     stays false color was black is = refl
 

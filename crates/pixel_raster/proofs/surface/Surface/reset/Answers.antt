@@ -1,6 +1,6 @@
 use Rattle.std.proofs.Common.{rules, ◌≡◌, ◌*◌, ℕ, List, length, replicate, refl, ap, sym, ◌∙◌, arith}
 use Rattle.geom_core.specs.declared.color.Argb.{Argb}
-use Rattle.geom_core.specs.declared.color.TheConstants.{BLACK}
+use Rattle.geom_core.specs.Numbers.{unpainted}
 use Rattle.pixel_raster.specs.Cuts.{from_zero}
 use Rattle.pixel_raster.specs.Raster.{Raster}
 use Rattle.pixel_raster.specs.declared.surface.Surface.TheInside.{Inside}
@@ -10,14 +10,14 @@ use Rattle.pixel_raster.proofs.MarkLaws.{seen_pixels-black, unmarked-none}
 use Rattle.pixel_raster.proofs.surface.Surface.reset.Goals.{then-not-is_black+in_ok-cover_black, else-not-is_black}
 use Rattle.pixel_raster.proofs.surface.Surface.reset.Goals as goal
 
-items : (c : goal.After-self-5-1) → c.if-not-is_black.self-inside.pixels.items ≡ replicate (c.from_zero-width.result * c.from_zero-height.result) BLACK
+items : (c : goal.After-self-5-1) → c.if-not-is_black.self-inside.pixels.items ≡ replicate (c.from_zero-width.result * c.from_zero-height.result) unpainted
 items c =
     elim c.if-not-is_black.branch [
       | then-not-is_black+in_ok-cover_black w ↦ rw w.self-inside-is (search rules)
       | else-not-is_black w ↦ (let same = c.is_black.ensures w.if-not-is_black.false in
           let count : c.self.inside.width * c.self.inside.height ≡ c.from_zero-width.result * c.from_zero-height.result =
           sym c.self.invariant.size ∙ ap (λ (pixels : List Argb). length pixels) (sym c.deref.ensures.value) ∙ same.1 in
-          ap (λ (s : Inside). s.pixels.items) w.self-inside-is ∙ c.self.invariant.black same.0 ∙ ap (λ (n : ℕ). replicate n BLACK) count)
+          ap (λ (s : Inside). s.pixels.items) w.self-inside-is ∙ c.self.invariant.black same.0 ∙ ap (λ (n : ℕ). replicate n unpainted) count)
     ]
 
 pub invariant_of-self-2 : goal.invariant_of-self-2
@@ -25,7 +25,7 @@ invariant_of-self-2 c =
     let black = items c in
     let seen = seen_pixels-black c.from_zero-width.result (c.from_zero-width.result * c.from_zero-height.result) c.if-not-is_black.self-inside.pixels.items black in
     record {
-      size = rw black (length-replicate (c.from_zero-width.result * c.from_zero-height.result) BLACK);
+      size = rw black (length-replicate (c.from_zero-width.result * c.from_zero-height.result) unpainted);
       raster = black-is_raster _ _ _ seen (omega arith) (omega arith);
       unmarked = unmarked-none _ _;
       digest = elim c.if-not-is_black.branch [
@@ -42,9 +42,9 @@ invariant_of-self-2 c =
 pub returns-clause-raster : goal.returns-clause-raster
 returns-clause-raster c = (invariant_of-self-2 c).raster
 
-raster_is : (width height wide high : ℕ) (pixels : List Argb) → width ≡ wide → height ≡ high → pixels ≡ replicate (width * height) BLACK
+raster_is : (width height wide high : ℕ) (pixels : List Argb) → width ≡ wide → height ≡ high → pixels ≡ replicate (width * height) unpainted
     → (let raster : Raster = record { width = width; height = height; pixels = pixels; filled = 0 } in raster)
-    ≡ record { width = wide; height = high; pixels = replicate (wide * high) BLACK; filled = 0 }
+    ≡ record { width = wide; height = high; pixels = replicate (wide * high) unpainted; filled = 0 }
 raster_is width height wide high pixels w h is = rw (is, w, h) refl
 
 pub returns-clause-value : goal.returns-clause-value
