@@ -7,7 +7,7 @@ pub mod CommandLaws
 pub mod EditLaws
 pub mod HookExamples
 pub mod HookLaws
-pub mod LimitExamples
+pub mod NumberLaws
 pub mod OkLaws
 pub mod PartLaws
 pub mod ReadLaws

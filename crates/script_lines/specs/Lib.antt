@@ -1,3 +1,4 @@
+pub mod Numbers
 pub mod commands
 pub mod cutting
 pub mod reading

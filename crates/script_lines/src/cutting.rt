@@ -8,7 +8,7 @@
 
 ghost use Rattle.std.specs.Prelude.{◌≡◌, ◌≢◌, ℕ, ◌+◌, ◌<◌, ◌≤◌, ◌↔◌, ◌⊎◌, false, List, [], ◌++◌, length, take, drop, min, slice_index};
 ghost use Rattle.std.specs.List.{list_all, position_or_len};
-ghost use Rattle.script_lines.specs.cutting.Lines.{ArePassedOver, begins_passed, cut_of, is_line_feed, is_passed_over, is_space, last_of, lines_of, without_return};
+ghost use Rattle.script_lines.specs.cutting.Lines.{ArePassedOver, begins_passed, cut_of, is_line_feed, is_passed_over, is_space, last_of, lines_of, max_line, without_return};
 ghost use Rattle.script_lines.specs.cutting.LineBuffer.{LineBuffer, IsLent, IsAfter, lines_as, lines_at};
 ghost use Rattle.script_lines.specs.cutting.Pieces.{FeedSequence, Feed, bytes_in, lines_in};
 
@@ -206,7 +206,7 @@ impl Lines {
     /// that; empty if none has, if it is too long, and if it is in the piece.
     pub fn bytes(&self) -> &[u8]
         ensures line { result.now ≡ self.now.line }
-        ensures short { length result.now ≤ MAX_LINE }
+        ensures short { length result.now ≤ max_line }
     {
         &self.buffer[..self.line]
     }

@@ -5,7 +5,7 @@ use Rattle.std.specs.List.{filter_map, slice_split}
 use Rattle.std.proofs.Math.Bool.{or-false, or-true}
 use Rattle.std.proofs.lemmas.Bool.Decides.{nat_tests}
 use Rattle.std.proofs.lemmas.List.{append-nil}
-use Rattle.view_model.specs.declared.limits.TheConstants.{MAX_EDITS}
+use Rattle.view_model.specs.Numbers.{max_edits}
 use Rattle.script_lines.specs.reading.Gathered.{joined_after, reading_of}
 use Rattle.script_lines.specs.reading.Hooks.{asked_in, edits_of, joined, parts_edits, readings_of}
 use Rattle.script_lines.specs.declared.commands.Asked.{Asked}
@@ -47,12 +47,12 @@ unfolding joined_after
 edits_end asked left bad range = rw (readings-nil left, or-false bad, or-false range, append-nil asked) refl
 
 -- all edits are left
-pub edits_start : (edits : List (List (List ℕ))) → joined_after [] false false (readings_of MAX_EDITS edits) ≡ joined (readings_of MAX_EDITS edits)
+pub edits_start : (edits : List (List (List ℕ))) → joined_after [] false false (readings_of max_edits edits) ≡ joined (readings_of max_edits edits)
 unfolding joined_after joined
 edits_start edits = refl
 
 -- no edit is read
-pub edits_begin : (asked : List Asked) (left : ℕ) (bad range : Bool) (words : List (List ℕ)) → asked ≡ [] → left ≡ MAX_EDITS → bad ≡ false → range ≡ false
+pub edits_begin : (asked : List Asked) (left : ℕ) (bad range : Bool) (words : List (List ℕ)) → asked ≡ [] → left ≡ max_edits → bad ≡ false → range ≡ false
     → joined_after asked bad range (readings_of left (slice_split parts_edits words)) ≡ edits_of words
 unfolding edits_of
 edits_begin asked left bad range words none all good within = rw (none, all, good, within) (edits_start (slice_split parts_edits words))

@@ -21,9 +21,8 @@ use Rattle.script_lines.specs.reading.States.{is_state_text, restore_of, save_of
 use Rattle.script_lines.specs.reading.Touches.{cancel_of, pointer_of, touch_of, up_of}
 use Rattle.script_lines.specs.words.Words.{after_spaces, after_word, end_of, first_word, in_word, on_of, text_of, word_in, words}
 use Rattle.script_lines.specs.declared.commands.Asked.{Asked}
-use Rattle.script_lines.specs.declared.commands.TheConstants.{MAX_DPI, MAX_POINT, MAX_WINDOW, MIN_DPI}
+use Rattle.script_lines.specs.Numbers.{max_dpi, max_mantissa, max_point, max_window, min_dpi, min_mantissa}
 use Rattle.script_lines.specs.declared.fault.LineFault.TheVariants.{Syntax}
-use Rattle.script_lines.specs.declared.reading.resources.TheConstants.{MAX_MANTISSA, MIN_MANTISSA}
 use Rattle.script_lines.specs.declared.reading.touches.Touch.{Touch}
 use Rattle.script_lines.proofs.readings.OkLaws.{if_either, if_map, if_map_with, if_ok_more, if_then, if_then_with}
 use Rattle.script_lines.proofs.texts.WordLaws.{words_none, words_some}
@@ -67,7 +66,7 @@ given_by-short kind rest =
     if_either P (bytes_eq kind (codes "color")) _ _ (if_map P Color (last_color (words rest)) (λ _. none_short (length rest)))
     (if_either P (bytes_eq kind (codes "dimen")) _ _
     (if_then P (integer_in (words rest)) _ (λ n. if_then P (word_in n.1) _ (λ u. if_then P (unit_of u.0) _ (λ unit. if_then P (end_of u.1) _
-    (λ _. if_then P (within_of MIN_MANTISSA MAX_MANTISSA n.0) _ (λ _. none_short (length rest)))))))
+    (λ _. if_then P (within_of min_mantissa max_mantissa n.0) _ (λ _. none_short (length rest)))))))
     (if_either P (bytes_eq kind (codes "text")) _ _ (if_map_with (λ text. length text ≤ length rest) P Text (rest_of rest) (rest_of-short rest) (λ text h. h)) tt))
 
 given_of-short : (rest : List ℕ) → IfOk (given_of rest) (GivenShort (length (after_word rest)))
@@ -106,8 +105,8 @@ unfolding pixels_of part_of
 pixels_of-short n words =
     let P = Short n in
     if_then P (integer_in words) _ (λ x. if_then P (integer_in x.1) _ (λ y. if_then P (integer_in y.1) _ (λ w. if_then P (integer_in w.1) _ (λ h. if_then P (end_of h.1) _ (λ _.
-    if_then P (within_of (pos 0) MAX_POINT x.0) _ (λ left. if_then P (within_of (pos 0) MAX_POINT y.0) _ (λ top.
-    if_then P (within_of (pos 1) MAX_WINDOW w.0) _ (λ width. if_then P (within_of (pos 1) MAX_WINDOW h.0) _ (λ height.
+    if_then P (within_of (pos 0) max_point x.0) _ (λ left. if_then P (within_of (pos 0) max_point y.0) _ (λ top.
+    if_then P (within_of (pos 1) max_window w.0) _ (λ width. if_then P (within_of (pos 1) max_window h.0) _ (λ height.
     if_either P (is_small width height) _ _ (none_short n) tt)))))))))
 
 restore_of-short : (n : ℕ) (words : List (List ℕ)) → FirstShort n words → IfOk (restore_of words) (Short n)
@@ -142,8 +141,8 @@ command_by-short : (n : ℕ) (head : List ℕ) (words : List (List ℕ)) → Fir
 unfolding command_by dpi_of inflate_of add_of remove_of frame_of digest_of
 command_by-short n head words first =
     let P = Short n in
-    if_either P (bytes_eq head (codes "window")) _ _ (if_map P (λ (pair : ℤ × ℤ). Window pair.0 pair.1) (pair_of (pos 1) MAX_WINDOW words) (λ _. none_short n))
-    (if_either P (bytes_eq head (codes "dpi")) _ _ (if_then P (integer_in words) _ (λ dpi. if_then P (end_of dpi.1) _ (λ _. if_map P Dpi (natural_within MIN_DPI MAX_DPI dpi.0) (λ _. none_short n))))
+    if_either P (bytes_eq head (codes "window")) _ _ (if_map P (λ (pair : ℤ × ℤ). Window pair.0 pair.1) (pair_of (pos 1) max_window words) (λ _. none_short n))
+    (if_either P (bytes_eq head (codes "dpi")) _ _ (if_then P (integer_in words) _ (λ dpi. if_then P (end_of dpi.1) _ (λ _. if_map P Dpi (natural_within min_dpi max_dpi dpi.0) (λ _. none_short n))))
     (if_either P (bytes_eq head (codes "inflate")) _ _ (if_then P (file_name_in words) _ (λ name. if_map P (Inflate name.0) (into_of name.1) (λ _. none_short n)))
     (if_either P (bytes_eq head (codes "add")) _ _
     (if_then P (parent_in words) _ (λ parent. if_then P (word_in parent.1) _ (λ c. if_then P (class_of c.0) _ (λ class. if_map P _ (extents_of c.1) (λ _. none_short n)))))

@@ -6,7 +6,7 @@ use Rattle.std.specs.Str.{bytes_eq}
 use Rattle.std.proofs.lemmas.Int.{ints}
 use Rattle.geom_core.specs.declared.geometry.Insets.{Insets}
 use Rattle.view_model.specs.Facts.{no_gravity}
-use Rattle.view_model.specs.declared.limits.TheConstants.{MAX_INSET, MAX_SIZE, MAX_WEIGHT}
+use Rattle.view_model.specs.Numbers.{max_inset, max_size, max_weight}
 use Rattle.view_model.specs.declared.changes.Change.{Change}
 use Rattle.view_model.specs.declared.changes.Change.TheVariants as change
 use Rattle.view_model.specs.declared.placing.Across.{Across}
@@ -20,7 +20,7 @@ use Rattle.script_lines.specs.words.Gravities.{across_of, down_of, gravity_of, i
 use Rattle.script_lines.specs.words.Numbers.{IsWithin}
 use Rattle.script_lines.specs.commands.Spelled.{ChangeHasLine, HasWord, change_head, change_words, extent_text, gravity_text, insets_words, weight_words}
 use Rattle.script_lines.specs.words.Weights.{last_number, weight_of}
-use Rattle.script_lines.specs.declared.words.weights.TheConstants.{MAX_PARTS, MAX_WHOLE}
+use Rattle.script_lines.specs.Numbers.{max_parts, max_whole}
 use Rattle.script_lines.specs.declared.reading.changes.Sides.{Sides}
 use Rattle.script_lines.specs.declared.words.dimension.Dimension.{Dimension}
 use Rattle.script_lines.specs.declared.words.dimension.Dimension.TheVariants.{Match, Wrap, Pixels}
@@ -52,7 +52,7 @@ dimension_of-text (negsuc zero) h = refl
 dimension_of-text (negsuc (suc n)) h = refl
 
 extent_of-as : (z : ℤ) → IsExtent z → extent_of (dimension_as z) ≡ Ok z
-extent_of-as (pos n) h = within_of-within (pos 0) MAX_SIZE (pos n) (omega (arith, ints), h.1)
+extent_of-as (pos n) h = within_of-within (pos 0) max_size (pos n) (omega (arith, ints), h.1)
 extent_of-as (negsuc zero) h = refl
 extent_of-as (negsuc (suc zero)) h = refl
 extent_of-as (negsuc (suc (suc n))) h = absurd (omega (arith, ints, h.0))
@@ -112,7 +112,7 @@ gravity_back gravity (inr h) =
     subst P (sym h.0) (given_back gravity.across gravity.down h.1)
 
 -- sides
-side_short : (low : ℕ) (z : ℤ) → low < 2 ^ 31 → IsWithin (negsuc low) MAX_INSET z → IsShort z
+side_short : (low : ℕ) (z : ℤ) → low < 2 ^ 31 → IsWithin (negsuc low) max_inset z → IsShort z
 side_short low z l h = short_within low 1048575 z h.0 h.1 l (omega arith)
 
 abbrev sides_as : Insets → Sides
@@ -124,49 +124,49 @@ pub record AreShort (sides : Insets) : Type 0 where
   pub right : IsShort sides.right
   pub bottom : IsShort sides.bottom
 
-pub sides_short : (low : ℕ) (sides : Insets) → low < 2 ^ 31 → AreWithin (negsuc low) MAX_INSET sides → AreShort sides
+pub sides_short : (low : ℕ) (sides : Insets) → low < 2 ^ 31 → AreWithin (negsuc low) max_inset sides → AreShort sides
 sides_short low sides l h = record { left = side_short low sides.left l h.0; top = side_short low sides.top l h.1; right = side_short low sides.right l h.2; bottom = side_short low sides.bottom l h.3 }
 
 sides_of-text : (sides : Insets) → AreShort sides → sides_of (insets_words sides) ≡ Ok (sides_as sides)
 unfolding sides_of
 sides_of-text sides h = rw (integer_of-signed sides.left h.left, integer_of-signed sides.top h.top, integer_of-signed sides.right h.right, integer_of-signed sides.bottom h.bottom) refl
 
-insets_of-as : (low : ℤ) (sides : Insets) → AreWithin low MAX_INSET sides → insets_of low (sides_as sides) ≡ Ok sides
+insets_of-as : (low : ℤ) (sides : Insets) → AreWithin low max_inset sides → insets_of low (sides_as sides) ≡ Ok sides
 unfolding insets_of
 insets_of-as low sides h =
-    rw (within_of-within low MAX_INSET sides.left h.0, within_of-within low MAX_INSET sides.top h.1, within_of-within low MAX_INSET sides.right h.2, within_of-within low MAX_INSET sides.bottom h.3) refl
+    rw (within_of-within low max_inset sides.left h.0, within_of-within low max_inset sides.top h.1, within_of-within low max_inset sides.right h.2, within_of-within low max_inset sides.bottom h.3) refl
 
 sides_words : (sides : Insets) → AreShort sides → AreWords (insets_words sides)
 sides_words sides h = (signed_word sides.left h.left, (signed_word sides.top h.top, (signed_word sides.right h.right, (signed_word sides.bottom h.bottom, tt))))
 
 -- from 0 upward is from -1 upward
-from_0 : (z : ℤ) → IsWithin (pos 0) MAX_INSET z → IsWithin (negsuc 0) MAX_INSET z
+from_0 : (z : ℤ) → IsWithin (pos 0) max_inset z → IsWithin (negsuc 0) max_inset z
 from_0 z h = (omega (arith, ints, h.0), h.1)
 
-pub padding_short : (sides : Insets) → AreWithin (pos 0) MAX_INSET sides → AreShort sides
+pub padding_short : (sides : Insets) → AreWithin (pos 0) max_inset sides → AreShort sides
 padding_short sides h = sides_short 0 sides (omega arith) (from_0 sides.left h.0, from_0 sides.top h.1, from_0 sides.right h.2, from_0 sides.bottom h.3)
 
-pub size_short : (z : ℤ) → IsWithin (pos 0) MAX_SIZE z → IsShort z
+pub size_short : (z : ℤ) → IsWithin (pos 0) max_size z → IsShort z
 size_short z h = short_within 0 16777215 z (omega (arith, ints, h.0)) h.1 (omega arith) (omega arith)
 
 -- weights
-pub whole_short : (weight : ℕ) → weight ≤ MAX_WEIGHT → weight / 256 ≤ MAX_WHOLE
+pub whole_short : (weight : ℕ) → weight ≤ max_weight → weight / 256 ≤ max_whole
 whole_short weight h = omega (arith, h)
 
 pub digits_short : (n : ℕ) → n ≤ 65535 → n < 10 ^ 10
 digits_short n h = omega (arith, h)
 
-pub weight_reads_words : (weight : ℕ) → weight ≤ MAX_WEIGHT → AreWords (weight_words weight)
+pub weight_reads_words : (weight : ℕ) → weight ≤ max_weight → AreWords (weight_words weight)
 weight_reads_words weight h = (decimal_word (weight / 256) (digits_short _ (whole_short weight h)), (decimal_word (weight % 256) (digits_short _ (omega arith)), tt))
 
-pub weight_of-words : (weight : ℕ) → weight ≤ MAX_WEIGHT → weight_of (weight_words weight) ≡ Ok weight
+pub weight_of-words : (weight : ℕ) → weight ≤ max_weight → weight_of (weight_words weight) ≡ Ok weight
 unfolding weight_of last_number
 weight_of-words weight h =
     let whole = whole_short weight h in
-    let parts : weight % 256 ≤ MAX_PARTS = omega arith in
+    let parts : weight % 256 ≤ max_parts = omega arith in
     let same : weight / 256 * 256 + weight % 256 ≡ weight = omega arith in
-    rw (integer_of-signed (pos (weight / 256)) (digits_short _ whole), integer_of-signed (pos (weight % 256)) (digits_short _ (omega (arith, parts))), natural_within-within 0 MAX_WHOLE (weight / 256) (omega arith) whole, natural_within-within 0 MAX_PARTS (weight % 256) (omega arith) parts, same)
-    (natural_within-within 0 MAX_WEIGHT weight (omega arith) h)
+    rw (integer_of-signed (pos (weight / 256)) (digits_short _ whole), integer_of-signed (pos (weight % 256)) (digits_short _ (omega (arith, parts))), natural_within-within 0 max_whole (weight / 256) (omega arith) whole, natural_within-within 0 max_parts (weight % 256) (omega arith) parts, same)
+    (natural_within-within 0 max_weight weight (omega arith) h)
 
 -- words of two
 kids_word : (kids : Bool) → IsWord (if kids then codes "kids" else codes "self")
@@ -194,7 +194,7 @@ change_reads (change.Size width height) b l = record {
 change_reads (change.Min size) b l = record {
   head = word_by (codes "min") refl;
   words = (signed_word size.w (size_short size.w b.0), (signed_word size.h (size_short size.h b.1), tt));
-  value = rw (pair_of-signed (pos 0) MAX_SIZE size.w size.h (size_short size.w b.0) (size_short size.h b.1) b.0 b.1) refl;
+  value = rw (pair_of-signed (pos 0) max_size size.w size.h (size_short size.w b.0) (size_short size.h b.1) b.0 b.1) refl;
 }
 change_reads (change.Margins sides) b l =
     let h = sides_short 1048574 sides (omega arith) b in

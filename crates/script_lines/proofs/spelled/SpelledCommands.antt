@@ -3,7 +3,7 @@ use Rattle.std.proofs.Common.{◌≡◌, ℕ, ◌<◌, ◌≤◌, ◌^◌, Bool,
 use Rattle.std.specs.Prelude.{if◌then◌else◌, ℤ, pos, codes, Some, None, Ok, ◌*ℤ◌, ◌≤ℤ◌}
 use Rattle.std.specs.Fmt.{decimal, signed_decimal}
 use Rattle.std.proofs.lemmas.Int.{ints}
-use Rattle.view_model.specs.declared.limits.TheConstants.{MAX_SIZE}
+use Rattle.view_model.specs.Numbers.{max_size}
 use Rattle.view_model.specs.declared.changes.Act.{Act}
 use Rattle.view_model.specs.declared.changes.Act.TheVariants as act
 use Rattle.view_model.specs.declared.changes.Change.{Change}
@@ -28,7 +28,7 @@ use Rattle.script_lines.specs.commands.Spelled.{ActHasLine, HasLine, act_head, a
 use Rattle.script_lines.specs.reading.States.{restore_of, save_of}
 use Rattle.script_lines.specs.reading.Touches.{cancel_of, up_of}
 use Rattle.script_lines.specs.words.Words.{map_ok, on_of}
-use Rattle.script_lines.specs.declared.commands.TheConstants.{MAX_DPI, MAX_PIXELS, MAX_POINT, MAX_WINDOW, MIN_DPI}
+use Rattle.script_lines.specs.Numbers.{max_dpi, max_pixels, max_point, max_window, min_dpi}
 use Rattle.script_lines.specs.commands.PlainCommands.{PlainCommand}
 use Rattle.script_lines.specs.commands.PlainCommands as plain
 use Rattle.script_lines.specs.declared.words.naming.Name.TheVariants.{Id}
@@ -204,7 +204,7 @@ act_reads (act.Scroll offset) b l =
     record {
       head = word_by (codes "scroll") refl;
       words = (signed_word offset short, tt);
-      value = rw (integer_of-signed offset short, within_of-within (pos 0) MAX_SIZE offset b) refl;
+      value = rw (integer_of-signed offset short, within_of-within (pos 0) max_size offset b) refl;
     }
 
 -- the first words of the lines that set something are none of the others
@@ -256,20 +256,20 @@ act_no_text (act.Intercept actions) = refl
 act_no_text (act.Scroll offset) = refl
 act_no_text (act.Direction direction) = refl
 
-pub side_of_window : (z : ℤ) → IsWithin (pos 1) MAX_WINDOW z → IsShort z
+pub side_of_window : (z : ℤ) → IsWithin (pos 1) max_window z → IsShort z
 side_of_window z h = short_within 0 4096 z (omega (arith, ints, h.0)) h.1 (omega arith) (omega arith)
 
-pub dpi_short : (dpi : ℕ) → dpi ≤ MAX_DPI → dpi < 10 ^ 10
+pub dpi_short : (dpi : ℕ) → dpi ≤ max_dpi → dpi < 10 ^ 10
 dpi_short dpi h = omega (arith, h)
 
-pub point_short : (z : ℤ) → IsWithin (pos 0) MAX_POINT z → IsShort z
+pub point_short : (z : ℤ) → IsWithin (pos 0) max_point z → IsShort z
 point_short z h = short_within 0 4095 z (omega (arith, ints, h.0)) h.1 (omega arith) (omega arith)
 
 -- the four numbers of a part of the picture
 pub part_short : (x y w h : ℤ) → IsPart x y w h → AreShort (record { left = x; top = y; right = w; bottom = h })
 part_short x y w h b = record { left = point_short x b.0; top = point_short y b.1; right = side_of_window w b.2; bottom = side_of_window h b.3 }
 
-is_small-part : (w h : ℤ) → (w *ℤ h) ≤ℤ MAX_PIXELS → is_small w h ≡ true
+is_small-part : (w h : ℤ) → (w *ℤ h) ≤ℤ max_pixels → is_small w h ≡ true
 unfolding is_small
 is_small-part w h small = grind (arith, ints)
 
@@ -282,10 +282,10 @@ pixels_of-text x y w h b =
       integer_of-signed y short.top,
       integer_of-signed w short.right,
       integer_of-signed h short.bottom,
-      within_of-within (pos 0) MAX_POINT x b.0,
-      within_of-within (pos 0) MAX_POINT y b.1,
-      within_of-within (pos 1) MAX_WINDOW w b.2,
-      within_of-within (pos 1) MAX_WINDOW h b.3,
+      within_of-within (pos 0) max_point x b.0,
+      within_of-within (pos 0) max_point y b.1,
+      within_of-within (pos 1) max_window w b.2,
+      within_of-within (pos 1) max_window h b.3,
       is_small-part w h b.4,
     ) refl
 
@@ -294,11 +294,11 @@ pub command_of-spelled : (c : PlainCommand) → IsInBounds c → HasLine c → c
 unfolding command_by dpi_of inflate_of into_of add_of remove_of disallow_of up_of cancel_of frame_of bounds_of digest_of hook_of save_of restore_of set_of
 command_of-spelled (plain.Window w h) b l =
     command_of-joined (codes "window") (signed_decimal w ∷ signed_decimal h ∷ []) refl (word_by (codes "window") refl, (signed_word w (side_of_window w b.0), (signed_word h (side_of_window h b.1), tt)))
-    ∙ rw (pair_of-signed (pos 1) MAX_WINDOW w h (side_of_window w b.0) (side_of_window h b.1) b.0 b.1) refl
+    ∙ rw (pair_of-signed (pos 1) max_window w h (side_of_window w b.0) (side_of_window h b.1) b.0 b.1) refl
 command_of-spelled (plain.Dpi dpi) b l =
     let short = dpi_short dpi b.1 in
     command_of-joined (codes "dpi") (decimal dpi ∷ []) refl (word_by (codes "dpi") refl, (decimal_word dpi short, tt))
-    ∙ rw (integer_of-signed (pos dpi) short, natural_within-within MIN_DPI MAX_DPI dpi b.0 b.1) refl
+    ∙ rw (integer_of-signed (pos dpi) short, natural_within-within min_dpi max_dpi dpi b.0 b.1) refl
 command_of-spelled (plain.Res id value) b l = command_of-resource id value b.0 l.0 b.1 l.1
 command_of-spelled (plain.Inflate name None) b l =
     command_of-joined (codes "inflate") (name ∷ []) refl (word_by (codes "inflate") refl, (file_name_word name b, tt))

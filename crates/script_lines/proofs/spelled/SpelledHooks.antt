@@ -12,7 +12,7 @@ use Rattle.std.proofs.lemmas.Slice.Eq.{bytes_eq-Decides}
 use Rattle.geom_core.specs.declared.geometry.Insets.{Insets}
 use Rattle.view_model.specs.declared.changes.Change.{Change}
 use Rattle.view_model.specs.declared.changes.Change.TheVariants as change
-use Rattle.view_model.specs.declared.limits.TheConstants.{MAX_EDITS}
+use Rattle.view_model.specs.Numbers.{max_edits}
 use Rattle.view_model.specs.declared.placing.Gravity.{Gravity}
 use Rattle.script_lines.specs.reading.Changes.{IsChangeInBounds}
 use Rattle.script_lines.specs.words.Dimensions.{IsExtent, dimension_of}
@@ -183,22 +183,22 @@ reads-last : (edits : List Asked) (bad : Bool) (left : ℕ) → joined_after edi
 reads-last edits false left = edits_end edits left false false
 reads-last edits true left = edits_unmade edits left false false (codes "frame" ∷ []) [] (unmade left) ∙ edits_end edits (left - 1) true false
 
-edits_of-words : (edits : List Asked) (bad : Bool) → length edits ≤ MAX_EDITS → All EditReads edits → (bad || nat_lt 0 (length edits)) ≡ true → edits_of (edits_words (hook_edits edits bad)) ≡ Ok (edits, bad)
+edits_of-words : (edits : List Asked) (bad : Bool) → length edits ≤ max_edits → All EditReads edits → (bad || nat_lt 0 (length edits)) ≡ true → edits_of (edits_words (hook_edits edits bad)) ≡ Ok (edits, bad)
 unfolding edits_of
 edits_of-words edits bad most reads some =
     let P = λ (words : List (List ℕ)). All (λ word. parts_edits word ≡ false) words in
     let apart = hook_edits-all P (λ asked r. r.whole) (All-cons (λ word. parts_edits word ≡ false) (codes "frame") [] refl (λ k d short. absurd (omega (arith, short)))) edits bad reads in
-    ap (λ parts. joined (readings_of MAX_EDITS parts)) (parts-joined (hook_edits edits bad) (hook_edits-some edits bad some) apart)
+    ap (λ parts. joined (readings_of max_edits parts)) (parts-joined (hook_edits edits bad) (hook_edits-some edits bad some) apart)
     ∙ sym (edits_start (hook_edits edits bad))
-    ∙ reads-then edits [] MAX_EDITS (unmade_edits bad) most reads
-    ∙ reads-last edits bad (MAX_EDITS - length edits)
+    ∙ reads-then edits [] max_edits (unmade_edits bad) most reads
+    ∙ reads-last edits bad (max_edits - length edits)
 
 -- the edits of a hook, read from its text
 pub record HookReads (edits : List Asked) (bad : Bool) : Type 0 where
   pub words : AreWords (edits_words (hook_edits edits bad))
   pub value : edits_of (edits_words (hook_edits edits bad)) ≡ Ok (edits, bad)
 
-pub hook_reads : (edits : List Asked) (bad : Bool) → length edits ≤ MAX_EDITS → All (λ asked. IsChangeInBounds asked.change) edits → All AskedHasLine edits → (bad || nat_lt 0 (length edits)) ≡ true
+pub hook_reads : (edits : List Asked) (bad : Bool) → length edits ≤ max_edits → All (λ asked. IsChangeInBounds asked.change) edits → All AskedHasLine edits → (bad || nat_lt 0 (length edits)) ≡ true
     → HookReads edits bad
 hook_reads edits bad most b l some =
     let reads : All EditReads edits = λ k d short. edit_reads _ (b k d short) (l k d short) in

@@ -19,7 +19,7 @@ use Rattle.script_lines.specs.words.Words.{text_of}
 use Rattle.script_lines.specs.declared.words.naming.Name.TheVariants.{Id}
 use Rattle.script_lines.specs.declared.reading.resources.LengthUnit.{LengthUnit}
 use Rattle.script_lines.specs.declared.reading.resources.LengthUnit.TheVariants.{Px, Dp, Sp, Pt, In, Mm}
-use Rattle.script_lines.specs.declared.reading.resources.TheConstants.{MAX_MANTISSA, MIN_MANTISSA}
+use Rattle.script_lines.specs.Numbers.{max_mantissa, min_mantissa}
 use Rattle.script_lines.proofs.spelled.SpelledColors.{color_of-text, color_word}
 use Rattle.script_lines.proofs.spelled.SpelledNames.{id_of-text, name_word}
 use Rattle.script_lines.proofs.spelled.SpelledNumbers.{differs, integer_of-signed, short_within, signed_word, within_of-within}
@@ -56,7 +56,7 @@ pub dimen_word-unit : (n : ℤ) (unit : LengthUnit) → dimen_word n unit % 256 
 unfolding dimen_word
 dimen_word-unit n unit = omega (arith, unit_below unit)
 
-pub mantissa-dimen : (n : ℤ) (unit : LengthUnit) → IsWithin MIN_MANTISSA MAX_MANTISSA n → mantissa (dimen_word n unit) ≡ n
+pub mantissa-dimen : (n : ℤ) (unit : LengthUnit) → IsWithin min_mantissa max_mantissa n → mantissa (dimen_word n unit) ≡ n
 unfolding mantissa dimen_word
 mantissa-dimen (pos n) unit h =
     let less : n < 8388608 = omega (arith, ints, h.1) in
@@ -97,7 +97,7 @@ joined_resource id kind rest value some below word utf8 given =
     rw (text, words-before (codes "res") more res_word, after_word-before (codes "res") more res_word)
     (res_before id (kind ++ 32 ∷ rest) value some below (given_before kind rest word ∙ given))
 
-dimen_back : (id : ℕ) (n : ℤ) (unit : LengthUnit) → 0 < id → id < 2 ^ 32 → IsWithin MIN_MANTISSA MAX_MANTISSA n
+dimen_back : (id : ℕ) (n : ℤ) (unit : LengthUnit) → 0 < id → id < 2 ^ 32 → IsWithin min_mantissa max_mantissa n
     → command_of (join_with_byte 32 (codes "res" ∷ name_text (Id id) ∷ given_words (Dimen (dimen_word n unit)))) ≡ Ok (Res id (Dimen (dimen_word n unit)))
 unfolding given_by dimen_given
 dimen_back id n unit some below within =
@@ -105,7 +105,7 @@ dimen_back id n unit some below within =
     let ws : List (List ℕ) = signed_decimal n ∷ unit_text (unit_number unit) ∷ [] in
     let are : AreWords ws = (signed_word n short, (unit_word unit, tt)) in
     let given : given_by (codes "dimen") (32 ∷ join_with_byte 32 ws) ≡ Ok (Dimen (dimen_word n unit)) =
-    rw (word_space 32 (join_with_byte 32 ws) refl, words-joined ws are, integer_of-signed n short, unit_of-number unit, within_of-within MIN_MANTISSA MAX_MANTISSA n within) refl in
+    rw (word_space 32 (join_with_byte 32 ws) refl, words-joined ws are, integer_of-signed n short, unit_of-number unit, within_of-within min_mantissa max_mantissa n within) refl in
     rw (mantissa-dimen n unit within, dimen_word-unit n unit) (joined_resource id (codes "dimen") (join_with_byte 32 ws) (Dimen (dimen_word n unit)) some below (word_by (codes "dimen") refl) (joined_text ws are) given)
 
 pub command_of-resource : (id : ℕ) (value : PlainGiven) → 0 < id → id < 2 ^ 32 → IsGivenInBounds value → GivenHasLine value

@@ -4,18 +4,18 @@ use Rattle.std.specs.Prelude.{ℤ, pos, Ok}
 use Rattle.script_lines.specs.words.Numbers.{IsWithin}
 use Rattle.script_lines.specs.commands.Spelled.{touch_words}
 use Rattle.script_lines.specs.reading.Touches.{IsTouchInBounds, pointer_of, touch_of}
-use Rattle.script_lines.specs.declared.commands.TheConstants.{MAX_POINTER, MAX_TOUCH, MIN_TOUCH}
+use Rattle.script_lines.specs.Numbers.{max_pointer, max_touch, min_touch}
 use Rattle.script_lines.proofs.spelled.SpelledNumbers.{IsShort, decimal_word, integer_of-signed, natural_within-within, short_within, signed_word, within_of-within}
 use Rattle.script_lines.proofs.spelled.SpelledWords.{AreWords}
 
-pub pointer_short : (p : ℕ) → p ≤ MAX_POINTER → p < 10 ^ 10
+pub pointer_short : (p : ℕ) → p ≤ max_pointer → p < 10 ^ 10
 pointer_short p h = omega (arith, h)
 
-pub pointer_of-id : (p : ℕ) → p ≤ MAX_POINTER → pointer_of (pos p) ≡ Ok p
+pub pointer_of-id : (p : ℕ) → p ≤ max_pointer → pointer_of (pos p) ≡ Ok p
 unfolding pointer_of
-pointer_of-id p h = natural_within-within 0 MAX_POINTER p (omega arith) h
+pointer_of-id p h = natural_within-within 0 max_pointer p (omega arith) h
 
-coordinate_short : (z : ℤ) → IsWithin MIN_TOUCH MAX_TOUCH z → IsShort z
+coordinate_short : (z : ℤ) → IsWithin min_touch max_touch z → IsShort z
 coordinate_short z h = short_within 1048575 1048576 z h.0 h.1 (omega arith) (omega arith)
 
 pub touch_reads_words : (p : ℕ) (x y : ℤ) → IsTouchInBounds p x y → AreWords (touch_words p x y)
@@ -29,6 +29,6 @@ touch_of-words p x y b =
       integer_of-signed x (coordinate_short x b.1),
       integer_of-signed y (coordinate_short y b.2),
       pointer_of-id p b.0,
-      within_of-within MIN_TOUCH MAX_TOUCH x b.1,
-      within_of-within MIN_TOUCH MAX_TOUCH y b.2,
+      within_of-within min_touch max_touch x b.1,
+      within_of-within min_touch max_touch y b.2,
     ) refl

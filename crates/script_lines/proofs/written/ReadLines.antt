@@ -12,7 +12,7 @@ use Rattle.view_model.specs.declared.changes.Act.{Act}
 use Rattle.view_model.specs.declared.changes.Act.TheVariants as act
 use Rattle.view_model.specs.declared.changes.Change.{Change}
 use Rattle.view_model.specs.declared.changes.Change.TheVariants as change
-use Rattle.view_model.specs.declared.limits.TheConstants.{MAX_EDITS}
+use Rattle.view_model.specs.Numbers.{max_edits}
 use Rattle.script_lines.specs.reading.Changes.{IsActInBounds, IsChangeInBounds, act_of, change_of, gravity_change_of, new_id_of}
 use Rattle.script_lines.specs.reading.Commands.{IsInBounds, add_of, bounds_of, command_by, command_in, command_of, digest_of, disallow_of, dpi_of, frame_of, inflate_of, into_of, remove_of, set_of, set_text_of}
 use Rattle.script_lines.specs.words.Escapes.{escaped_text_of, has_escapes, rest_of}
@@ -29,13 +29,12 @@ use Rattle.script_lines.specs.reading.Touches.{cancel_of, up_of}
 use Rattle.script_lines.specs.words.Words.{after_word, first_word, text_of, words}
 use Rattle.script_lines.specs.commands.Written.{AreActWords, AreChangeWords, AreEditWords, AreEdits, AreUnmadeWords, IsGivenBy, IsHexWord, IsNameWord, IsRuleWord, IsWritten}
 use Rattle.script_lines.specs.declared.commands.Asked.{Asked}
-use Rattle.script_lines.specs.declared.commands.TheConstants.{MAX_DPI, MAX_WINDOW, MIN_DPI}
+use Rattle.script_lines.specs.Numbers.{max_dpi, max_mantissa, max_window, min_dpi, min_mantissa}
 use Rattle.script_lines.specs.declared.fault.LineFault.{LineFault}
 use Rattle.script_lines.specs.declared.fault.LineFault.TheVariants.{Syntax, Range}
 use Rattle.script_lines.specs.declared.words.naming.Name.{Name}
 use Rattle.script_lines.specs.declared.words.naming.Name.TheVariants.{Number, Id}
 use Rattle.script_lines.specs.declared.reading.resources.LengthUnit.{LengthUnit}
-use Rattle.script_lines.specs.declared.reading.resources.TheConstants.{MAX_MANTISSA, MIN_MANTISSA}
 use Rattle.script_lines.proofs.written.ReadWords.{actions_of-read, answer_in-read, gravity_of-read, id_of-read, last_color-read, name_of-read, parent_of-read, weight_of-read}
 use Rattle.script_lines.proofs.spelled.SpelledChanges.{change_reads, extents_of-text, kids_of-text}
 use Rattle.script_lines.proofs.spelled.SpelledCommands.{act_no_text, act_of-change, act_reads, class_of-text, command_by-act, dpi_short, on_of-text, pixels_of-text, side_of_window}
@@ -180,9 +179,9 @@ edits_read (suc left) (part ∷ parts) edits bad b (inr (others, is, h, rest)) =
     ∙ joined_none (readings_of left parts) edits others (edits_read left parts edits others b (rw (one_less left) at rest))
     ∙ ap (λ bad. Ok (edits, bad)) (sym is)
 
-edits_of-read : (ws : List (List ℕ)) (edits : List Asked) (bad : Bool) → AreBounded edits → AreEdits MAX_EDITS edits bad (slice_split parts_edits ws) → edits_of ws ≡ Ok (edits, bad)
+edits_of-read : (ws : List (List ℕ)) (edits : List Asked) (bad : Bool) → AreBounded edits → AreEdits max_edits edits bad (slice_split parts_edits ws) → edits_of ws ≡ Ok (edits, bad)
 unfolding edits_of
-edits_of-read ws edits bad b h = edits_read MAX_EDITS (slice_split parts_edits ws) edits bad b h
+edits_of-read ws edits bad b h = edits_read max_edits (slice_split parts_edits ws) edits bad b h
 
 -- texts
 rest_of-read : (bytes text : List ℕ) → bytes ≡ 32 ∷ text → has_escapes text ≡ true → is_utf8 text ≡ true → rest_of bytes ≡ Ok text
@@ -206,11 +205,11 @@ set_text-read rest view text name are escapes utf8 =
     rw (begins_with-word rest (first_word rest) refl (name_some view (first_word rest) name), name_of-read view (first_word rest) name, rest_of-read (after_word rest) text are escapes utf8) refl
 
 -- the values of resources
-dimen_given-read : (n : ℤ) (unit : LengthUnit) → IsWithin MIN_MANTISSA MAX_MANTISSA n → dimen_given (signed_decimal n ∷ unit_text (unit_number unit) ∷ []) ≡ Ok (plain.Dimen (dimen_word n unit))
+dimen_given-read : (n : ℤ) (unit : LengthUnit) → IsWithin min_mantissa max_mantissa n → dimen_given (signed_decimal n ∷ unit_text (unit_number unit) ∷ []) ≡ Ok (plain.Dimen (dimen_word n unit))
 unfolding dimen_given
 dimen_given-read n unit within =
     let short = short_within 8388606 8388607 n within.0 within.1 (omega arith) (omega arith) in
-    rw (integer_of-signed n short, unit_of-number unit, within_of-within MIN_MANTISSA MAX_MANTISSA n within) refl
+    rw (integer_of-signed n short, unit_of-number unit, within_of-within min_mantissa max_mantissa n within) refl
 
 given_of-by : (bytes kind : List ℕ) (ws : List (List ℕ)) → words bytes ≡ kind ∷ ws → given_of bytes ≡ given_by kind (after_word bytes)
 unfolding given_of
@@ -219,7 +218,7 @@ given_of-by bytes kind ws all = rw all refl
 words_after : (bytes kind : List ℕ) (ws : List (List ℕ)) → words bytes ≡ kind ∷ ws → words (after_word bytes) ≡ ws
 words_after bytes kind ws all = let h = (line_begins bytes kind ws all).all in let e : kind ∷ words (after_word bytes) ≡ kind ∷ ws = sym h ∙ all in cc
 
-dimen_words : (word : ℕ) (n : ℤ) (unit : LengthUnit) (bytes : List ℕ) → IsWithin MIN_MANTISSA MAX_MANTISSA n → word ≡ dimen_word n unit → IsGivenBy (plain.Dimen word) bytes
+dimen_words : (word : ℕ) (n : ℤ) (unit : LengthUnit) (bytes : List ℕ) → IsWithin min_mantissa max_mantissa n → word ≡ dimen_word n unit → IsGivenBy (plain.Dimen word) bytes
     → words bytes ≡ codes "dimen" ∷ signed_decimal n ∷ unit_text (unit_number unit) ∷ []
 dimen_words word n unit bytes within e all = let h : IsGivenBy (plain.Dimen (dimen_word n unit)) bytes = rw e at all in h ∙ rw (mantissa-dimen n unit within, dimen_word-unit n unit) refl
 
@@ -261,9 +260,9 @@ res_line line utf8 first = rw (utf8, begins_with-word line (codes "res") first (
 pub command_of-given : (c : PlainCommand) (line : List ℕ) → is_utf8 line ≡ true → IsInBounds c → IsWritten c line → command_of line ≡ Ok c
 unfolding command_by dpi_of inflate_of into_of add_of remove_of disallow_of up_of cancel_of frame_of bounds_of digest_of hook_of save_of restore_of set_of
 command_of-given (plain.Window w h) line utf8 b (ws, all, are) =
-    read_line line (codes "window") ws utf8 refl all ∙ rw (are, pair_of-signed (pos 1) MAX_WINDOW w h (side_of_window w b.0) (side_of_window h b.1) b.0 b.1) refl
+    read_line line (codes "window") ws utf8 refl all ∙ rw (are, pair_of-signed (pos 1) max_window w h (side_of_window w b.0) (side_of_window h b.1) b.0 b.1) refl
 command_of-given (plain.Dpi dpi) line utf8 b (ws, all, are) =
-    read_line line (codes "dpi") ws utf8 refl all ∙ rw (are, integer_of-signed (pos dpi) (dpi_short dpi b.1), natural_within-within MIN_DPI MAX_DPI dpi b.0 b.1) refl
+    read_line line (codes "dpi") ws utf8 refl all ∙ rw (are, integer_of-signed (pos dpi) (dpi_short dpi b.1), natural_within-within min_dpi max_dpi dpi b.0 b.1) refl
 command_of-given (plain.Res id value) line utf8 b (first, name, given) = res_line line utf8 first ∙ res_of-read (after_word line) id value b.0 b.1 name given
 command_of-given (plain.Inflate name None) line utf8 b (ws, all, are) = read_line line (codes "inflate") ws utf8 refl all ∙ rw (are, b) refl
 command_of-given (plain.Inflate name (Some view)) line utf8 b (ws, all, (word, are, h)) = read_line line (codes "inflate") ws utf8 refl all ∙ rw (are, b, name_of-read view word h) refl

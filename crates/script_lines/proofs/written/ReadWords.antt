@@ -9,7 +9,7 @@ use Rattle.std.proofs.lemmas.Bool.Decides.{nat_tests}
 use Rattle.std.proofs.lemmas.List.Elements.{All-head, All-tail}
 use Rattle.std.proofs.lemmas.Slice.Eq.{bytes_eq-Decides}
 use Rattle.geom_core.specs.declared.color.Argb.{Argb}
-use Rattle.view_model.specs.declared.limits.TheConstants.{MAX_WEIGHT}
+use Rattle.view_model.specs.Numbers.{max_weight}
 use Rattle.view_model.specs.declared.placing.Across.{Across}
 use Rattle.view_model.specs.declared.placing.Across.TheVariants as across
 use Rattle.view_model.specs.declared.placing.Down.{Down}
@@ -26,7 +26,7 @@ use Rattle.script_lines.specs.words.Words.{on_of}
 use Rattle.script_lines.specs.commands.Written.{AreInterceptWords, AreWeightWords, IsColorWord, IsGravityWord, IsHexWord, IsNameWord, IsParentWord, IsPlaceWord, PlaceWord, place_word, place_words}
 use Rattle.script_lines.specs.declared.words.naming.Name.{Name}
 use Rattle.script_lines.specs.declared.words.naming.Name.TheVariants.{Number, Id}
-use Rattle.script_lines.specs.declared.words.weights.TheConstants.{MAX_PARTS, MAX_WHOLE}
+use Rattle.script_lines.specs.Numbers.{max_parts, max_whole}
 use Rattle.script_lines.proofs.spelled.SpelledChanges.{digits_short, weight_of-words, whole_short}
 use Rattle.script_lines.proofs.spelled.SpelledNames.{name_of-text}
 use Rattle.script_lines.proofs.spelled.SpelledNumbers.{and-no, integer_of-signed, natural_within-within}
@@ -81,14 +81,14 @@ unfolding last_color
 last_color-read color word h = rw (color_of-read color word h) refl
 
 -- weights
-pub weight_of-read : (weight : ℕ) (ws : List (List ℕ)) → weight ≤ MAX_WEIGHT → AreWeightWords weight ws → weight_of ws ≡ Ok weight
+pub weight_of-read : (weight : ℕ) (ws : List (List ℕ)) → weight ≤ max_weight → AreWeightWords weight ws → weight_of ws ≡ Ok weight
 unfolding weight_of last_number
 weight_of-read weight ws most (inl are) = rw are (weight_of-words weight most)
 weight_of-read weight ws most (inr (whole, are)) =
     let high = whole_short weight most in
     let same : weight / 256 * 256 + 0 ≡ weight = omega (arith, whole) in
-    rw (are, integer_of-signed (pos (weight / 256)) (digits_short _ high), natural_within-within 0 MAX_WHOLE (weight / 256) (omega arith) high, natural_within-within 0 MAX_PARTS 0 (omega arith) (omega arith), same)
-    (natural_within-within 0 MAX_WEIGHT weight (omega arith) most)
+    rw (are, integer_of-signed (pos (weight / 256)) (digits_short _ high), natural_within-within 0 max_whole (weight / 256) (omega arith) high, natural_within-within 0 max_parts 0 (omega arith) (omega arith), same)
+    (natural_within-within 0 max_weight weight (omega arith) most)
 
 -- gravities
 -- what reading makes of a word of the table

@@ -15,7 +15,7 @@ use Rattle.view_model.specs.declared.changes.Act.{Act}
 use Rattle.view_model.specs.declared.changes.Act.TheVariants as act
 use Rattle.view_model.specs.declared.changes.Change.{Change}
 use Rattle.view_model.specs.declared.changes.Change.TheVariants as change
-use Rattle.view_model.specs.declared.limits.TheConstants.{MAX_INSET, MAX_SIZE, MAX_WEIGHT, MIN_MARGIN}
+use Rattle.view_model.specs.Numbers.{max_inset, max_size, max_weight, min_margin}
 use Rattle.view_model.specs.declared.placing.Across.{Across}
 use Rattle.view_model.specs.declared.placing.Down.{Down}
 use Rattle.view_model.specs.declared.placing.Gravity.{Gravity}
@@ -35,7 +35,7 @@ use Rattle.script_lines.specs.declared.reading.changes.Sides.{Sides}
 use Rattle.script_lines.specs.declared.words.dimension.Dimension.{Dimension}
 use Rattle.script_lines.specs.declared.words.dimension.Dimension.TheVariants.{Pixels}
 use Rattle.script_lines.specs.declared.fault.LineFault.{LineFault}
-use Rattle.script_lines.specs.declared.words.weights.TheConstants.{MAX_PARTS, MAX_WHOLE}
+use Rattle.script_lines.specs.Numbers.{max_parts, max_whole}
 use Rattle.script_lines.proofs.texts.BarLaws.{after_fault}
 use Rattle.script_lines.proofs.readings.OkLaws.{if_map_with, if_ok_more, if_same, if_test, if_then_with, if_word}
 use Rattle.script_lines.proofs.written.WrittenWords.{FirstWord, answer_named-written, direction_named-written, end_of-written, flag_named-written, id_in-written, integer_in-written, integer_of-written, kids_of-written, last_color-written, on_of-written, starts, verb_of-written, vertical_of-written, visibility_of-written, word_in-written}
@@ -65,12 +65,12 @@ pair_of-written low high ws =
 abbrev IsDimensionWord : Dimension → List ℕ → Type 0
 IsDimensionWord dimension word = (z : ℤ) → extent_of dimension ≡ Ok z → word ≡ extent_text z
 
-pixels_word : (n z : ℤ) → (n ≡ z) × IsWithin (pos 0) MAX_SIZE z → signed_decimal n ≡ extent_text z
+pixels_word : (n z : ℤ) → (n ≡ z) × IsWithin (pos 0) max_size z → signed_decimal n ≡ extent_text z
 pixels_word n (pos z) h = ap signed_decimal h.0
 pixels_word n (negsuc z) h = absurd (omega (arith, ints, h.1.0))
 
 pixels-extent : (n z : ℤ) → extent_of (Pixels n) ≡ Ok z → signed_decimal n ≡ extent_text z
-pixels-extent n z e = let h : IfOk {E = LineFault} (Ok z) (λ z. (n ≡ z) × IsWithin (pos 0) MAX_SIZE z) = rw e at (within_of-written (pos 0) MAX_SIZE n) in pixels_word n z h
+pixels-extent n z e = let h : IfOk {E = LineFault} (Ok z) (λ z. (n ≡ z) × IsWithin (pos 0) max_size z) = rw e at (within_of-written (pos 0) max_size n) in pixels_word n z h
 
 dimension_of-written : (word : List ℕ) → IfOk (dimension_of word) (λ dimension. IsDimensionWord dimension word)
 unfolding dimension_of
@@ -116,12 +116,12 @@ sides_of-written ws =
 insets_of-written : (low : ℤ) (sides : Sides) → IfOk (insets_of low sides) (AreSides sides)
 unfolding insets_of
 insets_of-written low sides =
-    let Q = λ (n z : ℤ). (n ≡ z) × IsWithin low MAX_INSET z in
+    let Q = λ (n z : ℤ). (n ≡ z) × IsWithin low max_inset z in
     let P = AreSides sides in
-    if_then_with (Q sides.left) P (within_of low MAX_INSET sides.left) _ (within_of-written low MAX_INSET sides.left) (λ left a.
-    if_then_with (Q sides.top) P (within_of low MAX_INSET sides.top) _ (within_of-written low MAX_INSET sides.top) (λ top b.
-    if_then_with (Q sides.right) P (within_of low MAX_INSET sides.right) _ (within_of-written low MAX_INSET sides.right) (λ right c.
-    if_then_with (Q sides.bottom) P (within_of low MAX_INSET sides.bottom) _ (within_of-written low MAX_INSET sides.bottom) (λ bottom d. (a.0, b.0, c.0, d.0)))))
+    if_then_with (Q sides.left) P (within_of low max_inset sides.left) _ (within_of-written low max_inset sides.left) (λ left a.
+    if_then_with (Q sides.top) P (within_of low max_inset sides.top) _ (within_of-written low max_inset sides.top) (λ top b.
+    if_then_with (Q sides.right) P (within_of low max_inset sides.right) _ (within_of-written low max_inset sides.right) (λ right c.
+    if_then_with (Q sides.bottom) P (within_of low max_inset sides.bottom) _ (within_of-written low max_inset sides.bottom) (λ bottom d. (a.0, b.0, c.0, d.0)))))
 
 insets_words-written : (low : ℤ) (ws : List (List ℕ)) (sides : Sides)
     → ws ≡ signed_decimal sides.left ∷ signed_decimal sides.top ∷ signed_decimal sides.right ∷ signed_decimal sides.bottom ∷ []
@@ -139,7 +139,7 @@ last_number-written (word ∷ ws) =
     if_then_with (λ _. k.1 ≡ []) P (end_of k.1) _ (end_of-written k.1) (λ _ end. inr (are ∙ ap (λ more. signed_decimal k.0 ∷ more) end)))
 
 weight_words-written : (ws more : List (List ℕ)) (n k : ℤ) (whole parts weight : ℕ) → ws ≡ signed_decimal n ∷ more → ((more ≡ []) × (k ≡ pos 0)) ⊎ (more ≡ signed_decimal k ∷ [])
-    → n ≡ pos whole → k ≡ pos parts → parts ≤ MAX_PARTS → pos (whole * 256 + parts) ≡ pos weight → AreWeightWords weight ws
+    → n ≡ pos whole → k ≡ pos parts → parts ≤ max_parts → pos (whole * 256 + parts) ≡ pos weight → AreWeightWords weight ws
 weight_words-written ws more n k whole parts weight are (inl last) w p few e =
     let same : whole * 256 + parts ≡ weight = cc in
     let zero : pos 0 ≡ pos parts = sym last.1 ∙ p in
@@ -158,9 +158,9 @@ weight_of-written ws =
     let P = λ (weight : ℕ). AreWeightWords weight ws in
     if_then_with (λ (r : ℤ × List (List ℕ)). ws ≡ signed_decimal r.0 ∷ r.1) P (integer_in ws) _ (integer_in-written ws) (λ n are.
     if_then_with (λ k. ((n.1 ≡ []) × (k ≡ pos 0)) ⊎ (n.1 ≡ signed_decimal k ∷ [])) P (last_number n.1) _ (last_number-written n.1) (λ k more.
-    if_then_with (λ m. (n.0 ≡ pos m) × (0 ≤ m) × (m ≤ MAX_WHOLE)) P (natural_within 0 MAX_WHOLE n.0) _ (natural_within-written 0 MAX_WHOLE n.0) (λ whole w.
-    if_then_with (λ m. (k ≡ pos m) × (0 ≤ m) × (m ≤ MAX_PARTS)) P (natural_within 0 MAX_PARTS k) _ (natural_within-written 0 MAX_PARTS k) (λ parts p.
-    if_ok_more (λ m. (pos (whole * 256 + parts) ≡ pos m) × (0 ≤ m) × (m ≤ MAX_WEIGHT)) P (natural_within 0 MAX_WEIGHT (pos (whole * 256 + parts))) (natural_within-written 0 MAX_WEIGHT (pos (whole * 256 + parts)))
+    if_then_with (λ m. (n.0 ≡ pos m) × (0 ≤ m) × (m ≤ max_whole)) P (natural_within 0 max_whole n.0) _ (natural_within-written 0 max_whole n.0) (λ whole w.
+    if_then_with (λ m. (k ≡ pos m) × (0 ≤ m) × (m ≤ max_parts)) P (natural_within 0 max_parts k) _ (natural_within-written 0 max_parts k) (λ parts p.
+    if_ok_more (λ m. (pos (whole * 256 + parts) ≡ pos m) × (0 ≤ m) × (m ≤ max_weight)) P (natural_within 0 max_weight (pos (whole * 256 + parts))) (natural_within-written 0 max_weight (pos (whole * 256 + parts)))
     (λ weight e. weight_words-written ws n.1 n.0 k whole parts weight are more w.0 p.0 p.2 e.0)))))
 
 -- gravities
@@ -361,8 +361,8 @@ change_of-written head ws =
     if_then_with (λ (sides : Sides). ws ≡ signed_decimal sides.left ∷ signed_decimal sides.top ∷ signed_decimal sides.right ∷ signed_decimal sides.bottom ∷ []) P (sides_of ws) _ (sides_of-written ws)
     (λ sides are. if_map_with (λ insets. ws ≡ insets_words insets) P make (insets_of low sides) (insets_words-written low ws sides are) each) in
     if_word P head (codes "size") _ _ (λ e. if_map_with (λ (extents : ℤ × ℤ). ws ≡ extent_text extents.0 ∷ extent_text extents.1 ∷ []) P _ (extents_of ws) (extents_of-written ws) (λ extents h. (e, h)))
-    (if_word P head (codes "min") _ _ (λ e. if_map_with (λ (pair : ℤ × ℤ). ws ≡ signed_decimal pair.0 ∷ signed_decimal pair.1 ∷ []) P _ (pair_of (pos 0) MAX_SIZE ws) (pair_of-written (pos 0) MAX_SIZE ws) (λ pair h. (e, h)))
-    (if_word P head (codes "margins") _ _ (λ e. sides MIN_MARGIN change.Margins (λ insets h. (e, h)))
+    (if_word P head (codes "min") _ _ (λ e. if_map_with (λ (pair : ℤ × ℤ). ws ≡ signed_decimal pair.0 ∷ signed_decimal pair.1 ∷ []) P _ (pair_of (pos 0) max_size ws) (pair_of-written (pos 0) max_size ws) (λ pair h. (e, h)))
+    (if_word P head (codes "margins") _ _ (λ e. sides min_margin change.Margins (λ insets h. (e, h)))
     (if_word P head (codes "padding") _ _ (λ e. sides (pos 0) change.Padding (λ insets h. (e, h)))
     (if_word P head (codes "weight") _ _ (λ e. if_map_with (λ weight. AreWeightWords weight ws) P change.Weight (weight_of ws) (weight_of-written ws) (λ weight h. (e, h)))
     (if_word P head (codes "gravity") _ _ (λ e. if_ok_more (AreChange (codes "gravity") ws) P (gravity_change_of ws) (gravity_change_of-written ws) (λ change h. (e ∙ h.0, h.1)))
@@ -393,7 +393,7 @@ scroll_of-written ws =
     let P = AreAct (codes "scroll") ws in
     if_then_with (λ (r : ℤ × List (List ℕ)). ws ≡ signed_decimal r.0 ∷ r.1) P (integer_in ws) _ (integer_in-written ws) (λ y are.
     if_then_with (λ _. y.1 ≡ []) P (end_of y.1) _ (end_of-written y.1) (λ _ end.
-    if_map_with (λ z. (y.0 ≡ z) × IsWithin (pos 0) MAX_SIZE z) P act.Scroll (within_of (pos 0) MAX_SIZE y.0) (within_of-written (pos 0) MAX_SIZE y.0) (λ offset h. (refl, are ∙ rw (h.0, end) refl))))
+    if_map_with (λ z. (y.0 ≡ z) × IsWithin (pos 0) max_size z) P act.Scroll (within_of (pos 0) max_size y.0) (within_of-written (pos 0) max_size y.0) (λ offset h. (refl, are ∙ rw (h.0, end) refl))))
 
 new_id_of-written : (ws : List (List ℕ)) → IfOk (new_id_of ws) (AreAct (codes "id") ws)
 unfolding new_id_of

@@ -7,7 +7,7 @@ use Rattle.std.specs.Str.{is_utf8}
 use Rattle.std.proofs.lemmas.Bool.{cases_Bool, cases_lt}
 use Rattle.std.proofs.lemmas.Bool.Decides.{nat_tests}
 use Rattle.view_model.specs.declared.changes.Act.{Act}
-use Rattle.view_model.specs.declared.limits.TheConstants.{MAX_EDITS}
+use Rattle.view_model.specs.Numbers.{max_edits}
 use Rattle.script_lines.specs.reading.Changes.{act_of}
 use Rattle.script_lines.specs.words.Colors.{last_color}
 use Rattle.script_lines.specs.reading.Commands.{add_of, bounds_of, class_of, command_by, command_in, command_of, digest_of, disallow_of, dpi_of, frame_of, inflate_of, into_of, keep_by, remove_of, set_of, set_text_of, touch_by}
@@ -27,10 +27,9 @@ use Rattle.script_lines.specs.reading.Touches.{cancel_of, pointer_of, touch_of, 
 use Rattle.script_lines.specs.words.Words.{◌>>=◌, after_spaces, after_word, end_of, first_word, in_word, literal_in, on_of, text_of, word_in, words}
 use Rattle.script_lines.specs.commands.Written.{AreEdits, IsColorWord, IsGivenBy, IsHexWord, IsNameWord, IsParentWord, IsWritten}
 use Rattle.script_lines.specs.declared.commands.Asked.{Asked}
-use Rattle.script_lines.specs.declared.commands.TheConstants.{MAX_DPI, MAX_POINT, MAX_POINTER, MAX_TOUCH, MAX_WINDOW, MIN_DPI, MIN_TOUCH}
+use Rattle.script_lines.specs.Numbers.{max_dpi, max_mantissa, max_point, max_pointer, max_touch, max_window, min_dpi, min_mantissa, min_touch}
 use Rattle.script_lines.specs.declared.fault.LineFault.{LineFault}
 use Rattle.script_lines.specs.declared.words.naming.Name.{Name}
-use Rattle.script_lines.specs.declared.reading.resources.TheConstants.{MAX_MANTISSA, MIN_MANTISSA}
 use Rattle.script_lines.specs.declared.reading.touches.Touch.{Touch}
 use Rattle.script_lines.proofs.readings.OkLaws.{if_either, if_map_with, if_test, if_then_with, if_word}
 use Rattle.script_lines.proofs.spelled.SpelledResources.{dimen_word-unit, mantissa-dimen}
@@ -88,7 +87,7 @@ dimen_given-written ws bytes all =
     if_then_with (λ (r : List ℕ × List (List ℕ)). n.1 ≡ r.0 ∷ r.1) P (word_in n.1) _ (word_in-written n.1) (λ u more.
     if_then_with (λ unit. u.0 ≡ unit_text (unit_number unit)) P (unit_of u.0) _ (unit_of-written u.0) (λ unit is.
     if_then_with (λ _. u.1 ≡ []) P (end_of u.1) _ (end_of-written u.1) (λ _ end.
-    if_then_with (λ z. (n.0 ≡ z) × IsWithin MIN_MANTISSA MAX_MANTISSA z) P (within_of MIN_MANTISSA MAX_MANTISSA n.0) _ (within_of-written MIN_MANTISSA MAX_MANTISSA n.0) (λ z h.
+    if_then_with (λ z. (n.0 ≡ z) × IsWithin min_mantissa max_mantissa z) P (within_of min_mantissa max_mantissa n.0) _ (within_of-written min_mantissa max_mantissa n.0) (λ z h.
     rw (mantissa-dimen z unit h.1, dimen_word-unit z unit) (all ∙ rw (are, more, end, h.0, is) refl))))))
 
 given_by-written : (kind bytes : List ℕ) → LineBegins bytes kind → IfOk (given_by kind (after_word bytes)) (λ value. IsGivenBy value bytes)
@@ -143,7 +142,7 @@ dpi_of-written line ws all =
     let P = λ (command : PlainCommand). IsWritten command line in
     if_then_with (λ (r : ℤ × List (List ℕ)). ws ≡ signed_decimal r.0 ∷ r.1) P (integer_in ws) _ (integer_in-written ws) (λ n are.
     if_then_with (λ _. n.1 ≡ []) P (end_of n.1) _ (end_of-written n.1) (λ _ end.
-    if_map_with (λ dpi. (n.0 ≡ pos dpi) × (MIN_DPI ≤ dpi) × (dpi ≤ MAX_DPI)) P plain.Dpi (natural_within MIN_DPI MAX_DPI n.0) (natural_within-written MIN_DPI MAX_DPI n.0) (λ dpi h.
+    if_map_with (λ dpi. (n.0 ≡ pos dpi) × (min_dpi ≤ dpi) × (dpi ≤ max_dpi)) P plain.Dpi (natural_within min_dpi max_dpi n.0) (natural_within-written min_dpi max_dpi n.0) (λ dpi h.
     (ws, all, are ∙ rw (end, h.0) refl))))
 
 abbrev AreIntoWords : Option Name → List (List ℕ) → Type 0
@@ -216,7 +215,7 @@ unfolding hook_of
 hook_of-written line ws all =
     let P = λ (command : PlainCommand). IsWritten command line in
     if_then_with (λ (r : Name × List (List ℕ)). FirstWord (IsNameWord r.0) ws r.1) P (name_in ws) _ (name_in-written ws) (λ view h.
-    if_map_with (λ (edits : List Asked × Bool). AreEdits MAX_EDITS edits.0 edits.1 (slice_split parts_edits view.1)) P _ (edits_of view.1) (edits_of-written view.1) (λ edits e.
+    if_map_with (λ (edits : List Asked × Bool). AreEdits max_edits edits.0 edits.1 (slice_split parts_edits view.1)) P _ (edits_of view.1) (edits_of-written view.1) (λ edits e.
     (ws, all, (h.word, view.1, h.are, h.fits, e))))
 
 restore_of-written : (line : List ℕ) (ws : List (List ℕ)) → Line line (codes "restore") ws → Gives line (restore_of ws)
@@ -232,14 +231,14 @@ unfolding touch_of pointer_of
 touch_of-written ws =
     let P = λ (touch : Touch). ws ≡ touch_words touch.pointer touch.x touch.y in
     let Q = λ (ws : List (List ℕ)) (r : ℤ × List (List ℕ)). ws ≡ signed_decimal r.0 ∷ r.1 in
-    let W = λ (n z : ℤ). (n ≡ z) × IsWithin MIN_TOUCH MAX_TOUCH z in
+    let W = λ (n z : ℤ). (n ≡ z) × IsWithin min_touch max_touch z in
     if_then_with (Q ws) P (integer_in ws) _ (integer_in-written ws) (λ p a.
     if_then_with (Q p.1) P (integer_in p.1) _ (integer_in-written p.1) (λ x b.
     if_then_with (Q x.1) P (integer_in x.1) _ (integer_in-written x.1) (λ y c.
     if_then_with (λ _. y.1 ≡ []) P (end_of y.1) _ (end_of-written y.1) (λ _ end.
-    if_then_with (λ n. (p.0 ≡ pos n) × (0 ≤ n) × (n ≤ MAX_POINTER)) P (natural_within 0 MAX_POINTER p.0) _ (natural_within-written 0 MAX_POINTER p.0) (λ pointer i.
-    if_then_with (W x.0) P (within_of MIN_TOUCH MAX_TOUCH x.0) _ (within_of-written MIN_TOUCH MAX_TOUCH x.0) (λ left j.
-    if_then_with (W y.0) P (within_of MIN_TOUCH MAX_TOUCH y.0) _ (within_of-written MIN_TOUCH MAX_TOUCH y.0) (λ top k.
+    if_then_with (λ n. (p.0 ≡ pos n) × (0 ≤ n) × (n ≤ max_pointer)) P (natural_within 0 max_pointer p.0) _ (natural_within-written 0 max_pointer p.0) (λ pointer i.
+    if_then_with (W x.0) P (within_of min_touch max_touch x.0) _ (within_of-written min_touch max_touch x.0) (λ left j.
+    if_then_with (W y.0) P (within_of min_touch max_touch y.0) _ (within_of-written min_touch max_touch y.0) (λ top k.
     a ∙ rw (b, c, end, i.0, j.0, k.0) refl)))))))
 
 up_of-written : (line : List ℕ) (ws : List (List ℕ)) → Line line (codes "up") ws → Gives line (up_of ws)
@@ -248,7 +247,7 @@ up_of-written line ws all =
     let P = λ (command : PlainCommand). IsWritten command line in
     if_then_with (λ (r : ℤ × List (List ℕ)). ws ≡ signed_decimal r.0 ∷ r.1) P (integer_in ws) _ (integer_in-written ws) (λ p are.
     if_then_with (λ _. p.1 ≡ []) P (end_of p.1) _ (end_of-written p.1) (λ _ end.
-    if_map_with (λ n. (p.0 ≡ pos n) × (0 ≤ n) × (n ≤ MAX_POINTER)) P plain.Up (natural_within 0 MAX_POINTER p.0) (natural_within-written 0 MAX_POINTER p.0) (λ pointer h.
+    if_map_with (λ n. (p.0 ≡ pos n) × (0 ≤ n) × (n ≤ max_pointer)) P plain.Up (natural_within 0 max_pointer p.0) (natural_within-written 0 max_pointer p.0) (λ pointer h.
     (ws, all, are ∙ rw (end, h.0) refl))))
 
 pixels_of-written : (line : List ℕ) (ws : List (List ℕ)) → Line line (codes "pixels") ws → Gives line (pixels_of ws)
@@ -262,10 +261,10 @@ pixels_of-written line ws all =
     if_then_with (Q y.1) P (integer_in y.1) _ (integer_in-written y.1) (λ w c.
     if_then_with (Q w.1) P (integer_in w.1) _ (integer_in-written w.1) (λ h d.
     if_then_with (λ _. h.1 ≡ []) P (end_of h.1) _ (end_of-written h.1) (λ _ end.
-    if_then_with (W (pos 0) MAX_POINT x.0) P (within_of (pos 0) MAX_POINT x.0) _ (within_of-written (pos 0) MAX_POINT x.0) (λ left i.
-    if_then_with (W (pos 0) MAX_POINT y.0) P (within_of (pos 0) MAX_POINT y.0) _ (within_of-written (pos 0) MAX_POINT y.0) (λ top j.
-    if_then_with (W (pos 1) MAX_WINDOW w.0) P (within_of (pos 1) MAX_WINDOW w.0) _ (within_of-written (pos 1) MAX_WINDOW w.0) (λ width k.
-    if_then_with (W (pos 1) MAX_WINDOW h.0) P (within_of (pos 1) MAX_WINDOW h.0) _ (within_of-written (pos 1) MAX_WINDOW h.0) (λ height m.
+    if_then_with (W (pos 0) max_point x.0) P (within_of (pos 0) max_point x.0) _ (within_of-written (pos 0) max_point x.0) (λ left i.
+    if_then_with (W (pos 0) max_point y.0) P (within_of (pos 0) max_point y.0) _ (within_of-written (pos 0) max_point y.0) (λ top j.
+    if_then_with (W (pos 1) max_window w.0) P (within_of (pos 1) max_window w.0) _ (within_of-written (pos 1) max_window w.0) (λ width k.
+    if_then_with (W (pos 1) max_window h.0) P (within_of (pos 1) max_window h.0) _ (within_of-written (pos 1) max_window h.0) (λ height m.
     if_either P (is_small width height) _ _ (ws, all, a ∙ rw (b, c, d, end, i.0, j.0, k.0, m.0) refl) tt)))))))))
 
 -- a line with a name for its first word
@@ -296,8 +295,8 @@ unfolding command_by remove_of frame_of digest_of
 command_by-written line head ws all =
     let P = λ (command : PlainCommand). IsWritten command line in
     if_word P head (codes "window") _ _
-    (λ e. if_map_with (λ (pair : ℤ × ℤ). ws ≡ signed_decimal pair.0 ∷ signed_decimal pair.1 ∷ []) P (λ (pair : ℤ × ℤ). plain.Window pair.0 pair.1) (pair_of (pos 1) MAX_WINDOW ws)
-    (pair_of-written (pos 1) MAX_WINDOW ws) (λ pair h. (ws, named line head _ ws all e, h)))
+    (λ e. if_map_with (λ (pair : ℤ × ℤ). ws ≡ signed_decimal pair.0 ∷ signed_decimal pair.1 ∷ []) P (λ (pair : ℤ × ℤ). plain.Window pair.0 pair.1) (pair_of (pos 1) max_window ws)
+    (pair_of-written (pos 1) max_window ws) (λ pair h. (ws, named line head _ ws all e, h)))
     (if_word P head (codes "dpi") _ _ (λ e. dpi_of-written line ws (named line head _ ws all e))
     (if_word P head (codes "inflate") _ _ (λ e. inflate_of-written line ws (named line head _ ws all e))
     (if_word P head (codes "add") _ _ (λ e. add_of-written line ws (named line head _ ws all e))

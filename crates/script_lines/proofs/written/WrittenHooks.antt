@@ -5,7 +5,7 @@ use Rattle.std.specs.List.{filter_map, list_any, slice_split}
 use Rattle.std.specs.Str.{bytes_eq}
 use Rattle.std.proofs.lemmas.Bool.{cases_Bool}
 use Rattle.std.proofs.lemmas.Slice.Eq.{bytes_eq-Decides}
-use Rattle.view_model.specs.declared.limits.TheConstants.{MAX_EDITS}
+use Rattle.view_model.specs.Numbers.{max_edits}
 use Rattle.script_lines.specs.reading.Changes.{change_of}
 use Rattle.script_lines.specs.reading.Hooks.{asked_in, asked_of, begins_edit, begins_line, edit_of, edit_words, edits_of, is_range, is_syntax, is_unmade, joined, line_words, parts_edits, readings_of, unmade_of}
 use Rattle.script_lines.specs.words.Names.{name_in}
@@ -127,6 +127,6 @@ readings-written (suc left) (part ∷ parts) =
     (joined_one (EditIs (suc left) part) (EditsAre left parts) (edit_of part) (readings_of left parts) (edit_of-written (suc left) part (omega arith)) (readings-written left parts))
     (λ r h. joined_edits (suc left) left part parts r (omega arith) h)
 
-pub edits_of-written : (ws : List (List ℕ)) → IfOk (edits_of ws) (EditsAre MAX_EDITS (slice_split parts_edits ws))
+pub edits_of-written : (ws : List (List ℕ)) → IfOk (edits_of ws) (EditsAre max_edits (slice_split parts_edits ws))
 unfolding edits_of
-edits_of-written ws = readings-written MAX_EDITS (slice_split parts_edits ws)
+edits_of-written ws = readings-written max_edits (slice_split parts_edits ws)

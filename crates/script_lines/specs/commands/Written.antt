@@ -11,7 +11,7 @@ use Rattle.view_model.specs.declared.changes.Act.{Act}
 use Rattle.view_model.specs.declared.changes.Act.TheVariants as act
 use Rattle.view_model.specs.declared.changes.Change.{Change}
 use Rattle.view_model.specs.declared.changes.Change.TheVariants as change
-use Rattle.view_model.specs.declared.limits.TheConstants.{MAX_EDITS}
+use Rattle.view_model.specs.Numbers.{max_edits}
 use Rattle.view_model.specs.declared.placing.Across.{Across}
 use Rattle.view_model.specs.declared.placing.Across.TheVariants as across
 use Rattle.view_model.specs.declared.placing.Down.{Down}
@@ -166,7 +166,7 @@ AreArguments (plain.Act view act) ws =
     (word : List ℕ) × (rest : List (List ℕ)) × (ws ≡ word ∷ rest) × IsNameWord view word × AreActWords act rest
 AreArguments (plain.Disallow view on) ws = (word : List ℕ) × (ws ≡ word ∷ on_text on ∷ []) × IsNameWord view word
 AreArguments (plain.Hook view edits bad) ws =
-    (word : List ℕ) × (rest : List (List ℕ)) × (ws ≡ word ∷ rest) × IsNameWord view word × AreEdits MAX_EDITS edits bad (slice_split parts_edits rest)
+    (word : List ℕ) × (rest : List (List ℕ)) × (ws ≡ word ∷ rest) × IsNameWord view word × AreEdits max_edits edits bad (slice_split parts_edits rest)
 AreArguments (plain.Bounds (Some view)) ws = (word : List ℕ) × (ws ≡ word ∷ []) × IsNameWord view word
 AreArguments command ws = ws ≡ drop 1 (command_words command)
 

@@ -2,7 +2,7 @@
 use Rattle.std.specs.Prelude.{ℕ, ◌≤◌, ◌<◌, if◌then◌else◌, Bool, true, false, ℤ, pos, List, codes, Result, Ok, Err}
 use Rattle.std.specs.Str.{bytes_eq}
 use Rattle.geom_core.specs.declared.geometry.Insets.{Insets}
-use Rattle.view_model.specs.declared.limits.TheConstants.{MAX_INSET, MAX_SIZE, MAX_WEIGHT, MIN_MARGIN}
+use Rattle.view_model.specs.Numbers.{max_inset, max_size, max_weight, min_margin}
 use Rattle.view_model.specs.declared.changes.Act.{Act}
 use Rattle.view_model.specs.declared.changes.Act.TheVariants as act
 use Rattle.view_model.specs.declared.changes.Change.{Change}
@@ -41,10 +41,10 @@ sides_of words = do
 -- sides from a least number on
 unfoldable pub insets_of : ℤ → Sides → Result Insets LineFault
 insets_of low sides = do
-  left ← within_of low MAX_INSET sides.left
-  top ← within_of low MAX_INSET sides.top
-  right ← within_of low MAX_INSET sides.right
-  bottom ← within_of low MAX_INSET sides.bottom
+  left ← within_of low max_inset sides.left
+  top ← within_of low max_inset sides.top
+  right ← within_of low max_inset sides.right
+  bottom ← within_of low max_inset sides.bottom
   Ok (record { left = left; top = top; right = right; bottom = bottom })
 
 -- `W H`
@@ -53,13 +53,13 @@ size_of words = map_ok (λ extents. change.Size extents.0 extents.1) (extents_of
 
 -- `w h`
 abbrev pub min_of : List (List ℕ) → Result Change LineFault
-min_of words = map_ok (λ pair. change.Min (record { w = pair.0; h = pair.1 })) (pair_of (pos 0) MAX_SIZE words)
+min_of words = map_ok (λ pair. change.Min (record { w = pair.0; h = pair.1 })) (pair_of (pos 0) max_size words)
 
 -- `l t r b`
 abbrev pub margins_of : List (List ℕ) → Result Change LineFault
 margins_of words = do
   sides ← sides_of words
-  map_ok change.Margins (insets_of MIN_MARGIN sides)
+  map_ok change.Margins (insets_of min_margin sides)
 
 -- `l t r b`
 abbrev pub padding_of : List (List ℕ) → Result Change LineFault
@@ -185,7 +185,7 @@ unfoldable pub scroll_of : List (List ℕ) → Result Act LineFault
 scroll_of words = do
   y ← integer_in words
   _ ← end_of y.1
-  map_ok act.Scroll (within_of (pos 0) MAX_SIZE y.0)
+  map_ok act.Scroll (within_of (pos 0) max_size y.0)
 
 unfoldable pub answer_named : List ℕ → Result Answer LineFault
 answer_named word =
@@ -228,17 +228,17 @@ AreWithin low high sides = IsWithin low high sides.left × IsWithin low high sid
 -- the numbers of a change are within their bounds
 abbrev pub IsChangeInBounds : Change → Type 0
 IsChangeInBounds (change.Size width height) = IsExtent width × IsExtent height
-IsChangeInBounds (change.Min size) = IsWithin (pos 0) MAX_SIZE size.w × IsWithin (pos 0) MAX_SIZE size.h
-IsChangeInBounds (change.Margins sides) = AreWithin MIN_MARGIN MAX_INSET sides
-IsChangeInBounds (change.Padding sides) = AreWithin (pos 0) MAX_INSET sides
-IsChangeInBounds (change.Weight weight) = weight ≤ MAX_WEIGHT
+IsChangeInBounds (change.Min size) = IsWithin (pos 0) max_size size.w × IsWithin (pos 0) max_size size.h
+IsChangeInBounds (change.Margins sides) = AreWithin min_margin max_inset sides
+IsChangeInBounds (change.Padding sides) = AreWithin (pos 0) max_inset sides
+IsChangeInBounds (change.Weight weight) = weight ≤ max_weight
 IsChangeInBounds (change.Gravity kids gravity) = Unit {0}
 IsChangeInBounds (change.Background color) = Unit {0}
 
 -- the numbers of what a line sets are within their bounds
 abbrev pub IsActInBounds : Act → Type 0
 IsActInBounds (act.Change change) = IsChangeInBounds change
-IsActInBounds (act.WeightSum sum) = sum ≤ MAX_WEIGHT
+IsActInBounds (act.WeightSum sum) = sum ≤ max_weight
 IsActInBounds (act.Orient vertical) = Unit {0}
 IsActInBounds (act.Flag flag on) = Unit {0}
 IsActInBounds (act.Visible visibility) = Unit {0}
@@ -248,4 +248,4 @@ IsActInBounds (act.Rule verb value) = verb < 21
 IsActInBounds (act.Answer answer) = Unit {0}
 IsActInBounds (act.Intercept actions) = actions < 64
 IsActInBounds (act.Direction direction) = Unit {0}
-IsActInBounds (act.Scroll offset) = IsWithin (pos 0) MAX_SIZE offset
+IsActInBounds (act.Scroll offset) = IsWithin (pos 0) max_size offset

@@ -4,7 +4,7 @@ use Rattle.std.specs.List.{All}
 use Rattle.std.specs.Str.{bytes_eq, is_utf8}
 use Rattle.view_model.specs.declared.kinds.Class.{Class}
 use Rattle.view_model.specs.declared.kinds.Class.TheVariants as class
-use Rattle.view_model.specs.declared.limits.TheConstants.{MAX_EDITS}
+use Rattle.view_model.specs.Numbers.{max_edits}
 use Rattle.script_lines.specs.reading.Changes.{IsActInBounds, IsChangeInBounds, act_of}
 use Rattle.script_lines.specs.words.Dimensions.{IsExtent, extents_of}
 use Rattle.script_lines.specs.words.Escapes.{has_escapes, rest_of}
@@ -19,20 +19,20 @@ use Rattle.script_lines.specs.reading.Resources.{IsGivenInBounds, res_of}
 use Rattle.script_lines.specs.reading.States.{is_state_text, restore_of, save_of}
 use Rattle.script_lines.specs.reading.Touches.{IsTouchInBounds, cancel_of, down_of, move_of, up_of}
 use Rattle.script_lines.specs.words.Words.{after_word, ◌>>=◌, map_ok, literal_in, on_of, word_in, end_of, words}
-use Rattle.script_lines.specs.declared.commands.TheConstants.{MAX_DPI, MAX_POINTER, MAX_WINDOW, MIN_DPI}
+use Rattle.script_lines.specs.Numbers.{max_dpi, max_pointer, max_window, min_dpi}
 use Rattle.script_lines.specs.declared.fault.LineFault.{LineFault}
 use Rattle.script_lines.specs.declared.fault.LineFault.TheVariants.{Syntax}
 
 -- `W H`, the sides of a window
 abbrev pub window_of : List (List ℕ) → Result PlainCommand LineFault
-window_of words = map_ok (λ pair. Window pair.0 pair.1) (pair_of (pos 1) MAX_WINDOW words)
+window_of words = map_ok (λ pair. Window pair.0 pair.1) (pair_of (pos 1) max_window words)
 
 -- `N`, a density
 unfoldable pub dpi_of : List (List ℕ) → Result PlainCommand LineFault
 dpi_of words = do
   n ← integer_in words
   _ ← end_of n.1
-  map_ok Dpi (natural_within MIN_DPI MAX_DPI n.0)
+  map_ok Dpi (natural_within min_dpi max_dpi n.0)
 
 -- nothing, or `into V`
 unfoldable pub into_of : List (List ℕ) → Result (Option Name) LineFault
@@ -157,8 +157,8 @@ command_of line = if is_utf8 line then (word_in (words line) >>= λ head. comman
 
 -- the numbers of a command are within their bounds, and its texts are as a line may have them
 abbrev pub IsInBounds : PlainCommand → Type 0
-IsInBounds (Window w h) = IsWithin (pos 1) MAX_WINDOW w × IsWithin (pos 1) MAX_WINDOW h
-IsInBounds (Dpi dpi) = (MIN_DPI ≤ dpi) × (dpi ≤ MAX_DPI)
+IsInBounds (Window w h) = IsWithin (pos 1) max_window w × IsWithin (pos 1) max_window h
+IsInBounds (Dpi dpi) = (min_dpi ≤ dpi) × (dpi ≤ max_dpi)
 IsInBounds (Res id value) = (0 < id) × IsGivenInBounds value
 IsInBounds (Inflate name into) = IsTrue (is_file_name name)
 IsInBounds (Add parent class width height) = IsExtent width × IsExtent height
@@ -166,10 +166,10 @@ IsInBounds (Remove view) = Unit {0}
 IsInBounds (Act view act) = IsActInBounds act
 IsInBounds (SetText view text) = IsTrue (has_escapes text)
 IsInBounds (Disallow view on) = Unit {0}
-IsInBounds (Hook view edits bad) = (length edits ≤ MAX_EDITS) × All (λ asked. IsChangeInBounds asked.change) edits
+IsInBounds (Hook view edits bad) = (length edits ≤ max_edits) × All (λ asked. IsChangeInBounds asked.change) edits
 IsInBounds (Down p x y) = IsTouchInBounds p x y
 IsInBounds (Move p x y) = IsTouchInBounds p x y
-IsInBounds (Up p) = p ≤ MAX_POINTER
+IsInBounds (Up p) = p ≤ max_pointer
 IsInBounds Cancel = Unit {0}
 IsInBounds Frame = Unit {0}
 IsInBounds (Bounds view) = Unit {0}

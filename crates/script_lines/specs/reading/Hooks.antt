@@ -2,7 +2,7 @@
 use Rattle.std.specs.Prelude.{ℕ, Bool, true, false, if◌then◌else◌, List, [], ◌∷◌, ◌++◌, map, take, drop, codes, Option, Some, None, Result, Ok, Err}
 use Rattle.std.specs.List.{filter_map, list_any, slice_split}
 use Rattle.std.specs.Str.{bytes_eq}
-use Rattle.view_model.specs.declared.limits.TheConstants.{MAX_EDITS}
+use Rattle.view_model.specs.Numbers.{max_edits}
 use Rattle.script_lines.specs.reading.Changes.{change_of}
 use Rattle.script_lines.specs.words.Names.{name_in}
 use Rattle.script_lines.specs.commands.PlainCommands.{PlainCommand, Hook}
@@ -88,7 +88,7 @@ joined readings =
 
 -- `E ; E ..`, one edit or more
 unfoldable pub edits_of : List (List ℕ) → Result (List Asked × Bool) LineFault
-edits_of words = joined (readings_of MAX_EDITS (slice_split parts_edits words))
+edits_of words = joined (readings_of max_edits (slice_split parts_edits words))
 
 -- `V E ; E ..`
 unfoldable pub hook_of : List (List ℕ) → Result PlainCommand LineFault

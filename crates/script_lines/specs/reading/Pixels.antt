@@ -3,21 +3,21 @@ use Rattle.std.specs.Prelude.{if◌then◌else◌, ℕ, ℤ, ◌*ℤ◌, ◌≤�
 use Rattle.script_lines.specs.words.Numbers.{IsWithin, integer_in, within_of}
 use Rattle.script_lines.specs.commands.PlainCommands.{PlainCommand, Pixels}
 use Rattle.script_lines.specs.words.Words.{◌>>=◌, end_of}
-use Rattle.script_lines.specs.declared.commands.TheConstants.{MAX_PIXELS, MAX_POINT, MAX_WINDOW}
+use Rattle.script_lines.specs.Numbers.{max_pixels, max_point, max_window}
 use Rattle.script_lines.specs.declared.fault.LineFault.{LineFault}
 use Rattle.script_lines.specs.declared.fault.LineFault.TheVariants.{Range}
 
 -- whether a part of this width and height is not too large
 unfoldable pub is_small : ℤ → ℤ → Bool
-is_small w h = int_le (w *ℤ h) MAX_PIXELS
+is_small w h = int_le (w *ℤ h) max_pixels
 
 -- a part within its bounds
 unfoldable pub part_of : ℤ → ℤ → ℤ → ℤ → Result PlainCommand LineFault
 part_of x y w h = do
-  x ← within_of (pos 0) MAX_POINT x
-  y ← within_of (pos 0) MAX_POINT y
-  w ← within_of (pos 1) MAX_WINDOW w
-  h ← within_of (pos 1) MAX_WINDOW h
+  x ← within_of (pos 0) max_point x
+  y ← within_of (pos 0) max_point y
+  w ← within_of (pos 1) max_window w
+  h ← within_of (pos 1) max_window h
   if is_small w h then Ok (Pixels x y w h) else Err Range
 
 -- `x y w h`
@@ -32,4 +32,4 @@ pixels_of words = do
 
 -- the numbers of a part are within their bounds
 abbrev pub IsPart : ℤ → ℤ → ℤ → ℤ → Type 0
-IsPart x y w h = IsWithin (pos 0) MAX_POINT x × IsWithin (pos 0) MAX_POINT y × IsWithin (pos 1) MAX_WINDOW w × IsWithin (pos 1) MAX_WINDOW h × ((w *ℤ h) ≤ℤ MAX_PIXELS)
+IsPart x y w h = IsWithin (pos 0) max_point x × IsWithin (pos 0) max_point y × IsWithin (pos 1) max_window w × IsWithin (pos 1) max_window h × ((w *ℤ h) ≤ℤ max_pixels)

@@ -7,7 +7,7 @@ use Rattle.script_lines.specs.words.Names.{id_in}
 use Rattle.script_lines.specs.words.Numbers.{IsWithin, integer_in, within_of}
 use Rattle.script_lines.specs.commands.PlainCommands.{PlainCommand, PlainGiven, Res, Color, Dimen, Text}
 use Rattle.script_lines.specs.words.Words.{◌>>=◌, after_word, map_ok, word_in, end_of, words}
-use Rattle.script_lines.specs.declared.reading.resources.TheConstants.{MAX_MANTISSA, MIN_MANTISSA}
+use Rattle.script_lines.specs.Numbers.{max_mantissa, min_mantissa}
 use Rattle.script_lines.specs.declared.reading.resources.LengthUnit.{LengthUnit}
 use Rattle.script_lines.specs.declared.reading.resources.LengthUnit.TheVariants.{Px, Dp, Sp, Pt, In, Mm}
 use Rattle.script_lines.specs.declared.fault.LineFault.{LineFault}
@@ -52,7 +52,7 @@ dimen_given words = do
   u ← word_in n.1
   unit ← unit_of u.0
   _ ← end_of u.1
-  n ← within_of MIN_MANTISSA MAX_MANTISSA n.0
+  n ← within_of min_mantissa max_mantissa n.0
   Ok (Dimen (dimen_word n unit))
 
 -- what is given by its kind and the bytes after that
@@ -81,7 +81,7 @@ res_of rest = do
 
 -- the word of a dimension that a line gives: one of a number within its bounds, and of a unit
 abbrev pub IsDimenWord : ℕ → Type 0
-IsDimenWord word = (n : ℤ) × (unit : LengthUnit) × IsWithin MIN_MANTISSA MAX_MANTISSA n × (word ≡ dimen_word n unit)
+IsDimenWord word = (n : ℤ) × (unit : LengthUnit) × IsWithin min_mantissa max_mantissa n × (word ≡ dimen_word n unit)
 
 -- the number of a dimension is within its bounds, and a text has escapes that are known
 abbrev pub IsGivenInBounds : PlainGiven → Type 0

@@ -3,13 +3,13 @@ use Rattle.std.specs.Prelude.{ℕ, ℤ, ◌≤◌, List, Result, Ok}
 use Rattle.script_lines.specs.words.Numbers.{IsWithin, integer_in, natural_within, within_of}
 use Rattle.script_lines.specs.commands.PlainCommands.{PlainCommand, Down, Move, Up, Cancel}
 use Rattle.script_lines.specs.words.Words.{◌>>=◌, end_of, map_ok}
-use Rattle.script_lines.specs.declared.commands.TheConstants.{MAX_POINTER, MAX_TOUCH, MIN_TOUCH}
+use Rattle.script_lines.specs.Numbers.{max_pointer, max_touch, min_touch}
 use Rattle.script_lines.specs.declared.fault.LineFault.{LineFault}
 use Rattle.script_lines.specs.declared.reading.touches.Touch.{Touch}
 
 -- the pointer of an id
 unfoldable pub pointer_of : ℤ → Result ℕ LineFault
-pointer_of id = natural_within 0 MAX_POINTER id
+pointer_of id = natural_within 0 max_pointer id
 
 -- `p x y`, a pointer and a point
 unfoldable pub touch_of : List (List ℕ) → Result Touch LineFault
@@ -19,8 +19,8 @@ touch_of words = do
   y ← integer_in x.1
   _ ← end_of y.1
   pointer ← pointer_of p.0
-  left ← within_of MIN_TOUCH MAX_TOUCH x.0
-  top ← within_of MIN_TOUCH MAX_TOUCH y.0
+  left ← within_of min_touch max_touch x.0
+  top ← within_of min_touch max_touch y.0
   Ok (record { pointer = pointer; x = left; y = top })
 
 -- `p x y`
@@ -44,4 +44,4 @@ cancel_of words = end_of words >>= λ _. Ok Cancel
 
 -- the numbers of a touch are within their bounds
 abbrev pub IsTouchInBounds : ℕ → ℤ → ℤ → Type 0
-IsTouchInBounds pointer x y = (pointer ≤ MAX_POINTER) × IsWithin MIN_TOUCH MAX_TOUCH x × IsWithin MIN_TOUCH MAX_TOUCH y
+IsTouchInBounds pointer x y = (pointer ≤ max_pointer) × IsWithin min_touch max_touch x × IsWithin min_touch max_touch y

@@ -7,7 +7,7 @@ use Rattle.script_lines.specs.declared.words.dimension.Dimension.{Dimension}
 use Rattle.script_lines.specs.declared.words.dimension.Dimension.TheVariants.{Match, Wrap, Pixels}
 use Rattle.script_lines.specs.declared.fault.LineFault.{LineFault}
 use Rattle.script_lines.specs.declared.fault.LineFault.TheVariants.{Syntax}
-use Rattle.view_model.specs.declared.limits.TheConstants.{MAX_SIZE}
+use Rattle.view_model.specs.Numbers.{max_size}
 
 -- `match`, `wrap` or a number
 unfoldable pub dimension_of : List ℕ → Result Dimension LineFault
@@ -24,7 +24,7 @@ dimension_in (word ∷ words) = dimension_of word >>= λ dimension. Ok (dimensio
 abbrev pub extent_of : Dimension → Result ℤ LineFault
 extent_of Match = Ok (negsuc 0)
 extent_of Wrap = Ok (negsuc 1)
-extent_of (Pixels n) = within_of (pos 0) MAX_SIZE n
+extent_of (Pixels n) = within_of (pos 0) max_size n
 
 -- `W H`, the dimensions of a view; both are read before their bounds are looked at
 unfoldable pub extents_of : List (List ℕ) → Result (ℤ × ℤ) LineFault
@@ -38,4 +38,4 @@ extents_of words = do
 
 -- a dimension as facts keep it: -1 is `match`, -2 is `wrap`
 abbrev pub IsExtent : ℤ → Type 0
-IsExtent n = IsWithin (negsuc 1) MAX_SIZE n
+IsExtent n = IsWithin (negsuc 1) max_size n

@@ -1,10 +1,10 @@
 -- A weight, or a sum of weights, as a line gives it.
 use Rattle.std.specs.Prelude.{ℕ, ◌+◌, ◌*◌, ℤ, pos, List, [], ◌∷◌, Result, Ok}
-use Rattle.view_model.specs.declared.limits.TheConstants.{MAX_WEIGHT}
+use Rattle.view_model.specs.Numbers.{max_weight}
 use Rattle.script_lines.specs.words.Numbers.{integer_in, natural_within}
 use Rattle.script_lines.specs.words.Words.{◌>>=◌, end_of}
 use Rattle.script_lines.specs.declared.fault.LineFault.{LineFault}
-use Rattle.script_lines.specs.declared.words.weights.TheConstants.{MAX_PARTS, MAX_WHOLE}
+use Rattle.script_lines.specs.Numbers.{max_parts, max_whole}
 
 -- nothing, which is 0, or the number that ends a line
 unfoldable pub last_number : List (List ℕ) → Result ℤ LineFault
@@ -19,6 +19,6 @@ unfoldable pub weight_of : List (List ℕ) → Result ℕ LineFault
 weight_of words = do
   n ← integer_in words
   k ← last_number n.1
-  whole ← natural_within 0 MAX_WHOLE n.0
-  parts ← natural_within 0 MAX_PARTS k
-  natural_within 0 MAX_WEIGHT (pos (whole * 256 + parts))
+  whole ← natural_within 0 max_whole n.0
+  parts ← natural_within 0 max_parts k
+  natural_within 0 max_weight (pos (whole * 256 + parts))

@@ -10,7 +10,7 @@ ghost use Rattle.script_lines.specs.reading.Gathered.{following, edits_after, ed
 ghost use Rattle.script_lines.specs.reading.Hooks.{asked_of, begins_edit, begins_line, edit_of, edits_of, hook_of, unmade_of};
 ghost use Rattle.script_lines.specs.commands.PlainCommands.{plain_command};
 ghost use Rattle.script_lines.specs.words.Words.{map_ok, words};
-ghost use Rattle.view_model.specs.declared.limits.TheConstants.{MAX_EDITS};
+ghost use Rattle.view_model.specs.Numbers.{max_edits};
 
 use crate::commands::{Asked, Command};
 use crate::fault::LineFault;
@@ -159,7 +159,7 @@ impl Gathered {
     /// No edit is read.
     fn new() -> Gathered
         ensures edits { result.edits.items ≡ [] }
-        ensures left { result.left ≡ MAX_EDITS }
+        ensures left { result.left ≡ max_edits }
         ensures bad { result.bad ≡ false }
         ensures range { result.range ≡ false }
     {
@@ -173,8 +173,8 @@ impl Gathered {
 
     /// Reads one edit more. A number outside its bounds is only recorded, since a fault of the grammar may follow.
     fn add(&mut self, bytes: &[u8]) -> Result<(), LineFault>
-        requires room { array_vec_len self.old.edits + self.old.left ≤ MAX_EDITS }
-        ensures room { array_vec_len self.new.edits + self.new.left ≤ MAX_EDITS }
+        requires room { array_vec_len self.old.edits + self.old.left ≤ max_edits }
+        ensures room { array_vec_len self.new.edits + self.new.left ≤ max_edits }
         ensures bounds { All (λ asked. IsChangeInBounds asked.change) self.old.edits.items
             → All (λ asked. IsChangeInBounds asked.change) self.new.edits.items }
         ensures edits { (more : List (List (List ℕ)))
@@ -195,7 +195,7 @@ impl Gathered {
 /// The edits that end a line.
 fn gather(bytes: &[u8]) -> Result<Gathered, LineFault>
     ensures value { edits_in result ≡ edits_of (words bytes.now) }
-    ensures room { IfOk result (λ gathered. array_vec_len gathered.edits ≤ MAX_EDITS) }
+    ensures room { IfOk result (λ gathered. array_vec_len gathered.edits ≤ max_edits) }
     ensures bounds { IfOk result (λ gathered. All (λ asked. IsChangeInBounds asked.change) gathered.edits.items) }
 {
     let mut gathered = Gathered::new();

@@ -6,7 +6,7 @@ ghost use Rattle.script_lines.specs.words.Numbers.{IsWithin};
 ghost use Rattle.script_lines.specs.reading.Pixels.{is_small, part_of, pixels_of};
 ghost use Rattle.script_lines.specs.commands.PlainCommands.{plain_command};
 ghost use Rattle.script_lines.specs.words.Words.{map_ok, words};
-ghost use Rattle.script_lines.specs.declared.commands.TheConstants.{MAX_PIXELS, MAX_WINDOW};
+ghost use Rattle.script_lines.specs.Numbers.{max_pixels, max_window};
 
 use crate::commands::{Command, MAX_PIXELS, MAX_POINT, MAX_WINDOW};
 use crate::fault::LineFault;
@@ -16,10 +16,10 @@ use crate::words::number::{number, within};
 /// Whether a part of this width and height has no more pixels than may be printed at once.
 #[tactic(auto, unfolding(crate::specs::reading::Pixels::is_small))]
 pub fn is_small(w: i32, h: i32) -> bool
-    requires width { IsWithin (pos 1) MAX_WINDOW w }
-    requires height { IsWithin (pos 1) MAX_WINDOW h }
+    requires width { IsWithin (pos 1) max_window w }
+    requires height { IsWithin (pos 1) max_window h }
     ensures value { result ≡ is_small w h }
-    ensures small { result ≡ true → (w *ℤ h) ≤ℤ MAX_PIXELS }
+    ensures small { result ≡ true → (w *ℤ h) ≤ℤ max_pixels }
 {
     i64::from(w) * i64::from(h) <= MAX_PIXELS
 }

@@ -1,6 +1,7 @@
 //! What a line gives a resource.
 
 ghost use Rattle.std.specs.Prelude.{◌≡◌, ◌<◌, IfOk};
+ghost use Rattle.script_lines.specs.Numbers.{max_mantissa, min_mantissa};
 ghost use Rattle.script_lines.specs.words.Numbers.{IsWithin};
 ghost use Rattle.script_lines.specs.commands.PlainCommands.{plain_command, plain_given};
 ghost use Rattle.script_lines.specs.reading.Commands.{IsInBounds};
@@ -83,7 +84,7 @@ fn read_unit(word: &[u8]) -> Result<LengthUnit, LineFault>
 
 /// The number of a dimension in 24 bits.
 fn in_24_bits(n: i32) -> u32
-    requires { IsWithin MIN_MANTISSA MAX_MANTISSA n }
+    requires { IsWithin min_mantissa max_mantissa n }
     ensures value { result ≡ in_24_bits n }
     ensures below { result < 16777216 }
 {
@@ -97,7 +98,7 @@ fn in_24_bits(n: i32) -> u32
 /// The word of a dimension, as a layout file has it.
 #[tactic(auto, unfolding(crate::specs::reading::Resources::dimen_word))]
 fn dimen_word(n: i32, unit: LengthUnit) -> u32
-    requires { IsWithin MIN_MANTISSA MAX_MANTISSA n }
+    requires { IsWithin min_mantissa max_mantissa n }
     ensures { result ≡ dimen_word n unit }
 {
     in_24_bits(n) * 256 + unit.number()

@@ -5,7 +5,7 @@ ghost use Rattle.script_lines.specs.reading.Commands.{IsInBounds};
 ghost use Rattle.script_lines.specs.commands.PlainCommands.{plain_command};
 ghost use Rattle.script_lines.specs.reading.Touches.{IsTouchInBounds, cancel_of, down_of, move_of, pointer_of, touch_of, up_of};
 ghost use Rattle.script_lines.specs.words.Words.{map_ok, words};
-ghost use Rattle.script_lines.specs.declared.commands.TheConstants.{MAX_POINTER};
+ghost use Rattle.script_lines.specs.Numbers.{max_pointer};
 
 use crate::commands::{Command, MAX_POINTER, MAX_TOUCH, MIN_TOUCH};
 use crate::fault::LineFault;
@@ -24,7 +24,7 @@ pub struct Touch {
 #[tactic(auto, unfolding(crate::specs::reading::Touches::pointer_of))]
 pub fn read_pointer(id: i64) -> Result<u8, LineFault>
     ensures value { result ≡ pointer_of id }
-    ensures bounds { IfOk result (λ pointer. pointer ≤ MAX_POINTER) }
+    ensures bounds { IfOk result (λ pointer. pointer ≤ max_pointer) }
 {
     let pointer = natural_within(0, MAX_POINTER, id)?;
     Ok(pointer as u8)

@@ -1,6 +1,7 @@
 //! A weight, or a sum of weights, as a line gives it.
 
 ghost use Rattle.std.specs.Prelude.{◌≡◌, ◌≤◌, IfOk};
+ghost use Rattle.view_model.specs.Numbers.{max_weight};
 ghost use Rattle.script_lines.specs.words.Weights.{last_number, weight_of};
 ghost use Rattle.script_lines.specs.words.Words.{words};
 
@@ -31,7 +32,7 @@ fn last_number(bytes: &[u8]) -> Result<i64, LineFault>
 #[tactic(auto, unfolding(crate::specs::words::Weights::weight_of))]
 pub fn read_weight(bytes: &[u8]) -> Result<u32, LineFault>
     ensures value { result ≡ weight_of (words bytes.now) }
-    ensures bounds { IfOk result (λ weight. weight ≤ MAX_WEIGHT) }
+    ensures bounds { IfOk result (λ weight. weight ≤ max_weight) }
 {
     let (n, rest) = number(bytes)?;
     let k = last_number(rest)?;
