@@ -346,6 +346,57 @@ def refused(n):
     return b"x\n" * n
 
 
+def by_turns(first, second):
+    """One of two words, which the next round over all views has the other way round."""
+    return lambda k: second if k // VIEWS_OF_LINES % 2 else first
+
+
+def color(k):
+    return b"#ff%06x" % (k * 4099 % 0x1000000)
+
+
+# how many views there are to which lines of a kind go in turn
+VIEWS_OF_LINES = 64
+
+# by the name of a kind of line: its first word, and what the k-th line of that kind has after the view
+KINDS_OF_LINES = {
+    "size": (b"size", lambda k: b"%d %d" % (10 + k % 80, 10 + k % 70)),
+    "weight": (b"weight", lambda k: b"%d" % (k % 90)),
+    "bg": (b"bg", color),
+    "visible": (b"visible", by_turns(b"visible", b"invisible")),
+    "gone": (b"visible", by_turns(b"gone", b"visible")),
+    "scroll": (b"scroll", lambda k: b"%d" % (k % 300)),
+    "ink": (b"ink", color),
+    "direction": (b"direction", by_turns(b"rtl", b"ltr")),
+    "orient": (b"orient", by_turns(b"vertical", b"horizontal")),
+    "answer": (b"answer", by_turns(b"yes", b"click")),
+    "id": (b"id", lambda k: b"@%x" % (0x7f000000 + k % 997)),
+    "flag": (b"flag", by_turns(b"clip yes", b"clip no")),
+    "text": (b"text", lambda k: b"w%d" % (k % 100)),
+    "intercept": (b"intercept", by_turns(b"down", b"move up")),
+    "disallow": (b"disallow", by_turns(b"yes", b"no")),
+}
+
+# by such a kind, the class of the views where other classes refuse the line
+CLASSES_OF_LINES = {"text": b"TextView", "ink": b"TextView", "scroll": b"ScrollView", "orient": b"LinearLayout"}
+
+
+def lines_of(kind):
+    """How a script is made of lines of a kind, each to another of 64 views than the one before."""
+    word, rest_of = KINDS_OF_LINES[kind]
+    children = b"add v1 %s 10 10\n" % CLASSES_OF_LINES.get(kind, b"FrameLayout") * VIEWS_OF_LINES
+    begun = b"window 1000 1000\nadd root LinearLayout match match\n" + children
+
+    def made(n):
+        return begun + b"".join(b"%s v%d %s\n" % (word, 2 + k * 7 % VIEWS_OF_LINES, rest_of(k)) for k in range(n))
+
+    return made
+
+
+def lines_of_spaces(n):
+    return b"   \n" * n
+
+
 def inflated(times, views):
     """The lines that make the views of the layout file this many times, and take them away before the next time."""
     lines = [b"inflate layout.xml\n"]
