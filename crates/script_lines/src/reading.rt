@@ -23,7 +23,7 @@ pub mod touches;
 
 use crate::commands::{Command, MAX_DPI, MAX_WINDOW, MIN_DPI};
 use crate::fault::LineFault;
-use crate::reading::changes::read_act;
+use crate::reading::changes::{begins_act, read_act};
 use crate::reading::hooks::{begins_edit, hook, read_asked};
 use crate::reading::pixels::pixels;
 use crate::reading::resources::res;
@@ -166,6 +166,7 @@ fn bounds(bytes: &[u8]) -> Result<Command<'_>, LineFault>
 }
 
 /// Whether a view and all above it are prevented from taking pointers away from their children.
+#[inline(never)]
 #[tactic(auto, unfolding(crate::specs::reading::Commands::disallow_of))]
 fn disallow(bytes: &[u8]) -> Result<Command<'_>, LineFault>
     ensures value { map_ok plain_command result ≡ disallow_of (words bytes.now) }
@@ -179,6 +180,7 @@ fn disallow(bytes: &[u8]) -> Result<Command<'_>, LineFault>
 }
 
 /// A line that sets something of a view.
+#[inline(never)]
 #[tactic(auto, unfolding(crate::specs::reading::Commands::set_of))]
 fn set<'a>(head: &[u8], bytes: &'a [u8]) -> Result<Command<'a>, LineFault>
     ensures value { map_ok plain_command result ≡ set_of head.now (words bytes.now) }
@@ -190,6 +192,7 @@ fn set<'a>(head: &[u8], bytes: &'a [u8]) -> Result<Command<'a>, LineFault>
 }
 
 /// A line that sets the text of a view.
+#[inline(never)]
 #[tactic(auto, unfolding(crate::specs::reading::Commands::set_text_of))]
 fn set_text(bytes: &[u8]) -> Result<Command<'_>, LineFault>
     ensures value { map_ok plain_command result ≡ set_text_of bytes.now }
@@ -311,7 +314,7 @@ fn edit<'a>(head: &[u8], bytes: &'a [u8]) -> Result<Command<'a>, LineFault>
 /// words of its command and no others, and each line that has them is read as that command. Those that come most often
 /// are looked for first.
 #[inline(always)]
-#[tactic(auto, unfolding(crate::specs::reading::Commands::command_of), using(crate::proofs::readings::EditLaws::add_line, crate::proofs::readings::EditLaws::frame_line, crate::proofs::readings::EditLaws::restore_line, crate::proofs::readings::ReadLaws::read_short, crate::proofs::readings::ReadLaws::read_written))]
+#[tactic(auto, unfolding(crate::specs::reading::Commands::command_of), using(crate::proofs::readings::EditLaws::add_line, crate::proofs::readings::EditLaws::frame_line, crate::proofs::readings::EditLaws::restore_line, crate::proofs::readings::EditLaws::act_line, crate::proofs::readings::EditLaws::text_line, crate::proofs::readings::EditLaws::disallow_line, crate::proofs::readings::ReadLaws::read_short, crate::proofs::readings::ReadLaws::read_written))]
 pub fn line(bytes: &[u8]) -> Result<Command<'_>, LineFault>
     ensures value { map_ok plain_command result ≡ command_of bytes.now }
     ensures bounds { IfOk result (λ command. IsInBounds (plain_command command)) }
@@ -336,6 +339,9 @@ pub fn line(bytes: &[u8]) -> Result<Command<'_>, LineFault>
     if begins_edit(head) {
         return edit(head, rest);
     }
+    if begins_act(head) {
+        return set(head, rest);
+    }
     if is(head, b"add") {
         return add(rest);
     }
@@ -344,6 +350,12 @@ pub fn line(bytes: &[u8]) -> Result<Command<'_>, LineFault>
     }
     if is(head, b"restore") {
         return restore(rest);
+    }
+    if is(head, b"text") {
+        return set_text(rest);
+    }
+    if is(head, b"disallow") {
+        return disallow(rest);
     }
     read_rest(head, rest)
 }

@@ -1,12 +1,12 @@
--- Lines that set what a hook can set too.
+-- What a line is read as, by its first word.
 use Rattle.std.proofs.Common.{◌≡◌, ℕ, Bool, true, false, refl, sym, subst, List}
 use Rattle.std.specs.Prelude.{◌||◌, codes, Result, Ok, Err}
 use Rattle.std.specs.Str.{bytes_eq}
 use Rattle.std.proofs.lemmas.Slice.Eq.{bytes_eq-Decides}
 use Rattle.view_model.specs.declared.changes.Act.TheVariants as act
 use Rattle.view_model.specs.declared.changes.Change.{Change}
-use Rattle.script_lines.specs.reading.Changes.{act_of, change_of}
-use Rattle.script_lines.specs.reading.Commands.{add_of, command_by, command_in, frame_of, set_of}
+use Rattle.script_lines.specs.reading.Changes.{act_of, begins_act, change_of}
+use Rattle.script_lines.specs.reading.Commands.{add_of, command_by, command_in, disallow_of, frame_of, set_of, set_text_of}
 use Rattle.script_lines.specs.reading.States.{restore_of}
 use Rattle.script_lines.specs.reading.Hooks.{asked_of, begins_edit}
 use Rattle.script_lines.specs.words.Names.{name_in}
@@ -65,7 +65,38 @@ pub frame_line : (head rest : List ℕ) → bytes_eq head (codes "frame") ≡ tr
 unfolding command_in command_by
 frame_line head rest same = subst (λ (word : List ℕ). command_in word rest ≡ frame_of (words rest)) (sym ((bytes_eq-Decides head (codes "frame")).0 same)) refl
 
--- and one whose first word is `restore` restores a state
+-- one whose first word is `restore` restores a state
 pub restore_line : (head rest : List ℕ) → bytes_eq head (codes "restore") ≡ true → command_in head rest ≡ restore_of (words rest)
 unfolding command_in command_by
 restore_line head rest same = subst (λ (word : List ℕ). command_in word rest ≡ restore_of (words rest)) (sym ((bytes_eq-Decides head (codes "restore")).0 same)) refl
+
+-- what is claimed of the first word of a line that sets what no hook can set
+abbrev IsActLine : List ℕ → List ℕ → Type 0
+IsActLine rest head = command_in head rest ≡ set_of head (words rest)
+
+-- a line whose first word is among those sets something of a view
+pub act_line : (head rest : List ℕ) → begins_act head ≡ true → command_in head rest ≡ set_of head (words rest)
+unfolding begins_act command_in command_by
+act_line head rest begins =
+    either (IsActLine rest head) _ _ (of_word (IsActLine rest) (codes "visible") head refl)
+    (either (IsActLine rest head) _ _ (of_word (IsActLine rest) (codes "id") head refl)
+    (either (IsActLine rest head) _ _ (of_word (IsActLine rest) (codes "weightsum") head refl)
+    (either (IsActLine rest head) _ _ (of_word (IsActLine rest) (codes "orient") head refl)
+    (either (IsActLine rest head) _ _ (of_word (IsActLine rest) (codes "flag") head refl)
+    (either (IsActLine rest head) _ _ (of_word (IsActLine rest) (codes "direction") head refl)
+    (either (IsActLine rest head) _ _ (of_word (IsActLine rest) (codes "scroll") head refl)
+    (either (IsActLine rest head) _ _ (of_word (IsActLine rest) (codes "rule") head refl)
+    (either (IsActLine rest head) _ _ (of_word (IsActLine rest) (codes "ink") head refl)
+    (either (IsActLine rest head) _ _ (of_word (IsActLine rest) (codes "answer") head refl)
+    (either (IsActLine rest head) _ _ (of_word (IsActLine rest) (codes "intercept") head refl)
+    (λ h. absurd (cc)))))))))))) begins
+
+-- one whose first word is `text` sets the text of a view
+pub text_line : (head rest : List ℕ) → bytes_eq head (codes "text") ≡ true → command_in head rest ≡ set_text_of rest
+unfolding command_in command_by
+text_line head rest same = subst (λ (word : List ℕ). command_in word rest ≡ set_text_of rest) (sym ((bytes_eq-Decides head (codes "text")).0 same)) refl
+
+-- and one whose first word is `disallow` prevents a view from taking pointers away from its children
+pub disallow_line : (head rest : List ℕ) → bytes_eq head (codes "disallow") ≡ true → command_in head rest ≡ disallow_of (words rest)
+unfolding command_in command_by
+disallow_line head rest same = subst (λ (word : List ℕ). command_in word rest ≡ disallow_of (words rest)) (sym ((bytes_eq-Decides head (codes "disallow")).0 same)) refl

@@ -1,5 +1,6 @@
 -- What a line sets of a view, after the view's name.
-use Rattle.std.specs.Prelude.{ℕ, ◌≤◌, ◌<◌, if◌then◌else◌, Bool, true, false, ℤ, pos, List, codes, Result, Ok, Err}
+use Rattle.std.specs.Prelude.{ℕ, ◌≤◌, ◌<◌, if◌then◌else◌, Bool, true, false, ℤ, pos, List, [], ◌∷◌, codes, Result, Ok, Err}
+use Rattle.std.specs.List.{list_any}
 use Rattle.std.specs.Str.{bytes_eq}
 use Rattle.geom_core.specs.declared.geometry.Insets.{Insets}
 use Rattle.view_model.specs.Numbers.{max_inset, max_size, max_weight, min_margin}
@@ -205,6 +206,16 @@ answer_of words = do
 -- `none`, or the words of one or more actions
 abbrev pub intercept_of : List (List ℕ) → Result Act LineFault
 intercept_of words = map_ok act.Intercept (actions_of words)
+
+-- the words with which lines begin that set something of a view which no hook can set
+abbrev pub act_words : List (List ℕ)
+act_words =
+    codes "visible" ∷ codes "id" ∷ codes "weightsum" ∷ codes "orient" ∷ codes "flag" ∷ codes "direction" ∷ codes "scroll"
+    ∷ codes "rule" ∷ codes "ink" ∷ codes "answer" ∷ codes "intercept" ∷ []
+
+-- whether such a line begins with this word
+unfoldable pub begins_act : List ℕ → Bool
+begins_act word = list_any (λ name. bytes_eq name word) act_words
 
 -- what a line sets, by its first word and the words after the view
 unfoldable pub act_of : List ℕ → List (List ℕ) → Result Act LineFault

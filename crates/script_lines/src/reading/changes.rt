@@ -1,7 +1,7 @@
 //! What a line sets of a view.
 
 ghost use Rattle.std.specs.Prelude.{◌≡◌, negsuc, ◌≤ℤ◌, IfOk};
-ghost use Rattle.script_lines.specs.reading.Changes.{IsActInBounds, IsChangeInBounds, act_of, answer_named, answer_of, background_of, change_of, direction_named, direction_of, flag_named, flag_of, gravity_change_of, ink_of, insets_of, intercept_of, kids_of, margins_of, min_of, new_id_of, orient_of, padding_of, scroll_of, sides_of, size_of, vertical_of, visibility_of, visible_of, weight_change_of, weight_sum_of};
+ghost use Rattle.script_lines.specs.reading.Changes.{IsActInBounds, IsChangeInBounds, act_of, answer_named, answer_of, background_of, begins_act, change_of, direction_named, direction_of, flag_named, flag_of, gravity_change_of, ink_of, insets_of, intercept_of, kids_of, margins_of, min_of, new_id_of, orient_of, padding_of, scroll_of, sides_of, size_of, vertical_of, visibility_of, visible_of, weight_change_of, weight_sum_of};
 ghost use Rattle.script_lines.specs.words.Numbers.{IsWithin};
 ghost use Rattle.script_lines.specs.words.Words.{words};
 
@@ -352,6 +352,25 @@ fn direction(bytes: &[u8]) -> Result<Act, LineFault>
     let direction = read_direction(word)?;
     end(rest)?;
     Ok(Act::Direction(direction))
+}
+
+/// Whether a line begins with this word that sets something of a view which no hook can set.
+#[tactic(auto, unfolding(crate::specs::reading::Changes::begins_act))]
+#[inline]
+pub fn begins_act(word: &[u8]) -> bool
+    ensures { result ≡ begins_act word.now }
+{
+    is(b"visible", word)
+        || is(b"id", word)
+        || is(b"weightsum", word)
+        || is(b"orient", word)
+        || is(b"flag", word)
+        || is(b"direction", word)
+        || is(b"scroll", word)
+        || is(b"rule", word)
+        || is(b"ink", word)
+        || is(b"answer", word)
+        || is(b"intercept", word)
 }
 
 /// What a line sets, by its first word and what comes after the view.

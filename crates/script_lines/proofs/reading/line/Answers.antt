@@ -2,7 +2,7 @@ use Rattle.std.proofs.Common.{arith}
 use Rattle.std.specs.Prelude.{Err}
 use Rattle.script_lines.specs.declared.fault.LineFault.TheVariants.{Syntax}
 use Rattle.script_lines.specs.reading.Commands.{command_of}
-use Rattle.script_lines.proofs.readings.EditLaws.{add_line, frame_line, restore_line}
+use Rattle.script_lines.proofs.readings.EditLaws.{act_line, add_line, disallow_line, frame_line, restore_line, text_line}
 use Rattle.script_lines.proofs.readings.ReadLaws.{read_given, read_passed, read_spelled}
 use Rattle.script_lines.proofs.reading.line.Goals as goal
 
@@ -35,6 +35,19 @@ returns-then-begins_edit-clause-spelled c command bounds has text = read_spelled
 
 pub returns-then-begins_edit-clause-given : goal.returns-then-begins_edit-clause-given
 returns-then-begins_edit-clause-given c command bounds written utf8 = read_given c.args.bytes.now _ (returns-then-begins_edit-clause-value c) command bounds written utf8
+
+pub returns-then-begins_act-clause-value : goal.returns-then-begins_act-clause-value
+unfolding command_of
+returns-then-begins_act-clause-value c = grind (arith, act_line)
+
+pub returns-then-begins_act-clause-passed : goal.returns-then-begins_act-clause-passed
+returns-then-begins_act-clause-passed c passed = read_passed c.args.bytes.now _ (returns-then-begins_act-clause-value c) passed
+
+pub returns-then-begins_act-clause-spelled : goal.returns-then-begins_act-clause-spelled
+returns-then-begins_act-clause-spelled c command bounds has text = read_spelled c.args.bytes.now _ (returns-then-begins_act-clause-value c) command bounds has text
+
+pub returns-then-begins_act-clause-given : goal.returns-then-begins_act-clause-given
+returns-then-begins_act-clause-given c command bounds written utf8 = read_given c.args.bytes.now _ (returns-then-begins_act-clause-value c) command bounds written utf8
 
 pub returns-then-is-clause-value : goal.returns-then-is-clause-value
 unfolding command_of
@@ -74,6 +87,32 @@ returns-then-is-3-clause-spelled c command bounds has text = read_spelled c.args
 
 pub returns-then-is-3-clause-given : goal.returns-then-is-3-clause-given
 returns-then-is-3-clause-given c command bounds written utf8 = read_given c.args.bytes.now _ (returns-then-is-3-clause-value c) command bounds written utf8
+
+pub returns-then-is-4-clause-value : goal.returns-then-is-4-clause-value
+unfolding command_of
+returns-then-is-4-clause-value c = grind (arith, text_line)
+
+pub returns-then-is-4-clause-passed : goal.returns-then-is-4-clause-passed
+returns-then-is-4-clause-passed c passed = read_passed c.args.bytes.now _ (returns-then-is-4-clause-value c) passed
+
+pub returns-then-is-4-clause-spelled : goal.returns-then-is-4-clause-spelled
+returns-then-is-4-clause-spelled c command bounds has text = read_spelled c.args.bytes.now _ (returns-then-is-4-clause-value c) command bounds has text
+
+pub returns-then-is-4-clause-given : goal.returns-then-is-4-clause-given
+returns-then-is-4-clause-given c command bounds written utf8 = read_given c.args.bytes.now _ (returns-then-is-4-clause-value c) command bounds written utf8
+
+pub returns-then-is-5-clause-value : goal.returns-then-is-5-clause-value
+unfolding command_of
+returns-then-is-5-clause-value c = grind (arith, disallow_line)
+
+pub returns-then-is-5-clause-passed : goal.returns-then-is-5-clause-passed
+returns-then-is-5-clause-passed c passed = read_passed c.args.bytes.now _ (returns-then-is-5-clause-value c) passed
+
+pub returns-then-is-5-clause-spelled : goal.returns-then-is-5-clause-spelled
+returns-then-is-5-clause-spelled c command bounds has text = read_spelled c.args.bytes.now _ (returns-then-is-5-clause-value c) command bounds has text
+
+pub returns-then-is-5-clause-given : goal.returns-then-is-5-clause-given
+returns-then-is-5-clause-given c command bounds written utf8 = read_given c.args.bytes.now _ (returns-then-is-5-clause-value c) command bounds written utf8
 
 pub returns-clause-value : goal.returns-clause-value
 unfolding command_of
