@@ -27,3 +27,4 @@ mod RestLaws
 pub mod ShapeLaws
 mod SightLaws
 mod Unedited
+mod Unranged

@@ -10,7 +10,7 @@ ghost use Rattle.kept_views.specs.Laying.{Fit, IsPut, IsQuiet, IsQuietAll, IsQui
 ghost use Rattle.kept_views.specs.Passes.{settled, settled_at};
 ghost use Rattle.measure_pass.specs.Caches.{Grown};
 ghost use Rattle.measure_pass.specs.Measured.{IsFit, Keeps};
-ghost use Rattle.view_model.specs.declared.kinds.Class.TheVariants.{LinearLayout, RelativeLayout};
+ghost use Rattle.view_model.specs.declared.kinds.Class.TheVariants.{LinearLayout, RelativeLayout, ScrollView};
 ghost use Rattle.view_model.specs.declared.limits.TheConstants.{MAX_VIEWS};
 ghost use Rattle.view_model.specs.Forest.{count_of};
 ghost use Rattle.view_model.specs.Facts.{is_shown};
@@ -163,7 +163,38 @@ fn follow_seen(
 
 /// Brings the offset of a view in this rectangle into its range. If that changes it, what is seen of the view is
 /// damage; a view without a canvas is not looked at.
+#[inline(always)]
 fn bring(tree: &mut ViewTree, view: Key, rect: Rect, canvas: &Option<Canvas>, damage: &mut Damage)
+    requires live { IsLive tree.old view }
+    requires near { IfSome canvas.now (IsCanvas (2 ^ 37)) }
+    ensures same { SameTree tree.old tree.new }
+    ensures held { held_of tree.new view
+        ≡ record (held_of tree.old view) { offset = brought (range_at tree.old view) (offset_of tree.old view) } }
+    ensures others { KeepsOthers tree.old tree.new view }
+    ensures counts { tree.new.counts ≡ tree.old.counts }
+    ensures grew { LiesIn damage.old.rect damage.new.rect }
+    ensures seen { IfSome canvas.now (λ canvas. (offset_of tree.new view ≡ offset_of tree.old view)
+        ⊎ ((x y : ℤ) → holds damage.new.rect x y ≡ false → holds (seen_in (Some rect) (as_seen canvas)) x y ≡ false)) }
+    ensures within { (box : Rect) → LiesIn damage.old.rect box
+        → IfSome canvas.now (λ canvas. offset_of tree.new view ≢ offset_of tree.old view
+        → LiesIn (seen_in (Some rect) (as_seen canvas)) box)
+        → LiesIn damage.new.rect box }
+{
+    if !is_scrolled(tree, view) {
+        return;
+    }
+    bring_scrolled(tree, view, rect, canvas, damage);
+}
+
+/// The same of a scroll view.
+#[inline(never)]
+fn bring_scrolled(
+    tree: &mut ViewTree,
+    view: Key,
+    rect: Rect,
+    canvas: &Option<Canvas>,
+    damage: &mut Damage,
+)
     requires live { IsLive tree.old view }
     requires near { IfSome canvas.now (IsCanvas (2 ^ 37)) }
     ensures same { SameTree tree.old tree.new }
@@ -186,6 +217,23 @@ fn bring(tree: &mut ViewTree, view: Key, rect: Rect, canvas: &Option<Canvas>, da
         return;
     };
     damage.add(part_seen(Some(rect), *canvas));
+}
+
+/// Whether a view is a scroll view. The offset of any other has no range.
+#[inline(always)]
+fn is_scrolled(tree: &ViewTree, view: Key) -> bool
+    requires { IsLive tree.now view }
+    ensures is_tree { IsTree tree.now }
+    ensures other { result ≡ false → class_of tree.now view ≢ ScrollView }
+{
+    match tree.class(view) {
+        Class::ScrollView => true,
+        Class::View
+        | Class::TextView
+        | Class::FrameLayout
+        | Class::LinearLayout
+        | Class::RelativeLayout => false,
+    }
 }
 
 /// Whether nothing is to be done below a view.
