@@ -20,7 +20,7 @@ ghost use Rattle.view_model.specs.Measuring.{Measured};
 ghost use Rattle.view_model.specs.Offsets.{brought};
 ghost use Rattle.view_model.specs.RelativeLayout.{sides_of};
 ghost use Rattle.view_model.specs.Visible.{canvas_below, seen_in};
-ghost use Rattle.view_tree.specs.Rows.{part_from};
+ghost use Rattle.view_tree.specs.Rows.{children_of_first, first_key, part_from};
 ghost use Rattle.scroll_offsets.specs.Bringing.{range_at};
 ghost use Rattle.view_tree.specs.Views.{IsLive, IsTree, KeepsOthers, KeepsOutside, SameTree, class_of, facts_of, held_of, offset_of, specs_of, state_of};
 ghost use Rattle.traversal.specs.Counting.{IsMeasuringCounted};
@@ -101,6 +101,10 @@ pub fn lay_open(
     if is_calm(moved, state.forced, state.layout_needed) {
         return;
     }
+    if is_bare(tree, view, canvas) {
+        bring(tree, view, rect, canvas, &mut context.damage);
+        return;
+    }
     let inner = follow_in(tree.facts(view), before, rect, canvas, &mut context.damage);
     let inside = Inside {
         size: extent(rect),
@@ -108,6 +112,20 @@ pub fn lay_open(
     };
     lay_kids(tree, view, &inside, context);
     bring(tree, view, rect, canvas, &mut context.damage);
+}
+
+/// Whether a view has no children and is not seen, so that nothing is to be followed and nothing is below it. Most views
+/// that are laid are such.
+#[inline(always)]
+fn is_bare(tree: &ViewTree, view: Key, canvas: &Option<Canvas>) -> bool
+    requires { IsLive tree.now view }
+    ensures unseen { result ≡ true → canvas.now ≡ None }
+    ensures childless { result ≡ true → first_key (children_of_first (part_from view tree.now.tree)) ≡ None }
+{
+    match canvas {
+        None => tree.first(view).is_none(),
+        Some(_) => false,
+    }
 }
 
 /// The same as `follow`, which is not called without a canvas.

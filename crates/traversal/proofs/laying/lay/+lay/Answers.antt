@@ -1,9 +1,8 @@
-use Rattle.std.proofs.Common.{◌≡◌, ◌≢◌, ◌+◌, ◌≤◌, ℕ, true, false, length, refl, sym, ◌∙◌, ap, subst, arith}
+use Rattle.std.proofs.Common.{◌≡◌, ◌≢◌, ◌+◌, ◌≤◌, ℕ, None, true, false, length, refl, sym, ◌∙◌, ap, subst, arith}
 use Rattle.std.specs.Prelude.{if◌then◌else◌}
 use Rattle.std.proofs.lemmas.Bool.{cases_eq}
 use Rattle.std.proofs.Common.{inl, inr}
 use Rattle.geom_core.specs.declared.geometry.Size.{Size}
-use Rattle.kept_views.specs.Kept.{owed}
 use Rattle.kept_views.specs.Laying.{Wrote, differ, moved_to, same_place, sizes_back, spot_of}
 use Rattle.kept_views.specs.Passes.{settled_at}
 use Rattle.kept_views.proofs.LaidFrames.{Fit-along, Fit-first, differ-along}
@@ -14,11 +13,12 @@ use Rattle.view_model.specs.declared.kinds.Class.{Class}
 use Rattle.view_model.specs.declared.kinds.Class.TheVariants.{View, TextView, FrameLayout, LinearLayout, ScrollView, RelativeLayout}
 use Rattle.view_model.specs.Facts.{is_shown, layout_facts}
 use Rattle.view_model.specs.Forest.{count_of}
+use Rattle.view_model.specs.Geometry.{size_of_rect}
 use Rattle.view_model.specs.Layout.{place_in, places_backwards}
 use Rattle.view_model.specs.Measuring.{Measured, Specs}
 use Rattle.view_model.specs.RelativeLayout.{sides_of}
 use Rattle.view_tree.specs.declared.node.state.State.{State}
-use Rattle.view_tree.specs.Rows.{first_tree, children_of_first, later_siblings, part_from, head_view}
+use Rattle.view_tree.specs.Rows.{first_tree, first_key, children_of_first, later_siblings, part_from, head_view}
 use Rattle.view_tree.specs.Views.{Held, Views, class_of, facts_of, held_of, specs_of, state_of}
 use Rattle.view_tree.specs.declared.counts.Counts.{Counts}
 use Rattle.view_tree.proofs.forest.Walks.{count_few, count_one, fewer_below}
@@ -383,10 +383,10 @@ lay_open-returns-clause-put t c =
     let same : c.move_to-moved.new.tree.tree ≡ tree = f.same.tree ∙ g.same.tree in
     let all : c.lay_kids.new.tree.tree ≡ tree = c.lay_kids.ensures.done.same.tree ∙ same in
     let there = moved_is (a view) (b view) c.args.rect c.move_to-moved.result f.moved f.held in
-    put_at tree view (held_of c.args.tree.now) a b (held_of c.lay_kids.new.tree) (held_of c.bring.new.tree) c.args.rect g.is_tree.keys r.live r.shown g.fit
+    put_at tree view (held_of c.args.tree.now) a b (held_of c.lay_kids.new.tree) (held_of c.bring-2.new.tree) c.args.rect g.is_tree.keys r.live r.shown g.fit
     (record { first = g.unmarked.first; specs = g.unmarked.specs; edges = g.unmarked.edges }) g.keeps.offsets (record { at = there; others = f.others })
     (rw c.extent.ensures at (rw same at c.lay_kids.ensures.quiet)) (rw same at c.lay_kids.ensures.done.others)
-    (record { at = rw all at c.bring.ensures.held; others = c.bring.ensures.others })
+    (record { at = rw all at c.bring-2.ensures.held; others = c.bring-2.ensures.others })
 
 pub lay_open-returns-clause-done : goal.lay_open-returns-clause-done
 lay_open-returns-clause-done t c =
@@ -399,11 +399,11 @@ lay_open-returns-clause-done t c =
     let a = held_of c.make_fit.new.tree in
     let b = held_of c.move_to-moved.new.tree in
     let l = held_of c.lay_kids.new.tree in
-    let n = held_of c.bring.new.tree in
+    let n = held_of c.bring-2.new.tree in
     let f = c.move_to-moved.ensures in
     let g = c.make_fit.ensures in
     let follow = c.follow_in-inner.ensures in
-    let bring = c.bring.ensures in
+    let bring = c.bring-2.ensures in
     let first = same_then c.args.tree.now c.make_fit.new.tree c.move_to-moved.new.tree g.same f.same in
     let laid = rw first.tree at c.lay_kids.ensures.done in
     let there = moved_is (a view) (b view) c.args.rect c.move_to-moved.result f.moved f.held in
@@ -412,7 +412,7 @@ lay_open-returns-clause-done t c =
     let steps = steps_by view c.args.rect kids old a b l n g.keeps.bounds g.keeps.offsets wrote laid.others (ap (λ (h : Held). h.state.bounds) bring.held) bring.others in
     let was : (old view).state.bounds ≡ c.state-before.result.bounds = sym (ap (λ (state : State). state.bounds) c.state-before.ensures.value ∙ g.keeps.bounds view) in
     record {
-      same = same_then c.args.tree.now c.lay_kids.new.tree c.bring.new.tree (same_then c.args.tree.now c.move_to-moved.new.tree c.lay_kids.new.tree first c.lay_kids.ensures.done.same) bring.same;
+      same = same_then c.args.tree.now c.lay_kids.new.tree c.bring-2.new.tree (same_then c.args.tree.now c.move_to-moved.new.tree c.lay_kids.new.tree first c.lay_kids.ensures.done.same) bring.same;
       others = λ key none. outside_at tree view a b l n _ _ r.live wrote laid.others (record { at = bring.held; others = bring.others }) key none ∙ g.others key none;
       measures =
           let owes = under.owed in
@@ -424,13 +424,13 @@ lay_open-returns-clause-done t c =
           (ap (λ bounds. same_place bounds c.args.rect) (sym (g.keeps.bounds view)) ∙ f.moved)
           (λ key ne. ap (λ (h : Held). h.state.bounds) (f.others key ne) ∙ g.keeps.bounds key) (sym (settled_bounds view n view) ∙ (lay_open-returns-clause-put t c).bounds)
           (λ key ne. ap (λ (h : Held). h.state.bounds) (bring.others key ne)) in
-          sums c.bring.new.tree.counts.laid c.lay_kids.new.tree.counts.laid c.move_to-moved.new.tree.counts.laid c.make_fit.new.tree.counts.laid c.args.tree.now.counts.laid
+          sums c.bring-2.new.tree.counts.laid c.lay_kids.new.tree.counts.laid c.move_to-moved.new.tree.counts.laid c.make_fit.new.tree.counts.laid c.args.tree.now.counts.laid
           (if c.move_to-moved.result then 1 else 0) (differ b l kids) (differ old n list) (ap (λ (counts : Counts). counts.laid) bring.counts) laid.moves f.laid g.laid d;
       counted =
           counted_then g.counted
           (counted_then (counted_still c.make_fit.new.tree c.move_to-moved.new.tree c.make_fit.new.work f.measures)
           (counted_then c.lay_kids.ensures.done.counted
-          (counted_still c.lay_kids.new.tree c.bring.new.tree c.lay_kids.new.context.work (ap (λ (counts : Counts). counts.measures) bring.counts))));
+          (counted_still c.lay_kids.new.tree c.bring-2.new.tree c.lay_kids.new.context.work (ap (λ (counts : Counts). counts.measures) bring.counts))));
       caches =
           grown_kid tree view old n r.live r.shown
           (Grown-trans (ok (specs_of (old view).state)) old a n list g.caches
@@ -440,12 +440,89 @@ lay_open-returns-clause-done t c =
           (kids_asked c.args.tree.now view a g.is_tree r.live r.shown g.fit.sized g.unmarked.first) laid.caches)));
       grew = λ x y h. bring.grew x y (laid.grew x y (follow.grew x y h));
       sight =
-          sight_at tree view c.args.rect old b l n c.args.canvas.now c.follow_in-inner.result c.follow_in-inner.new.damage.rect c.lay_kids.new.context.damage.rect c.bring.new.damage.rect c.state-before.result.bounds c.facts.result.now
+          sight_at tree view c.args.rect old b l n c.args.canvas.now c.follow_in-inner.result c.follow_in-inner.new.damage.rect c.lay_kids.new.context.damage.rect c.bring-2.new.damage.rect c.state-before.result.bounds c.facts.result.now
           r.live g.is_tree.keys steps was (rw first.tree at c.facts.ensures.value) follow.follows laid.grew bring.grew laid.sight bring.seen;
       within =
-          covers_at tree view c.args.rect old b l n c.args.canvas.now c.follow_in-inner.result c.follow_in-inner.new.damage.rect c.lay_kids.new.context.damage.rect c.bring.new.damage.rect c.state-before.result.bounds c.facts.result.now
+          covers_at tree view c.args.rect old b l n c.args.canvas.now c.follow_in-inner.result c.follow_in-inner.new.damage.rect c.lay_kids.new.context.damage.rect c.bring-2.new.damage.rect c.state-before.result.bounds c.facts.result.now
           r.live g.is_tree.keys steps was (rw first.tree at c.facts.ensures.value) c.args.context.now.damage.rect
           follow.within follow.unfollowed follow.stays laid.within bring.within;
+    }
+  where
+    ok : Specs → ℕ → Specs → Type 0
+    ok specs place other = other ≡ specs
+
+    sums : (e d c b a m k w : ℕ) → e ≡ d → d ≤ c + k → c ≤ b + m → b ≡ a → m + k ≤ w → e ≤ a + w
+    sums e d c b a m k w p q r s t = omega arith
+
+pub lay_open-returns-then-is_bare-clause-put : goal.lay_open-returns-then-is_bare-clause-put
+lay_open-returns-then-is_bare-clause-put t c =
+    let tree = c.args.tree.now.tree in
+    let view = c.args.view in
+    let kids = children_of_first (part_from view tree) in
+    let r = c.requires.fit in
+    let a = held_of c.make_fit.new.tree in
+    let b = held_of c.move_to-moved.new.tree in
+    let f = c.move_to-moved.ensures in
+    let g = c.make_fit.ensures in
+    let same : c.move_to-moved.new.tree.tree ≡ tree = f.same.tree ∙ g.same.tree in
+    let there = moved_is (a view) (b view) c.args.rect c.move_to-moved.result f.moved f.held in
+    let childless : first_key kids ≡ None = rw same at c.is_bare.ensures.childless c.if-is_bare.true in
+    put_at tree view (held_of c.args.tree.now) a b b (held_of c.bring.new.tree) c.args.rect g.is_tree.keys r.live r.shown g.fit
+    (record { first = g.unmarked.first; specs = g.unmarked.specs; edges = g.unmarked.edges }) g.keeps.offsets (record { at = there; others = f.others })
+    (quiet_none b b (spot_of (part_from view tree) (b view) (size_of_rect c.args.rect)) kids None true refl refl (sym childless)) (λ key none. refl)
+    (record { at = rw same at c.bring.ensures.held; others = c.bring.ensures.others })
+
+pub lay_open-returns-then-is_bare-clause-done : goal.lay_open-returns-then-is_bare-clause-done
+lay_open-returns-then-is_bare-clause-done t c =
+    let tree = c.args.tree.now.tree in
+    let view = c.args.view in
+    let list = first_tree (part_from view tree) in
+    let kids = children_of_first (part_from view tree) in
+    let r = c.requires.fit in
+    let old = held_of c.args.tree.now in
+    let a = held_of c.make_fit.new.tree in
+    let b = held_of c.move_to-moved.new.tree in
+    let l = b in
+    let n = held_of c.bring.new.tree in
+    let f = c.move_to-moved.ensures in
+    let g = c.make_fit.ensures in
+    let bring = c.bring.ensures in
+    let first = same_then c.args.tree.now c.make_fit.new.tree c.move_to-moved.new.tree g.same f.same in
+    let unseen : c.args.canvas.now ≡ None = c.is_bare.ensures.unseen c.if-is_bare.true in
+    let stage : LayingStage = record { views = c.move_to-moved.new.tree; damage = c.args.context.now.damage.rect; work = c.make_fit.new.work } in
+    let laid : HasLaid None stage stage kids = laid_none None stage kids in
+    let there = moved_is (a view) (b view) c.args.rect c.move_to-moved.result f.moved f.held in
+    let wrote : Wrote a b view (moved_to (a view) c.args.rect) = record { at = there; others = f.others } in
+    let under = below_at tree view a b (moved_to (a view) c.args.rect) g.is_tree.keys r.live r.shown g.fit g.unmarked.first wrote in
+    record {
+      same = same_then c.args.tree.now c.move_to-moved.new.tree c.bring.new.tree first bring.same;
+      others = λ key none. outside_at tree view a b l n _ _ r.live wrote laid.others (record { at = bring.held; others = bring.others }) key none ∙ g.others key none;
+      measures =
+          let owes = under.owed in
+          let more = laid.measures in
+          let fit = g.measured in
+          omega arith;
+      moves =
+          let d = differ_at tree view old b l n c.args.rect c.move_to-moved.result g.is_tree.keys r.live
+          (ap (λ bounds. same_place bounds c.args.rect) (sym (g.keeps.bounds view)) ∙ f.moved)
+          (λ key ne. ap (λ (h : Held). h.state.bounds) (f.others key ne) ∙ g.keeps.bounds key) (sym (settled_bounds view n view) ∙ (lay_open-returns-then-is_bare-clause-put t c).bounds)
+          (λ key ne. ap (λ (h : Held). h.state.bounds) (bring.others key ne)) in
+          sums c.bring.new.tree.counts.laid c.move_to-moved.new.tree.counts.laid c.move_to-moved.new.tree.counts.laid c.make_fit.new.tree.counts.laid c.args.tree.now.counts.laid
+          (if c.move_to-moved.result then 1 else 0) (differ b l kids) (differ old n list) (ap (λ (counts : Counts). counts.laid) bring.counts) laid.moves f.laid g.laid d;
+      counted =
+          counted_then g.counted
+          (counted_then (counted_still c.make_fit.new.tree c.move_to-moved.new.tree c.make_fit.new.work f.measures)
+          (counted_still c.move_to-moved.new.tree c.bring.new.tree c.make_fit.new.work (ap (λ (counts : Counts). counts.measures) bring.counts)));
+      caches =
+          grown_kid tree view old n r.live r.shown
+          (Grown-trans (ok (specs_of (old view).state)) old a n list g.caches
+          (subst (λ (specs : Specs). Grown (ok specs) a n list) g.unmarked.specs
+          (grown_view tree view (specs_of (a view).state) a b l n (moved_to (a view) c.args.rect) (n view) g.is_tree.keys r.live wrote refl
+          (record { at = refl; others = bring.others }) (ap (λ (h : Held). h.cache) bring.held) laid.others
+          (kids_asked c.args.tree.now view a g.is_tree r.live r.shown g.fit.sized g.unmarked.first) laid.caches)));
+      grew = bring.grew;
+      sight = rw unseen tt;
+      within = λ box lies covered. bring.within box lies (rw unseen tt);
     }
   where
     ok : Specs → ℕ → Specs → Type 0
@@ -462,6 +539,15 @@ lay_open-returns-then-is_calm-clause-still t c = λ place.
 
 pub lay_open-returns-clause-still : goal.lay_open-returns-clause-still
 lay_open-returns-clause-still t c = λ place.
+    let fit = c.make_fit.ensures.still place.marked in
+    let own : state_of c.make_fit.new.tree c.args.view ≡ state_of c.args.tree.now c.args.view = ap (λ (views : Views). state_of views c.args.view) fit.0 in
+    let stays = unmoved (state_of c.make_fit.new.tree c.args.view).bounds c.args.rect c.move_to-moved.result (ap (λ (s : State). s.bounds) own ∙ place.bounds) c.move_to-moved.ensures.moved in
+    let state = c.state-state.ensures.value ∙ ap (λ (views : Views). state_of views c.args.view) (c.move_to-moved.ensures.still stays) ∙ own in
+    let calm = calm_is c.move_to-moved.result c.state-state.result.forced c.state-state.result.layout_needed stays (ap (λ (s : State). s.forced) state ∙ place.forced) (ap (λ (s : State). s.layout_needed) state ∙ place.needed) in
+    absurd (let no : true ≡ false = sym calm ∙ sym c.is_calm.ensures ∙ c.if-is_calm.false in cc)
+
+pub lay_open-returns-then-is_bare-clause-still : goal.lay_open-returns-then-is_bare-clause-still
+lay_open-returns-then-is_bare-clause-still t c = λ place.
     let fit = c.make_fit.ensures.still place.marked in
     let own : state_of c.make_fit.new.tree c.args.view ≡ state_of c.args.tree.now c.args.view = ap (λ (views : Views). state_of views c.args.view) fit.0 in
     let stays = unmoved (state_of c.make_fit.new.tree c.args.view).bounds c.args.rect c.move_to-moved.result (ap (λ (s : State). s.bounds) own ∙ place.bounds) c.move_to-moved.ensures.moved in
