@@ -3,7 +3,7 @@
 //! The number of `vN` has no bound: `v0` and `v9999999999` name no view. Hexadecimal digits may have either case; more
 //! than eight are no name. `@0` is well formed and names no view. Ids with the highest bit set are ids as any other.
 
-ghost use Rattle.std.specs.Prelude.{◌≡◌, ◌<◌, ◌≤◌, length, IfOk};
+ghost use Rattle.std.specs.Prelude.{◌≡◌, ◌<◌, ◌≤◌, length, if◌then◌else◌, Some, None, IfSome, IfOk};
 ghost use Rattle.std.specs.Char.{is_ascii_hexdigit};
 ghost use Rattle.std.specs.List.{list_all};
 ghost use Rattle.script_lines.specs.words.Names.{hex_digit_of, hex_of, hex_value, id_in, id_of, name_in, name_of, parent_in, parent_of};
@@ -24,28 +24,31 @@ pub enum Name {
 
 /// The value of a hexadecimal digit.
 #[tactic(auto, unfolding(crate::specs::words::Names::hex_digit_of))]
-fn hex_digit(b: u8) -> u8
-    ensures value { result ≡ hex_digit_of b }
-    ensures below { result < 16 }
+fn hex_digit(b: u8) -> Option<u8>
+    ensures value { result ≡ if is_ascii_hexdigit b then Some (hex_digit_of b) else None }
+    ensures below { IfSome result (λ digit. digit < 16) }
 {
     match b {
-        b'0'..=b'9' => b - b'0',
-        b'a'..=b'f' => b - b'a' + 10,
-        b'A'..=b'F' => b - b'A' + 10,
-        _ => 0,
+        b'0'..=b'9' => Some(b - b'0'),
+        b'a'..=b'f' => Some(b - b'a' + 10),
+        b'A'..=b'F' => Some(b - b'A' + 10),
+        _ => None,
     }
 }
 
-/// The number that hexadecimal digits write.
-fn hex_value_of(digits: &[u8]) -> u32
-    requires { length digits.now ≤ 8 }
-    ensures { result ≡ hex_value digits.now }
+/// The number that up to eight hexadecimal digits write; `None` if one of the bytes is no digit.
+fn read_hex(word: &[u8]) -> Option<u32>
+    requires { length word.now ≤ 8 }
+    ensures { result ≡ if list_all is_ascii_hexdigit word.now then Some (hex_value word.now) else None }
 {
     let mut n = 0u32;
-    for d in digits {
-        n = 16 * n + hex_digit(*d) as u32;
+    for d in word {
+        let Some(digit) = hex_digit(*d) else {
+            return None;
+        };
+        n = 16 * n + digit as u32;
     }
-    n
+    Some(n)
 }
 
 /// Whether each byte is a hexadecimal digit.
@@ -60,11 +63,10 @@ pub fn all_hex(word: &[u8]) -> bool
 pub fn hex(word: &[u8]) -> Option<u32>
     ensures { result ≡ hex_of word.now }
 {
-    if !word.is_empty() && word.len() <= 8 && all_hex(word) {
-        Some(hex_value_of(word))
-    } else {
-        None
+    if word.is_empty() || word.len() > 8 {
+        return None;
     }
+    read_hex(word)
 }
 
 /// The id that a word gives.

@@ -4,7 +4,7 @@
 //! the bounds; so is a dimension below 0, which never means `match` or `wrap`. Both numbers of a weight and their sum
 //! have bounds.
 
-ghost use Rattle.std.specs.Prelude.{◌≡◌, ◌<◌, ◌≤◌, ◌^◌, pos, negsuc, ◌≤ℤ◌, length, IfSome, IfOk, IsTrue};
+ghost use Rattle.std.specs.Prelude.{◌≡◌, ◌<◌, ◌≤◌, ◌^◌, pos, negsuc, ◌≤ℤ◌, length, if◌then◌else◌, Some, None, IfSome, IfOk};
 ghost use Rattle.std.specs.Char.{is_ascii_digit};
 ghost use Rattle.std.specs.List.{list_all};
 ghost use Rattle.script_lines.specs.words.Numbers.{IsWithin, digits_value, integer_in, integer_of, natural_of, pair_of, natural_within, within_of};
@@ -13,24 +13,20 @@ ghost use Rattle.script_lines.specs.words.Words.{map_ok, words};
 use crate::fault::LineFault;
 use crate::words::{end, word};
 
-/// The number that one to ten digits write.
-fn digits_value_of(digits: &[u8]) -> u64
-    requires short { length digits.now ≤ 10 }
-    requires digits { IsTrue (list_all is_ascii_digit digits.now) }
-    ensures value { result ≡ digits_value digits.now }
-    ensures below { result < 10 ^ 10 }
+/// The number that up to ten digits write; `None` if one of the bytes is no digit.
+fn read_digits(word: &[u8]) -> Option<u64>
+    requires { length word.now ≤ 10 }
+    ensures value { result ≡ if list_all is_ascii_digit word.now then Some (digits_value word.now) else None }
+    ensures below { IfSome result (λ n. n < 10 ^ 10) }
 {
     let mut n = 0u64;
-    for d in digits {
+    for d in word {
+        if !d.is_ascii_digit() {
+            return None;
+        }
         n = 10 * n + d.saturating_sub(b'0') as u64;
     }
-    n
-}
-
-fn all_digits(word: &[u8]) -> bool
-    ensures { result ≡ list_all is_ascii_digit word.now }
-{
-    word.iter().all(|b| b.is_ascii_digit())
+    Some(n)
 }
 
 /// The number that a word of digits writes.
@@ -39,15 +35,13 @@ pub fn natural(word: &[u8]) -> Option<u64>
     ensures value { result ≡ natural_of word.now }
     ensures below { IfSome result (λ n. n < 10 ^ 10) }
 {
-    if word.is_empty() {
+    if word.is_empty() || word.len() > 10 {
         return None;
     }
-    let leads = word.len() == 1 || word[0] != b'0';
-    if word.len() <= 10 && all_digits(word) && leads {
-        Some(digits_value_of(word))
-    } else {
-        None
+    if word.len() > 1 && word[0] == b'0' {
+        return None;
     }
+    read_digits(word)
 }
 
 /// The number that a word writes.

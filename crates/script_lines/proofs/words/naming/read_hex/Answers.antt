@@ -1,6 +1,6 @@
 use Rattle.std.proofs.Common.{◌<◌, ◌≤◌, ◌+◌, ◌*◌, ◌^◌, arith, ℕ}
 use Rattle.std.proofs.Math.Nat.{pow-le-pow_right}
-use Rattle.script_lines.proofs.words.naming.hex_value_of.Goals as goal
+use Rattle.script_lines.proofs.words.naming.read_hex.Goals as goal
 
 -- one digit more has room
 room : (n i d : ℕ) → n < 16 ^ i → i < 8 → d < 16 → 16 * n + d < 4294967296
@@ -12,4 +12,7 @@ pub overflow_mul-n : goal.overflow_mul-n
 overflow_mul-n c = let h = room c.loop-d.n c.loop-d.d-index 0 c.loop-d.invariant.bound (omega arith) (omega arith) in omega arith
 
 pub overflow_add-n : goal.overflow_add-n
-overflow_add-n c = let h = room c.loop-d.n c.loop-d.d-index c.hex_digit.result c.loop-d.invariant.bound (omega arith) (omega arith) in omega arith
+overflow_add-n c =
+    let small : c.in-Some.digit < 16 = grind arith in
+    let h = room c.loop-d.n c.loop-d.d-index c.in-Some.digit c.loop-d.invariant.bound (omega arith) small in
+    omega arith
