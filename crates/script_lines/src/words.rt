@@ -71,7 +71,8 @@ pub fn word(bytes: &[u8]) -> Result<(&[u8], &[u8]), LineFault>
     Ok((word, rest))
 }
 
-/// Whether two words are equal. Most words that are compared differ in their length or their first byte.
+/// Whether two words are equal. Most words that are compared differ in their length or their first byte; where one of
+/// them is written in the code, the loop becomes a test for each of its bytes.
 #[inline]
 pub fn is(word: &[u8], name: &[u8]) -> bool
     ensures { result ≡ bytes_eq word.now name.now }
@@ -79,10 +80,14 @@ pub fn is(word: &[u8], name: &[u8]) -> bool
     if word.len() != name.len() {
         return false;
     }
-    if !word.is_empty() && word[0] != name[0] {
-        return false;
+    let mut at = 0;
+    while at < word.len() {
+        if word[at] != name[at] {
+            return false;
+        }
+        at += 1;
     }
-    word == name
+    true
 }
 
 /// This word, and what comes after it.
@@ -108,8 +113,25 @@ pub fn end(bytes: &[u8]) -> Result<(), LineFault>
     Err(LineFault::Syntax)
 }
 
-/// Whether each byte is ASCII.
+/// Whether each byte is ASCII. Four are tested together, since nearly all are.
+#[tactic(auto, using(crate::proofs::texts::PlainLaws::ascii_by_four))]
 fn all_ascii(bytes: &[u8]) -> bool
+    ensures { result ≡ list_all is_ascii bytes.now }
+{
+    let mut at = 0;
+    while bytes.len() - at >= 4 {
+        let front = bytes[at].is_ascii() & bytes[at + 1].is_ascii();
+        let back = bytes[at + 2].is_ascii() & bytes[at + 3].is_ascii();
+        if !(front & back) {
+            return false;
+        }
+        at += 4;
+    }
+    all_ascii_one_by_one(&bytes[at..])
+}
+
+/// The same, each byte by itself.
+fn all_ascii_one_by_one(bytes: &[u8]) -> bool
     ensures { result ≡ list_all is_ascii bytes.now }
 {
     bytes.iter().all(|b| b.is_ascii())
