@@ -1,5 +1,5 @@
 -- The text of a line is no longer than the line.
-use Rattle.std.proofs.Common.{ℕ, ◌≤◌, List, length, arith, length-drop}
+use Rattle.std.proofs.Common.{◌≡◌, ℕ, ◌≤◌, List, ap, length, arith, length-drop}
 use Rattle.std.specs.List.{prefix_len}
 use Rattle.std.specs.Prelude.{IfOk, Result, Ok, Err}
 use Rattle.script_lines.specs.cutting.Lines.{is_space}
@@ -16,3 +16,10 @@ after_word-short bytes = omega (arith, length-drop (prefix_len is_space bytes) b
 pub short_within : (read : Result StackLine LineFault) (m n : ℕ) → m ≤ n → IfOk read (λ line. text_length_in (plain_line line) ≤ m) → IfOk read (λ line. text_length_in (plain_line line) ≤ n)
 short_within (Ok line) m n le short = omega arith
 short_within (Err fault) m n le short = tt
+
+-- the text of what follows the first word is no longer than the line
+pub short_in : (bytes rest : List ℕ) (read : Result StackLine LineFault) → rest ≡ after_word bytes → IfOk read (λ line. text_length_in (plain_line line) ≤ length rest) → IfOk read (λ line. text_length_in (plain_line line) ≤ length bytes)
+short_in bytes rest read after short =
+    let no_longer = after_word-short bytes in
+    let same = ap length after in
+    short_within read _ _ (omega arith) short

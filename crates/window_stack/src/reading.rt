@@ -3,7 +3,7 @@
 ghost use Rattle.std.specs.Prelude.{◌≡◌, ◌≤◌, true, length, Err, IfOk};
 ghost use Rattle.script_lines.specs.cutting.Lines.{is_passed_over};
 ghost use Rattle.script_lines.specs.words.Words.{map_ok, words};
-ghost use Rattle.window_stack.specs.StackLines.{IsLineInBounds, at_of, close_of, compose_of, given_of, in_of, is_touch_word, pane_of, part_by, plain_line, raise_of, stack_line_by, stack_line_of, scancel_of, sdown_of, smove_of, sup_of, text_length_in, touch_line_by};
+ghost use Rattle.window_stack.specs.StackLines.{IsLineInBounds, at_of, close_of, compose_of, given_of, in_of, is_touch_word, pane_of, part_by, plain_line, raise_of, stack_line_of, scancel_of, sdown_of, smove_of, sup_of, text_length_in, touch_line_by};
 ghost use Rattle.script_lines.specs.reading.Commands.{IsInBounds};
 ghost use Rattle.script_lines.specs.commands.PlainCommands.{plain_command, text_length};
 ghost use Rattle.window_stack.specs.Numbers.{max_pane};
@@ -91,6 +91,7 @@ fn given(bytes: &[u8]) -> Result<Command<'_>, LineFault>
 }
 
 /// The line `in K REST`, without its first word. The spaces in a text of `REST` count.
+#[inline(never)]
 #[tactic(auto, unfolding(crate::specs::StackLines::in_of))]
 fn inside(bytes: &[u8]) -> Result<StackLine<'_>, LineFault>
     ensures value { map_ok plain_line result ≡ in_of bytes.now }
@@ -122,6 +123,7 @@ fn part(x: i64, y: i64, w: i64, h: i64) -> Result<StackLine<'static>, LineFault>
 }
 
 /// The line `compose x y w h`, without its first word.
+#[inline(never)]
 #[tactic(auto, unfolding(crate::specs::StackLines::compose_of))]
 fn compose(bytes: &[u8]) -> Result<StackLine<'_>, LineFault>
     ensures value { map_ok plain_line result ≡ compose_of (words bytes.now) }
@@ -189,6 +191,7 @@ fn scancel(bytes: &[u8]) -> Result<StackLine<'_>, LineFault>
 }
 
 /// A line of touch, by its first word and what follows it.
+#[inline(never)]
 fn read_touch_line<'a>(head: &[u8], bytes: &'a [u8]) -> Result<StackLine<'a>, LineFault>
     ensures value { map_ok plain_line result ≡ touch_line_by head.now (words bytes.now) }
     ensures bounds { IfOk result (λ line. IsLineInBounds (plain_line line)) }
@@ -209,52 +212,33 @@ fn read_touch_line<'a>(head: &[u8], bytes: &'a [u8]) -> Result<StackLine<'a>, Li
     Err(LineFault::Syntax)
 }
 
-/// A line, by its first word and what follows it.
-#[tactic(auto, unfolding(crate::specs::StackLines::stack_line_by))]
-fn read_line<'a>(head: &[u8], bytes: &'a [u8]) -> Result<StackLine<'a>, LineFault>
-    ensures value { map_ok plain_line result ≡ stack_line_by head.now bytes.now }
-    ensures bounds { IfOk result (λ line. IsLineInBounds (plain_line line)) }
-    ensures short { IfOk result (λ line. text_length_in (plain_line line) ≤ length bytes.now) }
-{
-    if is(head, b"at") {
-        return at(bytes);
-    }
-    if is(head, b"raise") {
-        return raise(bytes);
-    }
-    if is(head, b"close") {
-        return close(bytes);
-    }
-    if is(head, b"in") {
-        return inside(bytes);
-    }
-    if is(head, b"compose") {
-        return compose(bytes);
-    }
-    read_touch_line(head, bytes)
-}
-
-/// A line of valid UTF-8.
-#[tactic(auto, unfolding(crate::specs::StackLines::stack_line_of))]
-fn read_text(bytes: &[u8]) -> Result<StackLine<'_>, LineFault>
-    ensures value { map_ok plain_line result ≡ stack_line_of bytes.now }
-    ensures bounds { IfOk result (λ line. IsLineInBounds (plain_line line)) }
-    ensures short { IfOk result (λ line. text_length_in (plain_line line) ≤ length bytes.now) }
-{
-    if !is_text(bytes) {
-        return Err(LineFault::Syntax);
-    }
-    let (head, rest) = word(bytes)?;
-    read_line(head, rest)
-}
-
 /// What a line of a stack asks for. A fault of the grammar counts before a number outside its bounds, wherever the two
 /// are. A line that is passed over asks for nothing.
+#[tactic(auto, unfolding(crate::specs::StackLines::stack_line_of, crate::specs::StackLines::stack_line_by), using(crate::proofs::TextLaws::short_in))]
 pub fn stack_line(bytes: &[u8]) -> Result<StackLine<'_>, LineFault>
     ensures value { map_ok plain_line result ≡ stack_line_of bytes.now }
     ensures bounds { IfOk result (λ line. IsLineInBounds (plain_line line)) }
     ensures passed { is_passed_over bytes.now ≡ true → result ≡ Err LineFault.Syntax }
     ensures short { IfOk result (λ line. text_length_in (plain_line line) ≤ length bytes.now) }
 {
-    read_text(bytes)
+    if !is_text(bytes) {
+        return Err(LineFault::Syntax);
+    }
+    let (head, rest) = word(bytes)?;
+    if is(head, b"at") {
+        return at(rest);
+    }
+    if is(head, b"raise") {
+        return raise(rest);
+    }
+    if is(head, b"close") {
+        return close(rest);
+    }
+    if is(head, b"in") {
+        return inside(rest);
+    }
+    if is(head, b"compose") {
+        return compose(rest);
+    }
+    read_touch_line(head, rest)
 }
