@@ -10,7 +10,7 @@ use Rattle.view_model.specs.declared.changes.Act.{Act}
 use Rattle.view_model.specs.declared.kinds.Class.{Class}
 use Rattle.view_model.specs.declared.refusal.Member.{Member}
 use Rattle.view_model.specs.declared.refusal.Member.TheVariants as member
-use Rattle.view_model.specs.declared.refusals.TheConstants.{CYCLE}
+use Rattle.view_model.specs.Numbers.{cycle}
 use Rattle.view_model.specs.declared.relative.Axis.TheVariants.{Horizontal, Vertical}
 use Rattle.view_model.specs.Forest.{Forest, Nothing, Branch}
 use Rattle.view_model.specs.PlainTree.{PlainView, with_facts}
@@ -22,7 +22,7 @@ use Rattle.tree_edits.specs.Scene.{EditScene}
 -- a reason, if there is one, that has the number of a cycle
 abbrev IsOfCycle : Option PlainRefusal → Type 0
 IsOfCycle None = Unit {0}
-IsOfCycle (Some refusal) = refusal.number ≡ CYCLE
+IsOfCycle (Some refusal) = refusal.number ≡ cycle
 
 with_is : (name : ℕ → Member) (down : Bool) (members : List ℕ) → IsOfCycle (cycle_with name down members)
 with_is name down [] = tt

@@ -15,7 +15,7 @@ use Rattle.view_model.specs.Directed.{running}
 use Rattle.view_model.specs.Growth.{grown_at, refusal_at}
 use Rattle.view_model.specs.PlainTree.{PlainView, pruned, single, view_in, with_facts, with_text}
 use Rattle.view_model.specs.Refusals.{IsRefusedExactlyFor, refusal_numbered}
-use Rattle.view_model.specs.declared.refusals.TheConstants.{WRONG_CLASS}
+use Rattle.view_model.specs.Numbers.{wrong_class}
 use Rattle.view_tree.specs.tree.Attached.{Attached}
 use Rattle.view_model.specs.declared.fault.Fault.{Fault}
 use Rattle.view_tree.specs.Faults.{IsRefusedOrCyclic}
@@ -98,20 +98,20 @@ detached_scene old new view is live tree plain next others =
 pub done_by : (views : Views) (view : ℕ) (act : Act) (class : Class) (taken : Bool) → IsTree views → IsLive views view → class ≡ class_of views view
     → taken ≡ takes class act
     → outcome_of_act (scene_of views) (number_of views view) act (view_in (plain_of views) (number_of views view))
-    ≡ (if taken then outcome_unless (scene_of views) (number_of views view) act (cycle_of_act (plain_of views) (number_of views view) act) else Err (refusal_numbered WRONG_CLASS))
+    ≡ (if taken then outcome_unless (scene_of views) (number_of views view) act (cycle_of_act (plain_of views) (number_of views view) act) else Err (refusal_numbered wrong_class))
 done_by views view act class taken is live class_is taken_is =
     ap (outcome_of_act (scene_of views) (number_of views view) act) (number_there views view is live)
-    ∙ ap (λ (b : Bool). if b then outcome_unless (scene_of views) (number_of views view) act (cycle_of_act (plain_of views) (number_of views view) act) else Err (refusal_numbered WRONG_CLASS))
+    ∙ ap (λ (b : Bool). if b then outcome_unless (scene_of views) (number_of views view) act (cycle_of_act (plain_of views) (number_of views view) act) else Err (refusal_numbered wrong_class))
     (sym (taken_is ∙ ap (λ (k : Class). takes k act) class_is))
 
 -- a text is set or refused, by the class of its view
 pub written_by : (views : Views) (view : ℕ) (text : List ℕ) (class : Class) (has : Bool) → IsTree views → IsLive views view → class ≡ class_of views view
     → has ≡ has_text class
     → outcome_of_text (scene_of views) (number_of views view) text (view_in (plain_of views) (number_of views view))
-    ≡ (if has then Ok (record (scene_of views) { tree = with_text (number_of views view) text (plain_of views) }, None) else Err (refusal_numbered WRONG_CLASS))
+    ≡ (if has then Ok (record (scene_of views) { tree = with_text (number_of views view) text (plain_of views) }, None) else Err (refusal_numbered wrong_class))
 written_by views view text class has is live class_is has_is =
     ap (outcome_of_text (scene_of views) (number_of views view) text) (number_there views view is live)
-    ∙ ap (λ (b : Bool). if b then Ok (record (scene_of views) { tree = with_text (number_of views view) text (plain_of views) }, None) else Err (refusal_numbered WRONG_CLASS))
+    ∙ ap (λ (b : Bool). if b then Ok (record (scene_of views) { tree = with_text (number_of views view) text (plain_of views) }, None) else Err (refusal_numbered wrong_class))
     (sym (has_is ∙ ap has_text class_is))
 
 -- an act that names views was not done

@@ -17,7 +17,7 @@ use Rattle.view_model.specs.Geometry.{Laid}
 use Rattle.view_model.specs.Growth.{growth_refusal}
 use Rattle.view_model.specs.PlainTree.{PlainView}
 use Rattle.view_model.specs.declared.refusal.Member.TheVariants as member
-use Rattle.view_model.specs.declared.refusals.TheConstants.{CYCLE}
+use Rattle.view_model.specs.Numbers.{cycle}
 use Rattle.view_model.specs.declared.verbs.TheConstants.{ABOVE, BELOW, LEFT_OF, RIGHT_OF}
 use Rattle.view_model.specs.Refusals.{Cycle, refusal_numbered}
 use Rattle.view_model.specs.SiblingRules.{leads, names}
@@ -230,10 +230,10 @@ tied =
     (Branch (record (leaf 3) { facts = record facts { id = 102 } }) Nothing Nothing)) Nothing
 
 -- a rule of the second that names the first is refused on either axis
-circle_is_refused : outcome_of_edit (scene tied 4 everywhere) (ActOn 3 (act.Rule LEFT_OF 101)) ≡ Err (record { number = CYCLE; reason = Cycle false (member.View 2 ∷ member.View 3 ∷ []) })
+circle_is_refused : outcome_of_edit (scene tied 4 everywhere) (ActOn 3 (act.Rule LEFT_OF 101)) ≡ Err (record { number = cycle; reason = Cycle false (member.View 2 ∷ member.View 3 ∷ []) })
 unfolding scene tied everywhere leaf laid leads names
 circle_is_refused = refl
 
-circle_down_is_refused : outcome_of_edit (scene tied 4 everywhere) (ActOn 3 (act.Rule BELOW 101)) ≡ Err (record { number = CYCLE; reason = Cycle true (member.View 2 ∷ member.View 3 ∷ []) })
+circle_down_is_refused : outcome_of_edit (scene tied 4 everywhere) (ActOn 3 (act.Rule BELOW 101)) ≡ Err (record { number = cycle; reason = Cycle true (member.View 2 ∷ member.View 3 ∷ []) })
 unfolding scene tied everywhere leaf laid leads names
 circle_down_is_refused = refl

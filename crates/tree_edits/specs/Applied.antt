@@ -3,10 +3,9 @@ use Rattle.std.specs.Prelude.{◌≡◌, ℕ, ◌^◌, ◌<◌, true, chars, len
 use Rattle.std.specs.Option.{option_map}
 use Rattle.view_model.specs.declared.changes.Act.{Act}
 use Rattle.view_model.specs.declared.changes.Act.TheVariants as act
-use Rattle.view_model.specs.declared.limits.TheConstants.{NUMBERS_END}
+use Rattle.view_model.specs.Numbers.{cycle, numbers_end}
 use Rattle.view_model.specs.Forest.{Nothing}
 use Rattle.view_model.specs.Refusals.{plain_refusal}
-use Rattle.view_model.specs.declared.refusals.TheConstants.{CYCLE}
 use Rattle.view_model.specs.declared.fault.Fault.{Fault}
 use Rattle.view_tree.specs.Views.{Views, IsLive, number_of}
 use Rattle.tree_edits.specs.declared.edits.Edit.{Edit}
@@ -24,8 +23,8 @@ numbered views (edit.Text view text) = SetText (number_of views view) (chars tex
 
 -- a root is added only if there is none
 abbrev pub IsAddable : Views → Option ℕ → Type 0
-IsAddable views None = (views.tree ≡ Nothing) × (views.next < NUMBERS_END)
-IsAddable views (Some parent) = IsLive views parent × (views.next < NUMBERS_END)
+IsAddable views None = (views.tree ≡ Nothing) × (views.next < numbers_end)
+IsAddable views (Some parent) = IsLive views parent × (views.next < numbers_end)
 
 -- the rule that an act sets is one of the 21
 abbrev pub IsVerb : Act → Type 0
@@ -59,7 +58,7 @@ MayWantMemory (edit.Text view text) = Unit {0}
 -- an edit that is not refused, or only for a cycle
 abbrev pub IsDoneOrCyclic : Outcome → Type 0
 IsDoneOrCyclic (Ok outcome) = Unit {0}
-IsDoneOrCyclic (Err refusal) = refusal.number ≡ CYCLE
+IsDoneOrCyclic (Err refusal) = refusal.number ≡ cycle
 
 -- The result is the outcome: the scene and the number of the new view, or the refusal. An edit may run out of memory if
 -- there is no refusal, or only that of a cycle, since memory is taken before a cycle is known.

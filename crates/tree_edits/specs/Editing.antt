@@ -18,7 +18,7 @@ use Rattle.view_model.specs.Classes.{has_text, is_group, lays_in_line, scrolls}
 use Rattle.view_model.specs.Growth.{grown_at, refusal_at}
 use Rattle.view_model.specs.PlainTree.{PlainView, numbers_of, part_of, pruned, single, view_in, with_facts, with_text}
 use Rattle.view_model.specs.Refusals.{PlainRefusal, refusal_numbered}
-use Rattle.view_model.specs.declared.refusals.TheConstants.{WRONG_CLASS}
+use Rattle.view_model.specs.Numbers.{wrong_class}
 use Rattle.tree_edits.specs.Scene.{EditScene}
 
 -- an edit that names views by their numbers
@@ -150,13 +150,13 @@ outcome_unless scene number act (Some refusal) = Err refusal
 abbrev pub outcome_of_act : EditScene → ℕ → Act → Option PlainView → Outcome
 outcome_of_act scene number act None = Ok (scene, None)
 outcome_of_act scene number act (Some view) =
-    if takes view.class act then outcome_unless scene number act (cycle_of_act scene.tree number act) else Err (refusal_numbered WRONG_CLASS)
+    if takes view.class act then outcome_unless scene number act (cycle_of_act scene.tree number act) else Err (refusal_numbered wrong_class)
 
 -- a text of a view, by what is found under its number
 abbrev pub outcome_of_text : EditScene → ℕ → List ℕ → Option PlainView → Outcome
 outcome_of_text scene number text None = Ok (scene, None)
 outcome_of_text scene number text (Some view) =
-    if has_text view.class then Ok (record scene { tree = with_text number text scene.tree }, None) else Err (refusal_numbered WRONG_CLASS)
+    if has_text view.class then Ok (record scene { tree = with_text number text scene.tree }, None) else Err (refusal_numbered wrong_class)
 
 -- the result of an edit of views that are there on a scene
 abbrev pub outcome_of_edit : EditScene → NumberedEdit → Outcome
