@@ -9,6 +9,7 @@ use Rattle.touch_dispatch.specs.reaching.Points.{cancel_event, is_tried, local_e
 use Rattle.touch_dispatch.specs.declared.handling.receiver.Receiver.{Receiver}
 use Rattle.touch_dispatch.specs.declared.reaching.taker.Taker.{Taker}
 use Rattle.touch_dispatch.specs.declared.reaching.taker.Taker.TheVariants.{NoChild, Earlier, Sent}
+use Rattle.touch_event.specs.Numbers.{max_pointers}
 use Rattle.touch_event.specs.Splitting.{split_event}
 use Rattle.touch_event.specs.declared.event.Action.{Action}
 use Rattle.touch_event.specs.declared.event.Action.TheVariants.{Down, Up, Move, Cancel, PointerDown, PointerUp}
@@ -76,7 +77,7 @@ abbrev pub only : ℕ → ℕ → Bool
 only pointer id = id == pointer
 
 abbrev pub every : ℕ → Bool
-every id = nat_lt id 32
+every id = nat_lt id max_pointers
 
 abbrev pub acting_part : Event → Event
 acting_part event = unwrap_or (split_event (only event.pointer) event) event

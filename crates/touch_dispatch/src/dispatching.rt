@@ -5,7 +5,7 @@ ghost use Rattle.touch_dispatch.specs.Dispatch.{cancelled, dispatched};
 ghost use Rattle.touch_dispatch.specs.gesture.Kept.{gesture_of, is_open};
 ghost use Rattle.touch_dispatch.specs.Once.{asks, total, touches};
 ghost use Rattle.touch_dispatch.specs.reaching.TreeEvents.{IsGestureIn, KeepsScene, MayReach, OnlyScrolls, Unchanged, parent_number, part_at, progress_of, room_of, scene_of};
-ghost use Rattle.touch_event.specs.declared.event.TheConstants.{MAX_POINTERS};
+ghost use Rattle.touch_event.specs.Numbers.{max_pointers};
 ghost use Rattle.touch_targets.specs.Captures.{is_target};
 ghost use Rattle.view_model.specs.Facts.{is_shown};
 ghost use Rattle.view_model.specs.Forest.{count_of};
@@ -31,7 +31,7 @@ pub fn dispatch(
     slop: i32,
     log: &mut Log,
 ) -> bool
-    requires pointer { event.now.pointer < MAX_POINTERS }
+    requires pointer { event.now.pointer < max_pointers }
     requires caught { IsGestureIn tree.old.tree gesture.old }
     requires room { length log.old.entries.items + 3 * count_of tree.old.tree ≤ room_of log.old }
     ensures is_tree { IsTree tree.old }

@@ -10,7 +10,7 @@ use Rattle.touch_dispatch.specs.gesture.Kept.{Kept, gesture_of, is_open}
 use Rattle.touch_dispatch.specs.declared.log.Entry.{Entry}
 use Rattle.touch_dispatch.specs.declared.log.Log.{Log}
 use Rattle.touch_event.specs.declared.event.Event.{Event}
-use Rattle.touch_event.specs.declared.event.TheConstants.{MAX_POINTERS}
+use Rattle.touch_event.specs.Numbers.{max_pointers}
 use Rattle.touch_targets.specs.Captures.{Target, first_ids, from_child, is_target}
 use Rattle.view_model.specs.Forest.{Forest, Nothing, Branch}
 use Rattle.view_model.specs.Classes.{scrolls}
@@ -82,7 +82,7 @@ pub record OnlyScrolls (old new : Views) : Type 0 where
 pub record MayReach (views : Views) (kept : Kept) (key : ℕ) (event : Event) : Type 0 where
   pub tree : IsTree views
   pub live : IsLive views key
-  pub pointer : event.pointer < MAX_POINTERS
+  pub pointer : event.pointer < max_pointers
   pub caught : IsGestureIn views.tree kept
 
 -- what an event keeps wherever it goes: the tree except for offsets, targets that are children of their groups, the

@@ -6,7 +6,7 @@ ghost use Rattle.touch_dispatch.specs.handling.Handling.{is_cancel, is_down, is_
 ghost use Rattle.touch_dispatch.specs.reaching.Points.{acting_point, cancel_event, corner_x, corner_y, is_between, is_inside, is_near, is_near_first, is_near_point, is_tried, is_under, is_visible, local_event, local_point, point_of};
 ghost use Rattle.touch_event.specs.PointerSets.{has_id};
 ghost use Rattle.touch_event.specs.Splitting.{kept_points, split_event};
-ghost use Rattle.touch_event.specs.declared.event.TheConstants.{MAX_POINTERS};
+ghost use Rattle.touch_event.specs.Numbers.{max_pointers};
 
 use crate::handling::receiver::Receiver;
 use arrayvec::ArrayVec;
@@ -202,9 +202,9 @@ fn local_event(rect: Option<Rect>, own: &Facts, event: &Event) -> Event
 /// What a child gets that is tried.
 #[inline(never)]
 pub fn tried_event(own: &Facts, rect: Option<Rect>, event: &Event) -> Event
-    requires { event.now.pointer < MAX_POINTERS }
+    requires { event.now.pointer < max_pointers }
     ensures value { result ≡ local_event rect own.now.offset (tried_event own.now.split event.now) }
-    ensures pointer { result.pointer < MAX_POINTERS }
+    ensures pointer { result.pointer < max_pointers }
 {
     if own.split
         && let Some(part) = split(event, id_bit(event.pointer))
@@ -216,7 +216,7 @@ pub fn tried_event(own: &Facts, rect: Option<Rect>, event: &Event) -> Event
 
 /// The set of this one id.
 pub fn id_bit(id: u8) -> u32
-    requires { id < MAX_POINTERS }
+    requires { id < max_pointers }
     ensures value { has_id result ≡ only id }
     ensures some { result ≢ 0 }
 {
@@ -225,7 +225,7 @@ pub fn id_bit(id: u8) -> u32
 
 /// The pointers that a child gets which was tried and took an event.
 pub fn tried_ids(is_split: bool, event: &Event) -> u32
-    requires { event.now.pointer < MAX_POINTERS }
+    requires { event.now.pointer < max_pointers }
     ensures value { has_id result ≡ tried_ids is_split event.now }
     ensures some { result ≢ 0 }
 {

@@ -5,7 +5,7 @@ ghost use Rattle.touch_dispatch.specs.gesture.Gestures.{set_targets};
 ghost use Rattle.touch_dispatch.specs.gesture.Kept.{MayCapture, gesture_of, is_open};
 ghost use Rattle.touch_dispatch.specs.reaching.TreeEvents.{progress_by};
 ghost use Rattle.touch_dispatch.specs.declared.log.Entry.{Entry};
-ghost use Rattle.touch_event.specs.declared.event.TheConstants.{MAX_POINTERS};
+ghost use Rattle.touch_event.specs.Numbers.{max_pointers};
 ghost use Rattle.touch_targets.specs.Captures.{drop_pointers, is_target};
 
 use crate::gesture::Gesture;
@@ -56,7 +56,7 @@ pub fn begin(gesture: &mut Gesture, group: u64, action: Action)
 
 /// The oldest target gets the pointer that no child took.
 pub fn settle(gesture: &mut Gesture, group: u64, event: &Event, taker: Taker)
-    requires pointer { event.now.pointer < MAX_POINTERS }
+    requires pointer { event.now.pointer < max_pointers }
     requires may { (child : ℕ)
         → is_target child ((gesture_of gesture.old).targets group) ≡ true
         → MayCapture gesture.old group child }
@@ -73,7 +73,7 @@ pub fn settle(gesture: &mut Gesture, group: u64, event: &Event, taker: Taker)
 }
 
 fn give_to_oldest(gesture: &mut Gesture, group: u64, pointer: u8)
-    requires pointer { pointer < MAX_POINTERS }
+    requires pointer { pointer < max_pointers }
     requires may { (child : ℕ)
         → is_target child ((gesture_of gesture.old).targets group) ≡ true
         → MayCapture gesture.old group child }
@@ -88,7 +88,7 @@ fn give_to_oldest(gesture: &mut Gesture, group: u64, pointer: u8)
 
 /// The end of a gesture, or of a pointer. An interception leaves no target.
 pub fn end(gesture: &mut Gesture, group: u64, split: bool, event: &Event, intercepted: bool)
-    requires pointer { event.now.pointer < MAX_POINTERS }
+    requires pointer { event.now.pointer < max_pointers }
     requires open { is_open gesture.old group ≡ true }
     ensures ended { (offsets : ℕ → ℤ) (entries : List Entry)
         → progress_by offsets (gesture_of gesture.new) entries
@@ -118,7 +118,7 @@ fn clear_intercepted(gesture: &mut Gesture, group: u64, intercepted: bool)
 
 /// A pointer leaves the targets of a group that splits events.
 fn lift(gesture: &mut Gesture, group: u64, split: bool, pointer: u8)
-    requires { pointer < MAX_POINTERS }
+    requires { pointer < max_pointers }
     ensures lifted { gesture_of gesture.new ≡ (if split then set_targets group (drop_pointers (only pointer)
         ((gesture_of gesture.old).targets group)) (gesture_of gesture.old) else gesture_of gesture.old) }
     ensures opened { (view : ℕ) → is_open gesture.new view ≡ is_open gesture.old view }

@@ -22,7 +22,7 @@ use Rattle.touch_dispatch.specs.reaching.TreeEvents.{IsKidAt, child_at, kids_of,
 use Rattle.touch_dispatch.specs.declared.handling.receiver.Receiver.{Receiver}
 use Rattle.touch_event.specs.PointerSets.{has_id}
 use Rattle.touch_event.specs.declared.event.Event.{Event}
-use Rattle.touch_event.specs.declared.event.TheConstants.{MAX_POINTERS}
+use Rattle.touch_event.specs.Numbers.{max_pointers}
 use Rattle.touch_targets.specs.Captures.{Target, first_child, first_ids, from_child, is_target, targets_from}
 use Rattle.touch_dispatch.proofs.reaching.+reach.Goals as goal
 use Rattle.touch_dispatch.proofs.reaching.+reach.Goals.{children::offer-then-intercepted-via-then-intercepted, children::offer-then-intercepted-via-else-intercepted+then-not-is_offered, targets::deliver_to-else-not-intercepted-via-else-not-intercepted, targets::deliver_to-else-not-intercepted-via-then-not-intercepted+else-not-put_part}
@@ -556,7 +556,7 @@ targets::deliver_to-reach-requires t c =
       | targets::deliver_to-else-not-intercepted-via-then-not-intercepted+else-not-put_part w ↦
           rw (w.if-not-intercepted.true, w.part-is) (sym (rw w.if-not-put_part.false at w.put_part.ensures.value))
     ] in
-    let pointer : c.else-not-intercepted.part.pointer < MAX_POINTERS =
+    let pointer : c.else-not-intercepted.part.pointer < max_pointers =
     elim c.else-not-intercepted.branch [
       | targets::deliver_to-else-not-intercepted-via-else-not-intercepted w ↦ rw (w.part-is, c.cancel_event-part.ensures) (omega arith)
       | targets::deliver_to-else-not-intercepted-via-then-not-intercepted+else-not-put_part w ↦ rw (w.part-is, w.put_part.ensures.pointer) c.requires.may.pointer
