@@ -4,7 +4,7 @@ use Rattle.std.proofs.lemmas.Int.{ints}
 use Rattle.geom_core.specs.Color.{alpha_of, blend_of}
 use Rattle.geom_core.specs.Rects.{holds}
 use Rattle.geom_core.specs.declared.color.Argb.{Argb}
-use Rattle.geom_core.specs.declared.color.TheConstants.{BLACK}
+use Rattle.geom_core.specs.Numbers.{unpainted}
 use Rattle.geom_core.specs.declared.geometry.Rect.{Rect}
 use Rattle.geom_core.proofs.ColorLaws.{blend_of-covering}
 use Rattle.pixel_raster.specs.Raster.{Fills, Raster, color_at}
@@ -81,17 +81,17 @@ counted_own tree view area a b u v live own =
     let f = located view tree live in
     rw f.is (counted_then (area + area) 0 (area + area + (share_of area f.kids + 0)) a b b u v v (omega arith) own (counted_none 0 b v))
 
-black_covers : (u : Argb) → blend_of BLACK u ≡ BLACK
+black_covers : (u : Argb) → blend_of unpainted u ≡ unpainted
 unfolding alpha_of
-black_covers u = blend_of-covering BLACK u refl
+black_covers u = blend_of-covering unpainted u refl
 
 -- over black
-module _ (views : Views) (damage : Rect) (old mid : Raster) (is : IsTree views) (cleared : Fills damage BLACK old mid) where
+module _ (views : Views) (damage : Rect) (old mid : Raster) (is : IsTree views) (cleared : Fills damage unpainted old mid) where
   abbrev pub Whole : Raster → Type 0
   Whole new = IsPainted (λ (x y : ℤ) (u : Argb). pixel_color (geometry_of views) (plain_of views) x y) damage old new
 
-  over_black : (t : Bool) (paint : Argb → Argb) (old mid new : Argb) → mid ≡ (if t then blend_of BLACK old else old) → new ≡ (if t then paint mid else mid)
-      → new ≡ (if t then paint BLACK else old)
+  over_black : (t : Bool) (paint : Argb → Argb) (old mid new : Argb) → mid ≡ (if t then blend_of unpainted old else old) → new ≡ (if t then paint mid else mid)
+      → new ≡ (if t then paint unpainted else old)
   over_black true paint old mid new m e = e ∙ ap paint (m ∙ black_covers old)
   over_black false paint old mid new m e = e ∙ m
 
@@ -100,7 +100,7 @@ module _ (views : Views) (damage : Rect) (old mid : Raster) (is : IsTree views) 
     width = cleared.width;
     height = cleared.height;
     colors = λ x y xw yh.
-        let empty : pixel_color (geometry_of views) (plain_of views) (pos x) (pos y) ≡ BLACK = rw none refl in
+        let empty : pixel_color (geometry_of views) (plain_of views) (pos x) (pos y) ≡ unpainted = rw none refl in
         cleared.colors x y xw yh ∙ ap (λ (v : Argb). if holds damage (pos x) (pos y) then v else color_at old x y) (black_covers (color_at old x y) ∙ sym empty);
   }
 

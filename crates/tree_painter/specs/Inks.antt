@@ -3,8 +3,8 @@ use Rattle.std.specs.Prelude.{ℕ, ◌/◌, ◌%◌, ◌==◌, ℤ, pos, negsuc,
 use Rattle.geom_core.specs.Color.{blend_of}
 use Rattle.geom_core.specs.declared.color.Argb.{Argb}
 use Rattle.geom_core.specs.declared.geometry.Size.{Size}
-use Rattle.view_model.specs.declared.limits.TheConstants.{CELL_HEIGHT, CELL_WIDTH}
 use Rattle.view_model.specs.Glyphs.{has_bit}
+use Rattle.view_model.specs.Numbers.{cell_height, cell_width}
 use Rattle.view_model.specs.Painting.{Painter, cell_pixel, has_ink, text_pixel}
 use Rattle.view_model.specs.PlainTree.{PlainView}
 
@@ -14,7 +14,7 @@ ink_where passes ink x y under = if passes x y then blend_of ink under else unde
 
 -- whether a point is a set pixel of a column of a cell, in this row or below it
 abbrev pub in_column : ℕ → ℕ → ℤ → ℤ → Bool
-in_column bits row (pos x) (pos y) = (x == 0) && (not (nat_lt y row) && (nat_lt y CELL_HEIGHT && has_bit bits y))
+in_column bits row (pos x) (pos y) = (x == 0) && (not (nat_lt y row) && (nat_lt y cell_height && has_bit bits y))
 in_column bits row (pos x) (negsuc y) = false
 in_column bits row (negsuc x) y = false
 
@@ -24,7 +24,7 @@ column_ink ink bits row = ink_where (in_column bits row) ink
 -- whether a point is a set pixel of a line with these characters, in this column of pixels or right of it
 abbrev pub in_line : List ℕ → ℕ → ℤ → ℤ → Bool
 in_line line column (pos x) (pos y) =
-    not (nat_lt x column) && (nat_lt y CELL_HEIGHT && cell_pixel (slice_get line (x / CELL_WIDTH)) (x % CELL_WIDTH) y)
+    not (nat_lt x column) && (nat_lt y cell_height && cell_pixel (slice_get line (x / cell_width)) (x % cell_width) y)
 in_line line column (pos x) (negsuc y) = false
 in_line line column (negsuc x) y = false
 
