@@ -37,7 +37,7 @@ EXAMPLES = os.path.join(TOP, "examples")
 FROM_A_FILE = os.path.join(EXAMPLES, "from_a_file.script")
 JAVA = os.path.join(TOP, "bindings", "java")
 NO_WORDS, LONG, SMALL, BROKEN = 2, 7, 8, 9
-THREADS, ROUNDS, FUZZ, REPEATED = 8, 20, 5000, 20000
+THREADS, ROUNDS, FUZZ, REPEATED = 8, 20, 5000, 100000
 # how much more memory a process may have at the end of its calls than after a tenth of them, in kB
 GROWTH = 256
 SCRIPT = b"window 100 50\nadd root View 30 20\nframe\nbounds\n"
