@@ -11,19 +11,19 @@ from running import TOP, Checks
 PAGE = os.path.join(TOP, "docs", "PROMISES.md")
 HEAD = """# Promises
 
-`ci/promises` makes this page of the sources, and the gate compares it: a sentence is the comment above a clause or a call, a link leads to
-its line. A clause is proved for all arguments, whatever was called before; the terms that it uses are in the `specs/` of its crate.
-[PROOFS](PROOFS.md) says what is only tested, what is trusted, and what is promised nowhere.
+`ci/promises` makes this page of the sources: a sentence is the comment above a clause or a call, a link leads to its line. A clause is proved
+for all arguments, whatever was called before; its terms are in the `specs/` of its crate. [PROOFS](PROOFS.md) says what is trusted, and
+what is promised nowhere.
 
-Any call may report that it is out of memory, and then nothing is promised but what a clause says of that. A clause that reads a script or
-files has as its premise that contracts see these bytes, as those of objects in memory.
+Any call may report that it is out of memory, and then only what a clause says of that is promised. A clause that reads a script or files has
+as its premise that contracts see these bytes, as those of objects in memory.
 """
 TOOL = """
 ## The call `tool`
 
 The program and the library of C are this call.
 
-| promise | clauses |
+|promise|clauses|
 |---|---|
 """
 CALLS = """
@@ -31,24 +31,26 @@ CALLS = """
 
 What crates export, the lowest crate first: a function with its clauses; a type with what always holds of its values, and its calls.
 
-| call | promise | clauses or calls |
+|call|promise|clauses or calls|
 |---|---|---|
 """
 TESTED = """
 ## Only tested
 
-| what | where |
+|what|where|
 |---|---|
-| The adapters over standard input, standard output and files do what their devices do: clauses say which bytes went to and came from the device | `crates/integration_tests/src/adapters.rt` |
-| `main` passes the arguments and the real objects to `tool`, and ends with its status | the stored run of `crates/view_tool`, `ci/checks` |
-| A call finds memory where there is some, and reports that there is none where a request was refused | `ci/examples.py`, `ci/out_of_memory.py` |
-| An empty script runs in 32 KiB of stack, any other in 128 KiB | `ci/memory.py`, on request |
-| A short reply is one write; how often a run measures at least | `crates/integration_tests/src/runs.rt` |
-| What is between a program and the library of C: the two functions of its header, Python, Java | `ci/native.py`, on request |
-| The launcher, the tools and the packages | `./vindaesk test` |
-| `dist/view_tool` is what the proof built | `.ci/run` |
+|The adapters over standard input, standard output and files do what their devices do: clauses say which bytes went to and came from the device|`crates/integration_tests/src/adapters.rt`|
+|`main` passes the arguments and the real objects to `tool`, and ends with its status|the stored run of `crates/view_tool`, `ci/checks`|
+|A call finds memory where there is some, and reports that there is none where a request was refused|`ci/examples.py`, `ci/out_of_memory.py`|
+|An empty script runs in 32 KiB of stack, any other in 128 KiB|`ci/memory.py`, on request|
+|A short reply is one write; how often a run measures at least|`crates/integration_tests/src/runs.rt`|
+|What is between a program and the library of C: the two functions of its header, Python, Java|`ci/native.py`, on request|
+|The launcher, the tools and the packages|`./vindaesk test`|
+|`dist/view_tool` is what the proof built|`.ci/run`|
 """
 UNNAMED = "clause"
+# in a cell: one link a line
+BREAK = "<br>"
 
 
 def link(text: str, path: str, line: int) -> str:
@@ -66,8 +68,8 @@ def first_sentence(text: str) -> str:
 
 
 def clause_links(path: str, clauses: Sequence[Clause]) -> str:
-    return ", ".join(link(clause.name, path, clause.line) if clause.name
-                     else "[%s](../%s#L%d)" % (UNNAMED, path, clause.line) for clause in clauses)
+    return BREAK.join(link(clause.name, path, clause.line) if clause.name
+                      else "[%s](../%s#L%d)" % (UNNAMED, path, clause.line) for clause in clauses)
 
 
 def rows_of_tool(call: Call) -> Iterator[str]:
@@ -82,8 +84,8 @@ def row_of_item(item: Item) -> str:
     if [call.owner for call in item.calls] == [""]:
         found = clause_links(item.path, item.calls[0].clauses)
     else:
-        calls = ", ".join(link(call.name, call.path, call.line) for call in item.calls)
-        found = "; ".join(part for part in (clause_links(item.path, item.invariants), calls) if part)
+        calls = BREAK.join(link(call.name, call.path, call.line) for call in item.calls)
+        found = BREAK.join(part for part in (clause_links(item.path, item.invariants), calls) if part)
     return "|%s|%s|%s|" % (link(item.name, item.path, item.line), cell(first_sentence(item.summary)), found)
 
 
