@@ -5,7 +5,8 @@ PATH is a script; a layout, compiled or as a source; an app as tools/app takes i
 folder of scripts. A finding is a line FILE:LINE:COLUMN: severity rule: sentence, with the configurations in which it
 holds in parentheses. --density, --width, --night and --rtl lay all out in each combination.
 
---list prints the rules. --rules adds rules of your own; docs/LINT.md shows how to write one. `tools:ignore` in a source
+--list prints the rules, and --explain RULE what one means, with an example in which it finds something and one in which it
+finds nothing. --rules adds rules of your own; docs/LINT.md shows how to write one. `tools:ignore` in a source
 has a rule passed over at an element and in it, and so has a comment `# tools:ignore RULE` before a line of a script.
 
 The status is 0 where nothing is found, and 1 where something is, or a line of a script is refused, or something has no
@@ -62,6 +63,7 @@ def reader() -> argparse.ArgumentParser:
     found.add_argument("--jobs", metavar="N", type=arguments.count(1, 512), default=os.cpu_count() or 1,
                        help="of many layouts, how many at once; as many as there are processors")
     found.add_argument("--list", action="store_true", help="prints the rules and ends")
+    found.add_argument("--explain", metavar="RULE,..", type=arguments.names, help="prints what rules mean and ends; Android's ids too")
     return found
 
 
@@ -69,7 +71,7 @@ def chosen(given: argparse.Namespace, parser: argparse.ArgumentParser) -> Dict[s
     """The rules that are wanted."""
     for path in given.rules:
         linter.load(path)
-    for name in registry.unknown([*(given.only or []), *given.skip]):
+    for name in registry.unknown([*(given.only or []), *given.skip, *(given.explain or [])]):
         parser.error("there is no rule '%s'; the rules are %s" % (name, ", ".join(rules.RULES)))
     least = SEVERITIES[given.severity]
     found = {}
@@ -95,6 +97,15 @@ def listed(found: Dict[str, Rule]) -> str:
     return "".join(lines)
 
 
+def explained(names: Sequence[str]) -> str:
+    """What rules mean, by their names or Android's; of one that was added by --rules its sentence alone."""
+    from ..lint import sections
+
+    asked = [name for name, it in rules.RULES.items() if it.is_among(names)]
+    known = sections.read()
+    return "\n".join(known[name].text() if name in known else listed({name: rules.RULES[name]}) for name in asked)
+
+
 def folder_of(path: str) -> str:
     """The folder of a file of a baseline, from which its paths start."""
     return os.path.dirname(os.path.abspath(path))
@@ -107,6 +118,9 @@ def main(words: Optional[Sequence[str]] = None) -> int:
     wanted = chosen(given, parser)
     if given.list:
         files.write("-", listed(rules.RULES).encode())
+        return 0
+    if given.explain:
+        files.write("-", explained(given.explain).encode())
         return 0
     if not given.paths:
         parser.error("the following arguments are required: PATH")
