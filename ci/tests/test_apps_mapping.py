@@ -48,6 +48,13 @@ def test_the_padding_of_a_background_counts_where_there_is_no_other(tmp_path: Pa
     assert (attributes["minWidth"], attributes["minHeight"]) == (40, 30)
 
 
+def test_a_radio_group_is_no_button(tmp_path: Path) -> None:
+    # RadioGroup's constructor: super(context, attrs); of radioButtonStyle it reads its own two attributes alone
+    text = "<RadioGroup %s><RadioButton %s /></RadioGroup>" % (FULL, SIZE)
+    (kind, attributes, ((_, of_button, _),)), _ = mapped(tmp_path, text)
+    assert (kind, attributes.get("clickable"), of_button["clickable"]) == ("LinearLayout", None, True)
+
+
 def test_a_text_in_the_centre_is_a_text_in_a_frame(tmp_path: Path) -> None:
     text = '<TextView android:layout_width="match_parent" android:layout_height="48dp" android:gravity="center" android:text="a" />'
     (kind, attributes, children), records = mapped(tmp_path, text)
