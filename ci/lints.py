@@ -173,6 +173,46 @@ def finds_broken_sources() -> str:
         return why or unlike(it.call("lint", "broken.xml"), 1, b"", "lint: broken.xml:1:1: it is no XML: unclosed token\n")
 
 
+ROW = "add v1 FrameLayout 10 10\n"
+LEAF = b"row.lines:1:1: warning useless-leaf: v2 FrameLayout: it has no child, no background and no id (160 dpi, 320 dp)\n"
+
+
+def finds_once() -> str:
+    """What several scripts include is found once, where it is the same, and a line of it that is refused is said once; of a
+    script that includes it twice the second one is found too."""
+    start = "window %d 200\nadd root FrameLayout match match\n"
+    with place() as it:
+        it.put("row.lines", ROW)
+        for name, lines in {"a": "", "b": "add v1 View 9 9\n"}.items():
+            it.put(name + ".script", start % (320 + len(lines)) + lines + "include row.lines\nframe\n")
+        words = ("--only", "useless-leaf")
+        wanted = LEAF.replace(b")", b"; 160 dpi, 336 dp)")
+        why = unlike(it.call("lint", "a.script", "b.script", *words), 1, wanted, "")
+        it.put("b.script", start % 320 + "include row.lines\n" * 2 + "frame\n")
+        twice = it.call("lint", "a.script", "b.script", *words)[1].count(b"row.lines:1:1: ")
+        why = why or ("" if twice == 2 else "%d of a file that is included twice" % twice)
+        it.put("row.lines", ROW + "foo\n")
+        refused = "row.lines:2:1: 31 Syntax: no line begins with 'foo'\n"
+        for jobs in ("1", "2"):
+            said = it.call("lint", "a.script", "b.script", *words, "--jobs", jobs)[2]
+            of_check = it.call("check", "a.script", "b.script", "--quiet", "--jobs", jobs)[1].decode()
+            why = why or ("" if (said, of_check) == ("lint: " + refused, refused) else "%r, %r" % (said, of_check))
+        return why
+
+
+def takes_folders_of_sources() -> str:
+    """A folder of plain sources that is no app: what is XML and no layout is passed over, also what is none at all."""
+    source = BROKEN.replace("7xx", "7dp").replace("@string/none", "@null")
+    with place() as it:
+        os.makedirs(os.path.join(it.folder, "all", "more"))
+        for name, text in {"all/a.xml": source, "all/more/b.xml": source, "all/c.xml": "<a", "all/d.xml": "<resources/>",
+                           "all/e.xml": '<vector xmlns:android="http://schemas.android.com/apk/res/android" android:width="1dp"/>'}.items():
+            it.put(name, text)
+        status, out, said = it.call("lint", "all", "--only", "content-description")
+        found = [line.partition(":")[0] for line in out.decode().splitlines()]
+        return "" if (status, found, said) == (1, ["all/a.xml", "all/more/b.xml"], "") else "%d, %r, '%s'" % (status, out, said)
+
+
 def own_rules() -> str:
     with place() as it:
         it.put("own.py", OWN)
@@ -199,7 +239,7 @@ def wrong_scripts() -> str:
     with place() as it:
         os.mkdir(os.path.join(it.folder, "folder"))
         why = unlike(it.call("lint", "no.script"), 2, b"", "no.script cannot be read")
-        why = why or unlike(it.call("lint", "folder"), 2, b"", "folder has no script, no compiled layout and no app")
+        why = why or unlike(it.call("lint", "folder"), 2, b"", "folder has no script, no layout and no app")
         why = why or unlike(it.call("lint", "-"), 1, b"", "there are no bounds: the script opens no window\n")
         refused = it.call("lint", "-", given="ad x\nwindow 9 9\nadd root View 1 1\nframe\n")
         why = why or unlike(refused, 1, b"", "lint: standard input:1:1: 31 Syntax: no line begins with 'ad'; did you mean 'add'?\n")
@@ -211,5 +251,6 @@ def wrong_scripts() -> str:
 
 def checks() -> Checks:
     yield from named("the lint", (
-        finds, measures_texts, lays_out_a_matrix, takes_apps, finds_broken_sources, own_rules, wrong_scripts,
+        finds, measures_texts, lays_out_a_matrix, takes_apps, finds_broken_sources, finds_once,
+        takes_folders_of_sources, own_rules, wrong_scripts,
     ))

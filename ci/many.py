@@ -121,7 +121,28 @@ def ends_with_its_workers() -> str:
         return ""
 
 
+def names_the_tool_for_it() -> str:
+    """What is no script is said to be that, by its content or the end of its name, and by which tool it is taken."""
+    said = {
+        "a.xml": (b"\3\0\x08\0\0", "a.xml is no script: it is a compiled layout: "), "b.xml": (b"\xef\xbb\xbf\n <a/>", "b.xml is no script: it is XML: "),
+        "c.apk": (b"PK\3\4", "c.apk is no script: it is an archive: "),
+        "d.stack": (b"at 0 0 0\nin 0 window 9 9\nin 0 add rot\n", "d.stack is no script: it is a script of a stack of windows: "),
+    }
+    with place() as it:
+        for name, (body, why) in said.items():
+            it.put(name, body)
+            for words in (("tree", name), ("screenshot", name, "a.png"), ("page", name, "a.html"), ("check", name)):
+                if words != ("check", "d.stack"):
+                    found = unlike(it.call(*words), 2, b"", why)
+                    if found:
+                        return "%s: %s" % (" ".join(words), found)
+        why = unlike(it.call("tree", "-", given="<a/>"), 2, b"", "standard input is no script: it is XML: ")
+        refused = b"d.stack:3:10: 31 Syntax: 'rot' does not fit; did you mean 'root'?\n"
+        return why or unlike(it.call("check", "d.stack"), 1, refused, "")
+
+
 def checks() -> Checks:
     yield from named("many scripts", (
-        goes_on_after_failures, refuses_before_it_writes, takes_standard_input_too, survives_a_worker, ends_with_its_workers
+        goes_on_after_failures, refuses_before_it_writes, takes_standard_input_too, names_the_tool_for_it, survives_a_worker,
+        ends_with_its_workers,
     ))

@@ -16,7 +16,7 @@ OF_PYTHON = frozenset(
 OWN = frozenset(
     "command_line.arguments command_line.many command_line.tree command_line.uses common.ending common.failures "
     "common.files common.messages common.places common.progress program.process program.statuses provenance.built "
-    "provenance.choice provenance.dist provenance.memory provenance.sources scripts.names scripts.replies "
+    "provenance.choice provenance.dist provenance.memory provenance.sources scripts.names scripts.others scripts.replies "
     "scripts.resource_names scripts.script views.facts views.placement views.view_tree".split(" "))
 
 

@@ -8,7 +8,8 @@ from typing import Any, Callable, List, NamedTuple, Optional, Sequence
 from ..common import files
 from ..common.failures import Failure, NOT_RUN
 from ..common.places import version
-from ..scripts import script
+from ..program.statuses import MAX_SCRIPT
+from ..scripts import others, script
 from ..scripts.script import Script
 
 # where there is no terminal
@@ -83,11 +84,20 @@ class Adapted(NamedTuple):
     script: Script
 
 
+def text_of(given: argparse.Namespace) -> bytes:
+    """The text of the script of a call; what is likely no script is a failure that names the tool for it."""
+    text = files.read(given.script, MAX_SCRIPT)
+    why = others.what_else(given.script, text, bool(getattr(given, "stack", None)))
+    if why:
+        raise Failure(why, NOT_RUN)
+    return text
+
+
 def scripts(given: argparse.Namespace, is_strict: bool = True) -> List[Adapted]:
     """The script of a call in each configuration that is asked for; without one as it is. Names without an id stay, if
     the call is not strict."""
     if not given.config:
-        made = script.named(script.written_in(given.script), given.script, given.ids, is_strict)
+        made = script.named(script.written_in(given.script, text_of(given)), given.script, given.ids, is_strict)
         return [Adapted("", made)]
     from ..testing import configurations
 

@@ -2,7 +2,7 @@
 
 The column is that of the word that is meant, in characters, from 1. Of a layout file the element, its line in the
 source and the attribute are reported. Layout files are taken from the folder of the script. With `--format github` the
-runners of GitHub show each reason beside its line.
+runners of GitHub show each reason beside its line. A file *.stack is a script of a stack of windows.
 
 The status is 0 where no line is refused, and 1 where one is.
 """
@@ -28,10 +28,12 @@ def reader() -> argparse.ArgumentParser:
 def checked(given: argparse.Namespace, path: str) -> int:
     """Prints the refused lines of a script. Returns the status."""
     status = 0
-    made = arguments.single(many.one(given, path), is_strict=False)
+    is_stack = path.endswith(many.STACKS)
+    words = argparse.Namespace(**{**vars(many.one(given, path)), "stack": is_stack})
+    made = arguments.single(words, is_strict=False)
     if arguments.show_expanded(given, made):
         return 0
-    for found in refused_lines.findings(made):
+    for found in refused_lines.findings(made, "stack" if is_stack else "run"):
         print(refused_lines.FORMATS[given.format](found))
         status = failures.WRONG
     return status
@@ -44,4 +46,5 @@ def main(words: Optional[Sequence[str]] = None) -> int:
     arguments.write_any_text()
     if not many.is_many(given):
         return checked(given, given.scripts[0])
-    return many.run(lambda it: checked(given, it.path), many.inputs(given.scripts), given)
+    found = many.inputs(given.scripts, many.SCRIPTS + many.STACKS)
+    return many.run(lambda it: checked(given, it.path), found, given, is_once=True)

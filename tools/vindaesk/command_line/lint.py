@@ -2,7 +2,7 @@
 their parents, constraints without effect, and what Android's lint finds in sources.
 
 PATH is a script; a layout, compiled or as a source; an app as tools/app takes it, of which --layout names layouts; or a
-folder of scripts. A finding is a line FILE:LINE:COLUMN: severity rule: sentence, with the configurations in which it
+folder of scripts and layouts. A finding is a line FILE:LINE:COLUMN: severity rule: sentence, with the configurations in which it
 holds in parentheses. --density, --width, --night and --rtl lay all out in each combination.
 
 --list prints the rules, and --explain RULE what one means, with an example in which it finds something and one in which it

@@ -11,6 +11,7 @@ from typing import TYPE_CHECKING, Dict, Iterator, List, NamedTuple, Tuple, Union
 
 from ..common import files
 from ..common.failures import NOT_RUN, Failure
+from ..layouts import layout_files
 from ..lint.subjects import CompiledSubject, ScriptSubject, Subject
 from . import arguments
 
@@ -18,9 +19,8 @@ if TYPE_CHECKING:
     from ..apps.app import OpenApp, Request
 
 SCRIPT, LAYOUT = ".script", ".xml"
-# how apps end, and how a compiled layout begins
+# how apps end
 APPS = (".apk", ".jar", ".zip")
-COMPILED = b"\3\0\x08\0"
 MAX_SOURCE = 1 << 24
 # how many names of layouts a message has
 MOST_NAMES = 12
@@ -76,23 +76,15 @@ def is_app(path: str) -> bool:
 
 
 def in_folder(path: str) -> List[str]:
-    """The scripts and compiled layouts of a folder, and of those in it, by their names."""
+    """The scripts and layouts of a folder, and of those in it, by their names."""
     found = []
     for place, folders, names in os.walk(path):
         folders.sort()
         paths = [os.path.join(place, it) for it in sorted(names)]
-        found += [it for it in paths if it.endswith(SCRIPT) or is_compiled(it)]
+        found += [it for it in paths if it.endswith(SCRIPT) or layout_files.is_compiled(it) or layout_files.is_source(it)]
     if not found:
-        raise Failure("%s has no script, no compiled layout and no app" % path, NOT_RUN)
+        raise Failure("%s has no script, no layout and no app" % path, NOT_RUN)
     return found
-
-
-def is_compiled(path: str) -> bool:
-    """Whether a file is a compiled layout, by its name and its first bytes."""
-    if not path.endswith(LAYOUT) or not os.path.isfile(path):
-        return False
-    with open(path, "rb") as file:
-        return file.read(len(COMPILED)) == COMPILED
 
 
 def units(given: argparse.Namespace, apps: Apps) -> Iterator[Union[Unit, Failure]]:
@@ -110,12 +102,17 @@ def of_path(path: str, given: argparse.Namespace, apps: Apps) -> Iterator[Unit]:
         yield from of_app(path, given, apps)
     elif os.path.isdir(path):
         for it in in_folder(path):
-            yield Unit(Kind.COMPILED if it.endswith(LAYOUT) else Kind.SCRIPT, it)
+            yield from of_layout(it, given) if it.endswith(LAYOUT) else [Unit(Kind.SCRIPT, it)]
     elif path.endswith(LAYOUT) and os.path.isfile(path):
-        kind = Kind.COMPILED if is_compiled(path) else Kind.SOURCE
-        yield from (Unit(kind, path, qualifiers=it) for it in given.config or [""])
+        yield from of_layout(path, given)
     else:
         yield Unit(Kind.SCRIPT, path)
+
+
+def of_layout(path: str, given: argparse.Namespace) -> Iterator[Unit]:
+    """The file of a layout, for each device."""
+    kind = Kind.COMPILED if layout_files.is_compiled(path) else Kind.SOURCE
+    yield from (Unit(kind, path, qualifiers=it) for it in given.config or [""])
 
 
 def of_app(path: str, given: argparse.Namespace, apps: Apps) -> Iterator[Unit]:

@@ -3,6 +3,7 @@ import argparse
 import contextlib
 import io
 import math
+import re
 import sys
 from typing import Dict, Generator, List, NamedTuple, Sequence, Tuple, Union
 
@@ -16,6 +17,10 @@ from . import lint_paths
 from .lint_paths import Apps, Unit
 
 
+# the number of a view, which is another one in another script
+VIEW = re.compile(r"\bv[0-9]+\b")
+
+
 class Outcome(NamedTuple):
     """How a unit ended: what was found, the status, what was said on standard error, and why it could not be looked at, or
     which of its lines were refused."""
@@ -24,6 +29,30 @@ class Outcome(NamedTuple):
     status: int
     said: str = ""
     failed: Tuple[str, ...] = ()
+
+
+class Known:
+    """What was found of several scripts. A line of a file that they include is found in each, and kept once, with the
+    configurations of all; so is what is found on several devices."""
+
+    def __init__(self) -> None:
+        self.found: List[Finding] = []
+        self.known: Dict[Tuple[object, ...], List[Finding]] = {}
+
+    def add(self, found: Sequence[Finding]) -> None:
+        """Adds what was found of one of them: of equal findings, which may be at several views of it, as many as it has
+        more than those before."""
+        counts: Dict[Tuple[object, ...], int] = {}
+        for it in found:
+            key = (it.rule, it.places, VIEW.sub("v", it.name), VIEW.sub("v", it.sentence))
+            same = self.known.setdefault(key, [])
+            place = counts[key] = counts.get(key, -1) + 1
+            if place < len(same):
+                known = same[place].configurations
+                known += [name for name in it.configurations if name not in known]
+            else:
+                same.append(it)
+                self.found.append(it)
 
 
 class Work(NamedTuple):
@@ -36,14 +65,14 @@ class Work(NamedTuple):
 
     def look_at(self, unit: Union[Unit, Failure]) -> Outcome:
         """Looks at a unit. What cannot be looked at stops nothing else."""
-        found: List[Finding] = []
+        known = Known()
         status = 0
         failed: List[str] = []
         try:
             if isinstance(unit, Failure):
                 raise unit
             for it in lint_paths.subjects(unit, self.given, self.apps):
-                found += linter.found_in(it, self.configurations, self.rules)
+                known.add(linter.found_in(it, self.configurations, self.rules))
                 status = status or it.status()
                 failed += it.refusals()
         except Failure as failure:
@@ -52,7 +81,7 @@ class Work(NamedTuple):
             failed.append(in_words(unit, str(failure)))
             messages.say(failed[-1])
             status = failure.status
-        return Outcome(found, status, failed=tuple(failed))
+        return Outcome(known.found, status, failed=tuple(failed))
 
     def in_silence(self, unit: Union[Unit, Failure]) -> Outcome:
         """The same, with what is said kept."""
@@ -102,16 +131,19 @@ def outcomes(work: Work, units: Sequence[Union[Unit, Failure]], jobs: int) -> Ge
 def done(work: Work, jobs: int) -> Outcome:
     """All that is found and failed, and the status: that of the only unit, else 1 where one has another than 0."""
     units = list(lint_paths.units(work.given, work.apps))
-    found: List[Finding] = []
+    known = Known()
+    said: List[str] = []
     failed: List[str] = []
     statuses = []
     for it in progress.counted(outcomes(work, units, jobs), len(units), "layouts"):
-        if it.said:
+        new = [line for line in it.said.splitlines(True) if line not in said]
+        if new:
             progress.clear()
-            sys.stderr.write(it.said)
-        found += it.found
-        failed += it.failed
+            sys.stderr.write("".join(new))
+        said += new
+        known.add(it.found)
+        failed += [why for why in it.failed if why not in failed]
         statuses.append(it.status)
     work.apps.close()
     status = statuses[0] if len(statuses) == 1 else failures.WRONG if any(statuses) else 0
-    return Outcome(found, status, failed=tuple(failed))
+    return Outcome(known.found, status, failed=tuple(failed))

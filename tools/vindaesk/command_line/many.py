@@ -240,18 +240,28 @@ def show(outcome: Outcome) -> None:
         files.write("-", outcome.written)
 
 
-def run(work: Work, found: Sequence[Input], given: argparse.Namespace, wrong: str = "with refused lines") -> int:
-    """Carries out work over scripts, and writes how each ends, in their order. Returns the status: 0, or 1 where one of
-    them is another. `wrong` says what the status 1 means of scripts."""
+def new_lines(written: bytes, before: Set[bytes]) -> bytes:
+    """The lines that were not written before, as they were for a file that several scripts include."""
+    found = [line for line in written.splitlines(True) if line not in before]
+    before.update(found)
+    return b"".join(found)
+
+
+def run(work: Work, found: Sequence[Input], given: argparse.Namespace, wrong: str = "with refused lines",
+        is_once: bool = False) -> int:
+    """Carries out work over scripts, and writes how each ends, in their order; each line once, if that is asked for.
+    Returns the status: 0, or 1 where one of them is another. `wrong` says what the status 1 means of scripts."""
     sys.stdout.flush()
     ended: List[Outcome] = []
+    before: Set[bytes] = set()
     waiting: Dict[int, Outcome] = {}
     with contextlib.closing(outcomes(work, found, given.jobs)) as each:
         for place, outcome in each if given.quiet else progress.counted(each, len(found), "scripts"):
             waiting[place] = outcome
             while len(ended) in waiting:
-                show(waiting[len(ended)])
-                ended.append(waiting.pop(len(ended))._replace(written=b"", said=""))
+                it = waiting.pop(len(ended))
+                show(it._replace(written=new_lines(it.written, before)) if is_once else it)
+                ended.append(it._replace(written=b"", said=""))
     failed, others = sum(it.is_failed for it in ended), sum(it.status != 0 and not it.is_failed for it in ended)
     if not given.quiet and failed + others:
         sums = ["%d %s" % pair for pair in ((failed, "failed"), (others, wrong)) if pair[0]]

@@ -55,12 +55,12 @@ class Checker:
                 self.files.settings.append(line)
 
 
-def findings(made: Script) -> Iterator[Finding]:
-    """The refused lines of a script, as they come."""
+def findings(made: Script, form: str = "run") -> Iterator[Finding]:
+    """The refused lines of a script that the program runs in this form, `run` or `stack`, as they come."""
     checker = Checker(made)
     lines = made.lines
     parts = [Part(lines[at : at + TOGETHER], at + 1) for at in range(0, len(lines), TOGETHER)]
-    for part, answer in replies.answers(parts, made.folder):
+    for part, answer in replies.answers(parts, made.folder, form):
         yield from checker.part(part, answer)
 
 

@@ -81,9 +81,10 @@ def unnamed(wrong: Sequence[Tuple[Line, Unknown]]) -> str:
     return "%s:%d: %s%s" % (line.place(), first.column, first.why, others)
 
 
-def written_in(path: str) -> List[Line]:
-    """The lines of a script as they were written, with those of the files that it includes in their place."""
-    return Includer().lines(path, files.read(path, MAX_SCRIPT), [])
+def written_in(path: str, text: Optional[bytes] = None) -> List[Line]:
+    """The lines of a script as they were written, with those of the files that it includes in their place. Its text is
+    read where it is not given."""
+    return Includer().lines(path, files.read(path, MAX_SCRIPT) if text is None else text, [])
 
 
 class Includer:
