@@ -7,7 +7,7 @@ runners of GitHub show each reason beside its line. A file *.stack is a script o
 The status is 0 where no line is refused, and 1 where one is.
 """
 import argparse
-from typing import Optional, Sequence
+from typing import Optional, Sequence, Set
 
 from ..common import failures
 from ..lint import refused_lines
@@ -33,8 +33,12 @@ def checked(given: argparse.Namespace, path: str) -> int:
     made = arguments.single(words, is_strict=False)
     if arguments.show_expanded(given, made):
         return 0
+    printed: Set[refused_lines.Finding] = set()
     for found in refused_lines.findings(made, "stack" if is_stack else "run"):
-        print(refused_lines.FORMATS[given.format](found))
+        # a file that is included twice has the same line again
+        if found not in printed:
+            print(refused_lines.FORMATS[given.format](found))
+        printed.add(found)
         status = failures.WRONG
     return status
 

@@ -111,7 +111,7 @@ def lost(why: str) -> Outcome:
 def outcomes(work: Work, units: Sequence[Union[Unit, Failure]], jobs: int) -> Generator[Outcome, None, None]:
     """How units end, in their order."""
     if min(jobs, len(units)) < 2:
-        yield from map(work.look_at, units)
+        yield from map(work.look_at if len(units) == 1 else work.in_silence, units)
         return
     # loaded where there are many, since that takes as long as a small script
     from ..common.pool import Lost, Pool
@@ -136,7 +136,7 @@ def done(work: Work, jobs: int) -> Outcome:
     failed: List[str] = []
     statuses = []
     for it in progress.counted(outcomes(work, units, jobs), len(units), "layouts"):
-        new = [line for line in it.said.splitlines(True) if line not in said]
+        new = [line for line in dict.fromkeys(it.said.splitlines(True)) if line not in said]
         if new:
             progress.clear()
             sys.stderr.write("".join(new))

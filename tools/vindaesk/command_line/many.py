@@ -242,7 +242,7 @@ def show(outcome: Outcome) -> None:
 
 def new_lines(written: bytes, before: Set[bytes]) -> bytes:
     """The lines that were not written before, as they were for a file that several scripts include."""
-    found = [line for line in written.splitlines(True) if line not in before]
+    found = [line for line in dict.fromkeys(written.splitlines(True)) if line not in before]
     before.update(found)
     return b"".join(found)
 
