@@ -1,5 +1,6 @@
 -- Rows of one colour, of which a surface keeps no more than a mark in the place of their first pixel.
-use Rattle.std.specs.Prelude.{ℕ, ◌≡◌, true, false, ◌+◌, ◌*◌, ◌/◌, ◌%◌, ◌==◌, List, length, map, slice_index_or, if◌then◌else◌}
+use Rattle.std.specs.Prelude.{ℕ, ◌≡◌, true, false, ◌+◌, ◌*◌, ◌/◌, ◌%◌, ◌==◌, List, length, map, slice_index_or}
+use Rattle.std.specs.Prelude.{if◌then◌else◌}
 use Rattle.std.specs.List.{range_with_len}
 use Rattle.geom_core.specs.Color.{alpha_of}
 use Rattle.geom_core.specs.Numbers.{unpainted}
@@ -23,7 +24,10 @@ seen_at width pixels x y = seen_of (pixel_at width pixels 0 y) (pixel_at width p
 -- the colours that are seen of all pixels
 unfoldable pub seen_pixels : ℕ → List Argb → List Argb
 seen_pixels width pixels =
-    map (λ place. seen_of (slice_index_or pixels (place / width * width) unpainted) (slice_index_or pixels place unpainted)) (range_with_len 0 (length pixels))
+    map
+    (λ place.
+    seen_of (slice_index_or pixels (place / width * width) unpainted) (slice_index_or pixels place unpainted))
+    (range_with_len 0 (length pixels))
 
 -- none of the rows of a band is marked
 abbrev pub AreWritten : ℕ → Band → List Argb → Type 0

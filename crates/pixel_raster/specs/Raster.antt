@@ -1,5 +1,6 @@
 -- What contracts see of a picture in memory.
-use Rattle.std.specs.Prelude.{ℕ, ℤ, pos, ◌≡◌, ◌<◌, ◌≤◌, ◌<ℤ◌, ◌≤ℤ◌, ◌+◌, ◌-◌, ◌*◌, ◌^◌, min, List, [], length, replicate, slice_index_or, if◌then◌else◌}
+use Rattle.std.specs.Prelude.{ℕ, ℤ, pos, ◌≡◌, ◌<◌, ◌≤◌, ◌<ℤ◌, ◌≤ℤ◌, ◌+◌, ◌-◌, ◌*◌, ◌^◌, min, List, [], length}
+use Rattle.std.specs.Prelude.{replicate, slice_index_or, if◌then◌else◌}
 use Rattle.geom_core.specs.Color.{alpha_of, blend_of}
 use Rattle.geom_core.specs.Numbers.{unpainted}
 use Rattle.geom_core.specs.Rects.{holds}

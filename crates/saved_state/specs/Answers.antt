@@ -28,5 +28,6 @@ ReadAs read (Err failed) = FailsAs read failed
 -- a state is refused exactly where it is for a view of another class; only where it is not, there may be no memory
 abbrev pub RestoredUnless : {A : Type 0} → Bool → Result A Fault → Type 0
 RestoredUnless is_for_other (Ok done) = is_for_other ≡ false
-RestoredUnless is_for_other (Err (fault.Refused refusal)) = (is_for_other ≡ true) × is_other_class (fault.Refused refusal)
+RestoredUnless is_for_other (Err (fault.Refused refusal)) =
+    (is_for_other ≡ true) × is_other_class (fault.Refused refusal)
 RestoredUnless is_for_other (Err fault.NoMemory) = is_for_other ≡ false

@@ -1,4 +1,5 @@
--- The numbers of the format of saved states. The code names each of them once; `NumberLaws` says that its numbers are these.
+-- The numbers of the format of saved states. The code names each of them once; `NumberLaws` says that its numbers are
+-- these.
 use Rattle.std.specs.Prelude.{ℕ}
 
 -- the last version; it is the one that is written

@@ -1,5 +1,6 @@
 -- What is kept with views once a state is restored: each that it gives something has it, and asks for layout.
-use Rattle.std.specs.Prelude.{◌≡◌, ℕ, ◌==◌, ℤ, pos, Bool, true, false, if◌then◌else◌, is_some, List, [], ◌∷◌, ◌++◌, Option, Some, None}
+use Rattle.std.specs.Prelude.{◌≡◌, ℕ, ◌==◌, ℤ, pos, Bool, true, false, if◌then◌else◌, is_some, List, [], ◌∷◌, ◌++◌}
+use Rattle.std.specs.Prelude.{Option, Some, None}
 use Rattle.kept_views.specs.Pressing.{path_of}
 use Rattle.saved_state.specs.Restoring.{given}
 use Rattle.saved_state.specs.State.{StateEntry}
@@ -18,7 +19,9 @@ wanted entries tree key = given entries (head_view (part_from key tree))
 -- the keys of those views of a list that are given something
 abbrev pub given_keys : List StateEntry → Forest Row → List Row → List ℕ
 given_keys entries tree [] = []
-given_keys entries tree (row ∷ more) = if is_some (wanted entries tree row.key) then row.key ∷ given_keys entries tree more else given_keys entries tree more
+given_keys entries tree (row ∷ more) =
+    if is_some (wanted entries tree row.key) then row.key ∷ given_keys entries tree more
+    else given_keys entries tree more
 
 -- the keys of the views of a tree, in preorder, whose offset or text a state sets
 abbrev pub set_by : List StateEntry → Forest Row → List ℕ
@@ -56,7 +59,8 @@ given_held (Some (Text text)) view tree held = asked_held view tree held
 -- so do these views, one after the other
 abbrev pub all_given : List StateEntry → Forest Row → List ℕ → (ℕ → Held) → ℕ → Held
 all_given entries tree [] held = held
-all_given entries tree (view ∷ views) held = all_given entries tree views (given_held (wanted entries tree view) view tree held)
+all_given entries tree (view ∷ views) held =
+    all_given entries tree views (given_held (wanted entries tree view) view tree held)
 
 -- so do the views of these keys, each with its value
 abbrev pub all_set : Forest Row → List (ℕ × Value) → (ℕ → Held) → ℕ → Held
@@ -75,7 +79,8 @@ with_text_at tree set = changed_at_key set.0 (with_text_of (Some set.1)) tree
 
 -- the rows of a tree with the texts that a state gives; their offsets are kept beside them
 abbrev pub restated : List StateEntry → Forest Row → Forest Row
-restated entries tree = map_rows (λ (row : Row). record row { view = with_text_of (given entries row.view) row.view }) tree
+restated entries tree =
+    map_rows (λ (row : Row). record row { view = with_text_of (given entries row.view) row.view }) tree
 
 -- a tree has the texts that a state gives, and is the same otherwise
 pub record Restates (entries : List StateEntry) (old new : Views) : Type 0 where

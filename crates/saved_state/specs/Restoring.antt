@@ -1,5 +1,6 @@
 -- The effect of a state on a tree, and which trees it does not fit.
-use Rattle.std.specs.Prelude.{◌≡◌, ℕ, ◌==◌, ◌<◌, pos, Bool, false, ◌&&◌, not, if◌then◌else◌, List, length, slice_index_or, Option, Some, None, MatchOption}
+use Rattle.std.specs.Prelude.{◌≡◌, ℕ, ◌==◌, ◌<◌, pos, Bool, false, ◌&&◌, not, if◌then◌else◌, List, length}
+use Rattle.std.specs.Prelude.{slice_index_or, Option, Some, None, MatchOption}
 use Rattle.std.specs.List.{list_any}
 use Rattle.std.specs.Map.{lookup}
 use Rattle.saved_state.specs.State.{StateEntry}
@@ -78,4 +79,5 @@ FindsEntry entries id place = MatchOption place (value_for entries id ≡ None) 
 
 -- of each entry, a mark says whether a view of a list meets it
 abbrev pub AreMarks : List StateEntry → List PlainView → List Bool → Type 0
-AreMarks entries views marks = (place : ℕ) → place < length entries → slice_index_or marks place false ≡ is_met (entry_at entries place) views
+AreMarks entries views marks =
+    (place : ℕ) → place < length entries → slice_index_or marks place false ≡ is_met (entry_at entries place) views

@@ -1,5 +1,6 @@
 -- What is saved of a tree.
-use Rattle.std.specs.Prelude.{◌≡◌, ℕ, ◌==◌, pos, ◌≤ℤ◌, true, if◌then◌else◌, nat_lt, List, [], length, Option, Some, None, unsigned_abs, encode_utf8_all}
+use Rattle.std.specs.Prelude.{◌≡◌, ℕ, ◌==◌, pos, ◌≤ℤ◌, true, if◌then◌else◌, nat_lt, List, [], length, Option, Some}
+use Rattle.std.specs.Prelude.{None, unsigned_abs, encode_utf8_all}
 use Rattle.std.specs.BTreeMap.{insert_entry}
 use Rattle.std.specs.List.{fold}
 use Rattle.std.specs.Ordering.{nat_cmp}
@@ -7,7 +8,8 @@ use Rattle.view_model.specs.Forest.{Forest, EveryRow, rows}
 use Rattle.view_model.specs.Classes.{scrolls}
 use Rattle.view_model.specs.PlainTree.{PlainView}
 use Rattle.view_model.specs.declared.kinds.Class.{Class}
-use Rattle.view_model.specs.declared.kinds.Class.TheVariants.{View, TextView, FrameLayout, LinearLayout, ScrollView, RelativeLayout}
+use Rattle.view_model.specs.declared.kinds.Class.TheVariants.{View, TextView, FrameLayout, LinearLayout, ScrollView}
+use Rattle.view_model.specs.declared.kinds.Class.TheVariants.{RelativeLayout}
 use Rattle.saved_state.specs.State.{StateEntry}
 use Rattle.saved_state.specs.Numbers.{max_offset, max_text_bytes}
 use Rattle.saved_state.specs.declared.value.Value.{Value}
@@ -37,8 +39,8 @@ with_entry entries id (Some value) = insert_entry nat_cmp entries id value
 abbrev pub with_view : List StateEntry → PlainView → List StateEntry
 with_view entries view = with_entry entries view.facts.id (value_saved view)
 
--- the offset of each scroll view and the text of each text view that has an id, by rising ids; of those with the same id the
--- last in preorder
+-- the offset of each scroll view and the text of each text view that has an id, by rising ids; of those with the same
+-- id the last in preorder
 abbrev pub saved_of : Forest PlainView → List StateEntry
 saved_of tree = fold with_view [] (rows tree)
 

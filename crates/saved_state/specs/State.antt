@@ -1,10 +1,13 @@
 -- Saved states: offsets and texts by the ids of views, the bytes of a state, and the state of bytes.
-use Rattle.std.specs.Prelude.{◌≡◌, ◌≢◌, true, ◌⊎◌, ℕ, zero, suc, ◌+◌, ◌<◌, ◌≤◌, ◌==◌, ◌||◌, ◌&&◌, Bool, not, if◌then◌else◌, nat_lt, List, [], ◌∷◌, ◌++◌, length, take, drop, slice_index, Result, Ok, Err, chars, encode_utf8_all}
+use Rattle.std.specs.Prelude.{◌≡◌, ◌≢◌, true, ◌⊎◌, ℕ, zero, suc, ◌+◌, ◌<◌, ◌≤◌, ◌==◌, ◌||◌, ◌&&◌, Bool, not}
+use Rattle.std.specs.Prelude.{if◌then◌else◌, nat_lt, List, [], ◌∷◌, ◌++◌, length, take, drop, slice_index, Result, Ok}
+use Rattle.std.specs.Prelude.{Err, chars, encode_utf8_all}
 use Rattle.std.specs.Str.{is_utf8}
 use lib.Utf8.{scalars}
 use Rattle.std.specs.List.{flat_map}
 use Rattle.byteorder.specs.Endian.{little_bytes, little_number}
-use Rattle.saved_state.specs.Numbers.{first_version, head_bytes, last_version, max_entries, max_offset, max_text_bytes, offset_entry_bytes, offset_kind, text_entry_bytes, text_kind}
+use Rattle.saved_state.specs.Numbers.{first_version, head_bytes, last_version, max_entries, max_offset, max_text_bytes}
+use Rattle.saved_state.specs.Numbers.{offset_entry_bytes, offset_kind, text_entry_bytes, text_kind}
 use Rattle.saved_state.specs.declared.value.Value.{Value}
 use Rattle.saved_state.specs.declared.value.Value.TheVariants.{Offset, Text}
 
@@ -25,7 +28,8 @@ IsValueOf version (Text text) = (version ≢ first_version) × IsValue (Text tex
 -- the ids of entries rise from above this one, and their values are those of a version
 abbrev pub RisesFrom : ℕ → ℕ → List StateEntry → Type 0
 RisesFrom version before [] = Unit {0}
-RisesFrom version before (entry ∷ entries) = (before < entry.0) × (entry.0 < 4294967296) × IsValueOf version entry.1 × RisesFrom version entry.0 entries
+RisesFrom version before (entry ∷ entries) =
+    (before < entry.0) × (entry.0 < 4294967296) × IsValueOf version entry.1 × RisesFrom version entry.0 entries
 
 -- what a state of a version may be: entries by rising ids, of which none is 0
 pub record IsState (version : ℕ) (entries : List StateEntry) : Type 0 where
@@ -69,7 +73,9 @@ abbrev pub ◌>>=◌ : {A B : Type 0} → Result A ℕ → (A → Result B ℕ) 
 unfoldable pub head_of : List ℕ → Result (ℕ × ℕ) ℕ
 head_of bytes =
     if nat_lt (length bytes) 2 || not (slice_index bytes 0 == 86) || not (slice_index bytes 1 == 83) then Err 0
-    else (if nat_lt (length bytes) 3 || not (slice_index bytes 2 == first_version || slice_index bytes 2 == last_version) then Err 2
+    else
+    (if nat_lt (length bytes) 3 || not (slice_index bytes 2 == first_version || slice_index bytes 2 == last_version)
+    then Err 2
     else (if nat_lt (length bytes) head_bytes then Err 3
     else Ok (slice_index bytes 2, little_number 2 (drop 3 bytes))))
 
@@ -86,7 +92,8 @@ has_kind version kind = kind == offset_kind || (not (version == first_version) &
 
 -- the kind with which they begin
 unfoldable pub kind_of : ℕ → ℕ → List ℕ → Result ℕ ℕ
-kind_of version place rest = if nat_lt (length rest) 1 || not (has_kind version (slice_index rest 0)) then Err place else Ok (slice_index rest 0)
+kind_of version place rest =
+    if nat_lt (length rest) 1 || not (has_kind version (slice_index rest 0)) then Err place else Ok (slice_index rest 0)
 
 -- the offset with which they begin
 unfoldable pub offset_of : ℕ → List ℕ → Result ℕ ℕ
@@ -97,11 +104,13 @@ offset_of place rest =
 
 -- the text of the first n bytes
 unfoldable pub words_of : ℕ → ℕ → List ℕ → Result (List ℕ) ℕ
-words_of count place rest = if nat_lt (length rest) count || not (is_utf8 (take count rest)) then Err place else Ok (chars (take count rest))
+words_of count place rest =
+    if nat_lt (length rest) count || not (is_utf8 (take count rest)) then Err place else Ok (chars (take count rest))
 
 -- the text whose length they begin with
 unfoldable pub text_of : ℕ → List ℕ → Result (List ℕ) ℕ
-text_of place rest = if nat_lt (length rest) 2 then Err place else words_of (little_number 2 rest) (place + 2) (drop 2 rest)
+text_of place rest =
+    if nat_lt (length rest) 2 then Err place else words_of (little_number 2 rest) (place + 2) (drop 2 rest)
 
 -- the value of a kind
 abbrev pub value_of : ℕ → ℕ → List ℕ → Result Value ℕ
@@ -121,7 +130,8 @@ abbrev pub entries_of : ℕ → ℕ → ℕ → ℕ → List ℕ → Result (Lis
 entries_of version zero before place rest = if nat_lt 0 (length rest) then Err place else Ok []
 entries_of version (suc n) before place rest =
     entry_of version before place rest >>= λ (entry : StateEntry).
-    (entries_of version n entry.0 (place + entry_size entry.1) (drop (entry_size entry.1) rest) >>= λ (entries : List StateEntry). Ok (entry ∷ entries))
+    (entries_of version n entry.0 (place + entry_size entry.1) (drop (entry_size entry.1) rest)
+    >>= λ (entries : List StateEntry). Ok (entry ∷ entries))
 
 -- the state of bytes, or the place of the first field that is cut short or wrong, or that follows the state
 unfoldable pub decoded : List ℕ → Result (List StateEntry) ℕ

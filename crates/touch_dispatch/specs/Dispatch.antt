@@ -1,10 +1,12 @@
--- How an event goes through a tree. Only `event_children` goes down the tree; the rules of a group are functions over the
--- list of its children.
-use Rattle.std.specs.Prelude.{ℕ, ◌==◌, ℤ, pos, nat_lt, Bool, true, false, ◌&&◌, ◌||◌, not, if◌then◌else◌, List, [], ◌∷◌, Option, Some, None, find, is_some}
+-- How an event goes through a tree. Only `event_children` goes down the tree; the rules of a group are functions over
+-- the list of its children.
+use Rattle.std.specs.Prelude.{ℕ, ◌==◌, ℤ, pos, nat_lt, Bool, true, false, ◌&&◌, ◌||◌, not, if◌then◌else◌, List, [], ◌∷◌}
+use Rattle.std.specs.Prelude.{Option, Some, None, find, is_some}
 use Rattle.std.specs.Option.{option_map, unwrap_or}
 use Rattle.geom_core.specs.declared.geometry.Rect.{Rect}
 use Rattle.touch_dispatch.specs.gesture.Gestures.{PlainGesture, cleared, set_targets, without_target}
-use Rattle.touch_dispatch.specs.handling.Handling.{Progress, Reached, asked, handled, is_cancel, is_down, is_nil, targets_at, with_gesture}
+use Rattle.touch_dispatch.specs.handling.Handling.{Progress, Reached, asked, handled, is_cancel, is_down, is_nil}
+use Rattle.touch_dispatch.specs.handling.Handling.{targets_at, with_gesture}
 use Rattle.touch_dispatch.specs.reaching.Points.{cancel_event, is_tried, local_event}
 use Rattle.touch_dispatch.specs.declared.handling.receiver.Receiver.{Receiver}
 use Rattle.touch_dispatch.specs.declared.reaching.taker.Taker.{Taker}
@@ -93,15 +95,26 @@ tried_ids split event = if split then only event.pointer else every
 abbrev pub taken_by : PlainView → Event → ℕ → Reached → Tried
 taken_by own event child reached =
     if reached.yes
-    then record { taker = Sent child; progress = with_gesture (set_targets own.number (put_target child (tried_ids own.facts.split event) (targets_at reached.progress own.number))) reached.progress }
+    then record {
+      taker = Sent child;
+      progress = with_gesture (set_targets own.number (put_target child
+          (tried_ids own.facts.split event) (targets_at reached.progress own.number))) reached.progress;
+    }
     else record { taker = NoChild; progress = reached.progress }
 
 abbrev pub try_child : Scene → PlainView → Event → EventChild → Progress → Tried
 try_child scene own event kid progress =
     if is_tried kid.view.facts.visibility (scene.rects kid.view.number) (progress.offsets own.number) event
     then (if is_target kid.view.number (targets_at progress own.number)
-    then record { taker = Earlier; progress = with_gesture (set_targets own.number (put_target kid.view.number (only event.pointer) (targets_at progress own.number))) progress }
-    else taken_by own event kid.view.number (kid.reach (local_event (scene.rects kid.view.number) (progress.offsets own.number) (tried_event own.facts.split event)) progress))
+    then record {
+      taker = Earlier;
+      progress = with_gesture
+          (set_targets own.number (put_target kid.view.number (only event.pointer) (targets_at progress own.number)))
+          progress;
+    }
+    else taken_by own event kid.view.number
+    (kid.reach (local_event (scene.rects kid.view.number) (progress.offsets own.number)
+    (tried_event own.facts.split event)) progress))
     else record { taker = NoChild; progress = progress }
 
 abbrev pub unless_taken : (Progress → Tried) → Taker → Progress → Tried
@@ -127,11 +140,17 @@ oldest targets = oldest_or None targets
 -- the oldest target, if there is one, gets the pointer that no child took
 abbrev pub given : Option ℕ → ℕ → ℕ → PlainGesture → PlainGesture
 given None group pointer gesture = gesture
-given (Some child) group pointer gesture = set_targets group (put_target child (only pointer) (gesture.targets group)) gesture
+given (Some child) group pointer gesture =
+    set_targets group (put_target child (only pointer) (gesture.targets group)) gesture
 
 abbrev pub settled : ℕ → Event → Tried → Tried
 settled group event tried =
-    unless_taken (λ progress. record { taker = NoChild; progress = with_gesture (given (oldest (targets_at progress group)) group event.pointer) progress }) tried.taker tried.progress
+    unless_taken
+    (λ progress. record {
+      taker = NoChild;
+      progress = with_gesture (given (oldest (targets_at progress group)) group event.pointer) progress;
+    })
+    tried.taker tried.progress
 
 -- the children are tried
 abbrev pub is_offered : Action → Bool → Bool
@@ -179,10 +198,12 @@ abbrev pub hand_to : Scene → PlainView → List EventChild → Event → Bool 
 hand_to scene own kids event intercepted taker target progress =
     if is_sent taker target.child
     then record { yes = true; progress = progress }
-    else hand_part (part_for (scene.rects target.child) (progress.offsets own.number) event intercepted target.ids) (child_of target.child kids) progress
+    else hand_part (part_for (scene.rects target.child) (progress.offsets own.number) event intercepted target.ids)
+    (child_of target.child kids) progress
 
 -- each target gets its part, the newest first; yes if one of them says so
-abbrev pub hand_out : Scene → PlainView → List EventChild → Event → Bool → Taker → List Target → Bool → Progress → Reached
+abbrev pub hand_out : Scene → PlainView → List EventChild → Event → Bool → Taker → List Target → Bool → Progress
+    → Reached
 hand_out scene own kids event intercepted taker [] said progress = record { yes = said; progress = progress }
 hand_out scene own kids event intercepted taker (t ∷ targets) said progress =
     let reached = hand_to scene own kids event intercepted taker t progress in
@@ -197,14 +218,16 @@ answered scene own kids event intercepted taker progress =
 
 -- an interception leaves no target
 abbrev pub intercepted_cleared : Bool → ℕ → Progress → Progress
-intercepted_cleared intercepted group progress = if intercepted then with_gesture (set_targets group []) progress else progress
+intercepted_cleared intercepted group progress =
+    if intercepted then with_gesture (set_targets group []) progress else progress
 
 -- the end of a gesture, or of a pointer
 abbrev pub ended_by : Action → Bool → ℕ → ℕ → Progress → Progress
 ended_by Up split group pointer progress = with_gesture (cleared group) progress
 ended_by Cancel split group pointer progress = with_gesture (cleared group) progress
 ended_by PointerUp split group pointer progress =
-    if split then with_gesture (set_targets group (drop_pointers (only pointer) (targets_at progress group))) progress else progress
+    if split then with_gesture (set_targets group (drop_pointers (only pointer) (targets_at progress group))) progress
+    else progress
 ended_by Down split group pointer progress = progress
 ended_by Move split group pointer progress = progress
 ended_by PointerDown split group pointer progress = progress

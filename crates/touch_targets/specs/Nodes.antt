@@ -1,5 +1,6 @@
 -- How the nodes of the pool represent what groups have captured.
-use Rattle.std.specs.Prelude.{ℕ, zero, suc, ◌≡◌, ◌≢◌, ◌==◌, ◌<◌, ◌^◌, true, false, Bool, not, if◌then◌else◌, List, [], ◌∷◌, ◌++◌, Option, Some, None, option_map, IsSome, length, map, filter}
+use Rattle.std.specs.Prelude.{ℕ, zero, suc, ◌≡◌, ◌≢◌, ◌==◌, ◌<◌, ◌^◌, true, false, Bool, not, if◌then◌else◌, List, []}
+use Rattle.std.specs.Prelude.{◌∷◌, ◌++◌, Option, Some, None, option_map, IsSome, length, map, filter}
 use Rattle.std.specs.List.{last_or, list_any}
 use Rattle.slab.specs.Slab.{Slab, get}
 use Rattle.slab_link.specs.Numbers.{links_end}
@@ -48,17 +49,20 @@ has_place place places = list_any (λ p. place == p) places
 abbrev pub Chain : (ℕ → Option Node) → ℕ → Option ℕ → List ℕ → Type 0
 Chain at group start [] = start ≡ None
 Chain at group start (place ∷ places) =
-    (start ≡ Some place) × (has_place place places ≡ false) × (node : Node) × (at place ≡ Some node) × (node.group ≡ Some group) × Chain at group node.next places
+    (start ≡ Some place) × (has_place place places ≡ false) × (node : Node) × (at place ≡ Some node)
+    × (node.group ≡ Some group) × Chain at group node.next places
 
 -- the targets of each group are linked one after the other, and each node that names a group is among them
 pub record IsLinked (at : ℕ → Option Node) (places : ℕ → List ℕ) : Type 0 where
   pub chained : (group : ℕ) (node : Node) → at group ≡ Some node → Chain at group node.newest (places group)
-  pub member : (place group : ℕ) (node : Node) → at place ≡ Some node → node.group ≡ Some group → IsSome (at group) × (has_place place (places group) ≡ true)
+  pub member : (place group : ℕ) (node : Node) → at place ≡ Some node → node.group ≡ Some group
+      → IsSome (at group) × (has_place place (places group) ≡ true)
   pub free : (place : ℕ) (node : Node) → at place ≡ Some node → node.group ≡ None → (node.next ≡ None) × (node.ids ≡ 0)
   pub held : (place group : ℕ) (node : Node) → at place ≡ Some node → node.group ≡ Some group → node.ids ≢ 0
   pub fits : (place : ℕ) (node : Node) → at place ≡ Some node → node.ids < 2 ^ 32
   pub small : (place : ℕ) (node : Node) → at place ≡ Some node → place < links_end
-  pub single : (place other : ℕ) (node its : Node) → at place ≡ Some node → at other ≡ Some its → node.view ≡ its.view → place ≡ other
+  pub single : (place other : ℕ) (node its : Node) → at place ≡ Some node → at other ≡ Some its → node.view ≡ its.view
+      → place ≡ other
 
 abbrev pub AreLinked : Slab Node → Type 0
 AreLinked nodes = IsLinked (get nodes) (places_by nodes)

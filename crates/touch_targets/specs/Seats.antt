@@ -1,5 +1,6 @@
 -- What contracts see of the pool: the open views, each with the children that it has captured, the newest first.
-use Rattle.std.specs.Prelude.{ℕ, ◌==◌, ◌^◌, ◌-◌, Bool, not, if◌then◌else◌, bit_and, bit_or, List, [], ◌∷◌, ◌++◌, Option, Some, None, filter, find, map, refl}
+use Rattle.std.specs.Prelude.{ℕ, ◌==◌, ◌^◌, ◌-◌, Bool, not, if◌then◌else◌, bit_and, bit_or, List, [], ◌∷◌, ◌++◌, Option}
+use Rattle.std.specs.Prelude.{Some, None, filter, find, map, refl}
 use Rattle.std.specs.Coded.{Coded, code_by, coded×, coded_ℕ, coded_list}
 use Rattle.std.specs.List.{list_any}
 use Rattle.touch_event.specs.PointerSets.{has_id}
@@ -59,7 +60,9 @@ drop_caught ids caught =
     filter (λ (c : Caught). not (c.ids == 0)) (map (λ (c : Caught). record c { ids = mask_without c.ids ids }) caught)
 
 abbrev caught_code : Coded Caught
-caught_code = code_by (ℕ × ℕ) (coded× coded_ℕ coded_ℕ) (λ c. (c.child, c.ids)) (λ p. record { child = p.0; ids = p.1 }) (λ _. refl)
+caught_code =
+    code_by (ℕ × ℕ) (coded× coded_ℕ coded_ℕ) (λ c. (c.child, c.ids)) (λ p. record { child = p.0; ids = p.1 })
+    (λ _. refl)
 
 abbrev seat_code : Coded Seat
 seat_code =

@@ -1,5 +1,6 @@
 -- At which views an edit requests layout, and what it leaves of all others.
-use Rattle.std.specs.Prelude.{◌≡◌, ℕ, ◌==◌, Bool, true, false, if◌then◌else◌, not, List, [], ◌∷◌, map, Option, Some, None}
+use Rattle.std.specs.Prelude.{◌≡◌, ℕ, ◌==◌, Bool, true, false, if◌then◌else◌, not, List, [], ◌∷◌, map, Option, Some}
+use Rattle.std.specs.Prelude.{None}
 use Rattle.kept_views.specs.Pressing.{path_of}
 use Rattle.view_model.specs.declared.changes.Act.{Act}
 use Rattle.view_model.specs.declared.changes.Act.TheVariants as act
@@ -70,7 +71,10 @@ asked_by_act view act = if requests_layout act then view ∷ [] else []
 
 -- the view of an act that sets a direction, and each view that runs another way after it
 abbrev pub asked_by_turn : Forest Row → ℕ → Act → List ℕ
-asked_by_turn tree view act = view ∷ map (λ (row : Row). row.key) (turned (λ (row : Row). row.view.facts) false (changed_at_key view (acted_view act) tree))
+asked_by_turn tree view act =
+    view
+    ∷ map (λ (row : Row). row.key)
+    (turned (λ (row : Row). row.view.facts) false (changed_at_key view (acted_view act) tree))
 
 -- the views at which an edit requests layout
 abbrev pub asked_by : Views → Edit → List ℕ
@@ -103,4 +107,5 @@ excused views edit key = if is_on_paths (asked_by views edit) views.tree key the
 -- all other views that stay keep what layout left with them, and their sizes
 abbrev pub LeavesUnasked : Views → Views → Edit → Type 0
 LeavesUnasked old new edit =
-    (key : ℕ) → IsLive old key → IsLive new key → excused old edit key ≡ false → (state_of new key ≡ state_of old key) × (cache_of new key ≡ cache_of old key)
+    (key : ℕ) → IsLive old key → IsLive new key → excused old edit key ≡ false
+    → (state_of new key ≡ state_of old key) × (cache_of new key ≡ cache_of old key)

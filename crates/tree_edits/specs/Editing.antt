@@ -1,5 +1,6 @@
 -- The result of an edit on a scene, or why it is refused.
-use Rattle.std.specs.Prelude.{ℕ, ◌+◌, ℤ, Bool, true, false, if◌then◌else◌, List, [], Option, Some, None, Result, Ok, Err, not}
+use Rattle.std.specs.Prelude.{ℕ, ◌+◌, ℤ, Bool, true, false, if◌then◌else◌, List, [], Option, Some, None, Result, Ok}
+use Rattle.std.specs.Prelude.{Err, not}
 use Rattle.view_model.specs.Changes.{facts_after_act}
 use Rattle.view_model.specs.declared.changes.Act.{Act}
 use Rattle.view_model.specs.declared.changes.Act.TheVariants as act
@@ -116,7 +117,8 @@ tree_after_act number act tree =
 
 -- the cycle that a tree would have once an act names views
 abbrev pub cycle_of_act : Forest PlainView → ℕ → Act → Option PlainRefusal
-cycle_of_act tree number act = if names_views act then first_cycle member.View (with_facts number (facts_after_act act) tree) else None
+cycle_of_act tree number act =
+    if names_views act then first_cycle member.View (with_facts number (facts_after_act act) tree) else None
 
 -- the geometry without a view and all below it
 abbrev pub hidden : ℕ → EditScene → List Laid
@@ -124,22 +126,35 @@ hidden number scene = without (numbers_of (part_of number scene.tree)) scene.geo
 
 -- a new view: its facts are the default ones except for its dimensions, and its text is empty
 abbrev pub new_view : ℕ → Class → ℤ → ℤ → PlainView
-new_view number class width height = record { number = number; class = class; facts = new_facts width height; text = [] }
+new_view number class width height =
+    record { number = number; class = class; facts = new_facts width height; text = [] }
 
 -- a view is added under the next number, unless there is a reason against it; it runs as its parent, and has no bounds
 abbrev pub outcome_of_add : EditScene → Option ℕ → Class → ℤ → ℤ → Option PlainRefusal → Outcome
 outcome_of_add scene parent class width height (Some refusal) = Err refusal
 outcome_of_add scene parent class width height None =
-    Ok (record scene { tree = grown_at parent (directed (rtl_at parent scene.tree) (single (new_view scene.next class width height))) scene.tree; next = scene.next + 1 }, Some scene.next)
+    Ok (
+      record scene {
+        tree = grown_at parent
+            (directed (rtl_at parent scene.tree) (single (new_view scene.next class width height))) scene.tree;
+        next =
+            scene.next + 1;
+      },
+      Some scene.next,
+    )
 
 -- a view and all below it are removed, with their bounds
 abbrev pub outcome_of_remove : EditScene → ℕ → Outcome
-outcome_of_remove scene number = Ok (record scene { tree = pruned number scene.tree; geometry = hidden number scene }, None)
+outcome_of_remove scene number =
+    Ok (record scene { tree = pruned number scene.tree; geometry = hidden number scene }, None)
 
 -- the result of an act on a scene
 abbrev pub after_act : EditScene → ℕ → Act → EditScene
 after_act scene number act =
-    record scene { tree = tree_after_act number act scene.tree; geometry = if hides act then hidden number scene else scene.geometry }
+    record scene {
+      tree = tree_after_act number act scene.tree;
+      geometry = if hides act then hidden number scene else scene.geometry;
+    }
 
 -- an act that a view takes is done, unless there would be a cycle
 abbrev pub outcome_unless : EditScene → ℕ → Act → Option PlainRefusal → Outcome
@@ -150,17 +165,20 @@ outcome_unless scene number act (Some refusal) = Err refusal
 abbrev pub outcome_of_act : EditScene → ℕ → Act → Option PlainView → Outcome
 outcome_of_act scene number act None = Ok (scene, None)
 outcome_of_act scene number act (Some view) =
-    if takes view.class act then outcome_unless scene number act (cycle_of_act scene.tree number act) else Err (refusal_numbered wrong_class)
+    if takes view.class act then outcome_unless scene number act (cycle_of_act scene.tree number act)
+    else Err (refusal_numbered wrong_class)
 
 -- a text of a view, by what is found under its number
 abbrev pub outcome_of_text : EditScene → ℕ → List ℕ → Option PlainView → Outcome
 outcome_of_text scene number text None = Ok (scene, None)
 outcome_of_text scene number text (Some view) =
-    if has_text view.class then Ok (record scene { tree = with_text number text scene.tree }, None) else Err (refusal_numbered wrong_class)
+    if has_text view.class then Ok (record scene { tree = with_text number text scene.tree }, None)
+    else Err (refusal_numbered wrong_class)
 
 -- the result of an edit of views that are there on a scene
 abbrev pub outcome_of_edit : EditScene → NumberedEdit → Outcome
-outcome_of_edit scene (Add parent class width height) = outcome_of_add scene parent class width height (refusal_at scene.tree parent)
+outcome_of_edit scene (Add parent class width height) =
+    outcome_of_add scene parent class width height (refusal_at scene.tree parent)
 outcome_of_edit scene (Remove number) = outcome_of_remove scene number
 outcome_of_edit scene (ActOn number act) = outcome_of_act scene number act (view_in scene.tree number)
 outcome_of_edit scene (SetText number text) = outcome_of_text scene number text (view_in scene.tree number)

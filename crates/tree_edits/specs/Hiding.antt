@@ -13,4 +13,6 @@ hidden_at count_of_key held = if count_of_key == 0 then held else gone_one held
 
 -- what is kept under a key, once a view and all below it are taken out, if they are
 abbrev pub held_hiding : Bool → Views → ℕ → ℕ → Held
-held_hiding goes views view key = if goes then hidden_at (count_of_key key (first_tree (part_from view views.tree))) (held_of views key) else held_of views key
+held_hiding goes views view key =
+    if goes then hidden_at (count_of_key key (first_tree (part_from view views.tree))) (held_of views key)
+    else held_of views key

@@ -19,7 +19,8 @@ spread act tree = if turns act then directed_rows false tree else tree
 
 -- the keyed views after an edit; a new view is added under the key `fresh`
 abbrev pub tree_after : Views → Edit → ℕ → Forest Row
-tree_after views (edit.Add parent class width height) fresh = with_child parent (leaf fresh (running_below parent views.tree (new_view views.next class width height))) views.tree
+tree_after views (edit.Add parent class width height) fresh =
+    with_child parent (leaf fresh (running_below parent views.tree (new_view views.next class width height))) views.tree
 tree_after views (edit.Remove view) fresh = pruned_at_key view views.tree
 tree_after views (edit.Act view act) fresh = spread act (changed_at_key view (acted_view act) views.tree)
 tree_after views (edit.Text view text) fresh = changed_at_key view (λ v. record v { text = chars text.now }) views.tree

@@ -18,7 +18,8 @@ row_at picture clip at = edge_at picture.height clip.top clip.bottom at
 -- how many pixels lie between these edges
 abbrev pub area_between : Raster → Rect → ℤ → ℤ → ℤ → ℤ → ℕ
 area_between picture clip left top right bottom =
-    (column_at picture clip right - column_at picture clip left) * (row_at picture clip bottom - row_at picture clip top)
+    (column_at picture clip right - column_at picture clip left)
+    * (row_at picture clip bottom - row_at picture clip top)
 
 -- how many lie in these rows of the clip
 abbrev pub strip_between : Raster → Rect → ℤ → ℤ → ℕ

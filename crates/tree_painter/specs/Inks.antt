@@ -1,5 +1,6 @@
 -- Painters of ink.
-use Rattle.std.specs.Prelude.{ℕ, ◌/◌, ◌%◌, ◌==◌, ℤ, pos, negsuc, Bool, false, ◌&&◌, not, nat_lt, if◌then◌else◌, List, slice_get}
+use Rattle.std.specs.Prelude.{ℕ, ◌/◌, ◌%◌, ◌==◌, ℤ, pos, negsuc, Bool, false, ◌&&◌, not, nat_lt, if◌then◌else◌, List}
+use Rattle.std.specs.Prelude.{slice_get}
 use Rattle.geom_core.specs.Color.{blend_of}
 use Rattle.geom_core.specs.declared.color.Argb.{Argb}
 use Rattle.geom_core.specs.declared.geometry.Size.{Size}

@@ -16,7 +16,8 @@ pub record IsPainted (paint : Painter) (clip : Rect) (old new : Raster) : Type 0
   pub width : new.width ≡ old.width
   pub height : new.height ≡ old.height
   pub colors : (x y : ℕ) → x < old.width → y < old.height
-      → color_at new x y ≡ (if holds clip (pos x) (pos y) then paint (pos x) (pos y) (color_at old x y) else color_at old x y)
+      → color_at new x y
+      ≡ (if holds clip (pos x) (pos y) then paint (pos x) (pos y) (color_at old x y) else color_at old x y)
 
 -- a painter whose coordinates have their origin at this point
 abbrev pub from_origin : ℤ → ℤ → Painter → Painter
@@ -39,7 +40,8 @@ pub record IsCounted (most : ℕ) (old new : Raster) (before after : Work) : Typ
   pub grew : before.painted ≤ after.painted
   pub filled_grew : old.filled ≤ new.filled
   pub bound : after.painted ≤ before.painted + most
-  pub alike : after.painted < 2 ^ 64 - 1 → new.filled < 2 ^ 64 - 1 → after.painted + old.filled ≡ before.painted + new.filled
+  pub alike : after.painted < 2 ^ 64 - 1 → new.filled < 2 ^ 64 - 1
+      → after.painted + old.filled ≡ before.painted + new.filled
   pub measured : after.measured ≡ before.measured
 
 -- what is left to paint of a view was painted: its children, if they are seen anywhere

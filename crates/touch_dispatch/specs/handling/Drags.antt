@@ -1,5 +1,6 @@
 -- How a scroll view follows a pointer, and when that moves its child.
-use Rattle.std.specs.Prelude.{ℕ, ◌==◌, ℤ, pos, negsuc, ◌≤ℤ◌, ◌+ℤ◌, ◌-ℤ◌, int_lt, Bool, true, false, ◌&&◌, ◌||◌, not, if◌then◌else◌, List, Option, Some, None, find}
+use Rattle.std.specs.Prelude.{ℕ, ◌==◌, ℤ, pos, negsuc, ◌≤ℤ◌, ◌+ℤ◌, ◌-ℤ◌, int_lt, Bool, true, false, ◌&&◌, ◌||◌, not}
+use Rattle.std.specs.Prelude.{if◌then◌else◌, List, Option, Some, None, find}
 use Rattle.std.specs.Option.{option_and_then}
 use Rattle.touch_dispatch.specs.reaching.Points.{acting_point, point_of}
 use Rattle.touch_dispatch.specs.declared.handling.drag.Drag.{Drag}
@@ -35,7 +36,8 @@ is_active id drag = is_id id drag.active
 
 -- a pointer goes up; if it was followed, the lowest of the others is
 abbrev pub lifted_drag : Event → Drag → Drag
-lifted_drag event drag = if is_active event.pointer drag then following (other_point event.pointer event.points.items) drag else drag
+lifted_drag event drag =
+    if is_active event.pointer drag then following (other_point event.pointer event.points.items) drag else drag
 
 abbrev pub active_point : Event → Drag → Option Point
 active_point event drag = option_and_then (λ id. point_of id event.points.items) drag.active
@@ -59,7 +61,8 @@ dragging_at p drag = record drag { last = p.y; dragging = true }
 -- a group is asked about a move: only one that can scroll begins a drag
 abbrev pub asked_move : ℤ → ℤ → Option Point → Drag → Drag
 asked_move range slop None drag = drag
-asked_move range slop (Some p) drag = if int_lt (pos 0) range && begins_drag slop drag p then dragging_at p drag else drag
+asked_move range slop (Some p) drag =
+    if int_lt (pos 0) range && begins_drag slop drag p then dragging_at p drag else drag
 
 -- the drag of a scroll view once it was asked about an event
 abbrev pub asked_drag_by : Action → ℤ → ℤ → Event → Drag → Drag
@@ -85,7 +88,9 @@ abbrev pub pulled_at : ℤ → Point → Drag → Pull
 pulled_at slop p drag =
     if drag.dragging
     then record { drag = dragging_at p drag; by = Some (way_up drag p) }
-    else (if is_past slop (way_up drag p) then record { drag = dragging_at p drag; by = Some (beyond_slop slop (way_up drag p)) } else still drag)
+    else
+    (if is_past slop (way_up drag p)
+    then record { drag = dragging_at p drag; by = Some (beyond_slop slop (way_up drag p)) } else still drag)
 
 abbrev pub pulled_to : ℤ → Option Point → Drag → Pull
 pulled_to slop None drag = still drag

@@ -1,5 +1,6 @@
 -- What a view does with an event itself, and what a group is asked about one.
-use Rattle.std.specs.Prelude.{ℕ, ◌==◌, ℤ, pos, ◌+ℤ◌, int_le, Bool, true, false, ◌&&◌, ◌||◌, not, if◌then◌else◌, List, [], ◌∷◌, ◌++◌, Option, Some, None, bit_and, length}
+use Rattle.std.specs.Prelude.{ℕ, ◌==◌, ℤ, pos, ◌+ℤ◌, int_le, Bool, true, false, ◌&&◌, ◌||◌, not, if◌then◌else◌, List}
+use Rattle.std.specs.Prelude.{[], ◌∷◌, ◌++◌, Option, Some, None, bit_and, length}
 use Rattle.touch_dispatch.specs.handling.Drags.{asked_drag, pulled}
 use Rattle.touch_dispatch.specs.gesture.Gestures.{PlainGesture, at_number, set_drag, set_pressed}
 use Rattle.touch_dispatch.specs.reaching.Points.{is_near_first}
@@ -112,7 +113,8 @@ abbrev pub scrolled_to : ℤ → ℕ → Event → Progress → Progress
 scrolled_to offset number event progress =
     if is_same_offset (progress.offsets number) offset
     then progress
-    else noted_with offset number Scroll event true (record progress { offsets = at_number number offset progress.offsets })
+    else noted_with offset number Scroll event true
+    (record progress { offsets = at_number number offset progress.offsets })
 
 abbrev pub offset_after : ℤ → ℤ → ℤ → ℤ
 offset_after range offset way = offset_within range (offset +ℤ way)
@@ -120,7 +122,8 @@ offset_after range offset way = offset_within range (offset +ℤ way)
 -- the child is moved this far up, within its range
 abbrev pub moved_by : Option ℤ → Receiver → Event → Progress → Progress
 moved_by None own event progress = progress
-moved_by (Some way) own event progress = scrolled_to (offset_after own.range (progress.offsets own.number) way) own.number event progress
+moved_by (Some way) own event progress =
+    scrolled_to (offset_after own.range (progress.offsets own.number) way) own.number event progress
 
 abbrev pub drag_answer : Bool → Action → Bool
 drag_answer childless action = not (childless && is_down action)
@@ -131,11 +134,14 @@ drag_handled own event progress =
     let pull = pulled own.slop event (progress.gesture.drags own.number) in
     record {
       yes = said;
-      progress = moved_by pull.by own event (with_gesture (set_drag own.number pull.drag) (noted own.number Touch event said progress));
+      progress =
+          moved_by pull.by own event
+          (with_gesture (set_drag own.number pull.drag) (noted own.number Touch event said progress));
     }
 
 abbrev pub handled : Receiver → Event → Progress → Reached
-handled own event progress = if own.scrolls then drag_handled own event progress else handled_by own.answer own event progress
+handled own event progress =
+    if own.scrolls then drag_handled own event progress else handled_by own.answer own event progress
 
 -- a group is asked whether it takes an event away from its children
 
@@ -160,7 +166,8 @@ looked own event gesture =
 
 -- by its plan, and while it drags
 abbrev pub intercepts : Receiver → Event → PlainGesture → Bool
-intercepts own event gesture = is_planned own.intercept event.action || (own.scrolls && (gesture.drags own.number).dragging)
+intercepts own event gesture =
+    is_planned own.intercept event.action || (own.scrolls && (gesture.drags own.number).dragging)
 
 abbrev pub answered_ask : Receiver → Event → Progress → Reached
 answered_ask own event progress =

@@ -1,10 +1,12 @@
 -- What becomes of an event on its way: at the view that gets it, at the children of that and at its targets.
 use Rattle.std.specs.Prelude.{◌≡◌, ℕ, Bool, List}
 use Rattle.geom_core.specs.Limits.{IsSide}
-use Rattle.touch_dispatch.specs.Dispatch.{Tried, answered, group_reached, hand_out, hand_to, offered, reach, try_child, try_children}
+use Rattle.touch_dispatch.specs.Dispatch.{Tried, answered, group_reached, hand_out, hand_to, offered, reach, try_child}
+use Rattle.touch_dispatch.specs.Dispatch.{try_children}
 use Rattle.touch_dispatch.specs.handling.Handling.{Progress, Reached}
 use Rattle.touch_dispatch.specs.gesture.Kept.{Kept, gesture_of}
-use Rattle.touch_dispatch.specs.reaching.TreeEvents.{child_at, handled_at, kids_of, own_of, own_range, part_at, scene_of, target_of}
+use Rattle.touch_dispatch.specs.reaching.TreeEvents.{child_at, handled_at, kids_of, own_of, own_range, part_at}
+use Rattle.touch_dispatch.specs.reaching.TreeEvents.{scene_of, target_of}
 use Rattle.touch_dispatch.specs.declared.reaching.delivery.Delivery.{Delivery}
 use Rattle.touch_dispatch.specs.declared.reaching.delivery.Shared.{Shared}
 use Rattle.touch_dispatch.specs.declared.handling.receiver.Receiver.{Receiver}
@@ -29,22 +31,26 @@ delivered_own views d progress = handled_at views d.limits.now.slop d.view d.eve
 -- the view is a group
 abbrev pub delivered_group : Views → Delivery → Progress → Reached
 delivered_group views d progress =
-    group_reached (scene_of views d.limits.now.slop) (own_of views d.view) (kids_of views d.limits.now.slop d.view) d.event.now progress
+    group_reached (scene_of views d.limits.now.slop) (own_of views d.view) (kids_of views d.limits.now.slop d.view)
+    d.event.now progress
 
 -- a group offers it to its children, unless it takes it from them
 abbrev pub offered_kids : Views → Delivery → Bool → Progress → Tried
 offered_kids views d intercepted progress =
-    offered (scene_of views d.limits.now.slop) (own_of views d.view) (kids_of views d.limits.now.slop d.view) d.event.now intercepted progress
+    offered (scene_of views d.limits.now.slop) (own_of views d.view) (kids_of views d.limits.now.slop d.view)
+    d.event.now intercepted progress
 
 -- it tries all its children
 abbrev pub tried_kids : Views → Delivery → Progress → Tried
 tried_kids views d progress =
-    try_children (scene_of views d.limits.now.slop) (own_of views d.view) d.event.now (kids_of views d.limits.now.slop d.view) progress
+    try_children (scene_of views d.limits.now.slop) (own_of views d.view) d.event.now
+    (kids_of views d.limits.now.slop d.view) progress
 
 -- it tries the child of a key
 abbrev pub tried_kid : Views → Delivery → ℕ → Progress → Tried
 tried_kid views d kid progress =
-    try_child (scene_of views d.limits.now.slop) (own_of views d.view) d.event.now (child_at views d.limits.now.slop kid) progress
+    try_child (scene_of views d.limits.now.slop) (own_of views d.view) d.event.now
+    (child_at views d.limits.now.slop kid) progress
 
 -- the targets of the view of a key
 abbrev pub own_targets : Views → Kept → ℕ → List Target
@@ -54,16 +60,19 @@ own_targets views kept key = (gesture_of kept).targets (own_of views key).number
 abbrev pub answered_group : Views → Shared → Progress → Reached
 answered_group views s progress =
     answered (scene_of views s.delivery.now.limits.now.slop) (own_of views s.delivery.now.view)
-    (kids_of views s.delivery.now.limits.now.slop s.delivery.now.view) s.delivery.now.event.now s.intercepted s.taker progress
+    (kids_of views s.delivery.now.limits.now.slop s.delivery.now.view) s.delivery.now.event.now s.intercepted s.taker
+    progress
 
 -- each of these targets of a group gets its part; yes if one of them, or one before, says so
 abbrev pub delivered_targets : Views → Shared → List Target → Bool → Progress → Reached
 delivered_targets views s targets said progress =
     hand_out (scene_of views s.delivery.now.limits.now.slop) (own_of views s.delivery.now.view)
-    (kids_of views s.delivery.now.limits.now.slop s.delivery.now.view) s.delivery.now.event.now s.intercepted s.taker targets said progress
+    (kids_of views s.delivery.now.limits.now.slop s.delivery.now.view) s.delivery.now.event.now s.intercepted s.taker
+    targets said progress
 
 -- the target of a child, among these, gets its part
 abbrev pub delivered_target : Views → Shared → ℕ → List Target → Progress → Reached
 delivered_target views s child targets progress =
     hand_to (scene_of views s.delivery.now.limits.now.slop) (own_of views s.delivery.now.view)
-    (kids_of views s.delivery.now.limits.now.slop s.delivery.now.view) s.delivery.now.event.now s.intercepted s.taker (target_of child targets) progress
+    (kids_of views s.delivery.now.limits.now.slop s.delivery.now.view) s.delivery.now.event.now s.intercepted s.taker
+    (target_of child targets) progress

@@ -1,5 +1,6 @@
 -- Where the pointers of an event are, to a group and to its children.
-use Rattle.std.specs.Prelude.{ℕ, ◌==◌, ℤ, pos, ◌+ℤ◌, ◌-ℤ◌, int_lt, int_le, Bool, true, false, ◌&&◌, List, [], ◌∷◌, Option, Some, None, find, map}
+use Rattle.std.specs.Prelude.{ℕ, ◌==◌, ℤ, pos, ◌+ℤ◌, ◌-ℤ◌, int_lt, int_le, Bool, true, false, ◌&&◌, List, [], ◌∷◌}
+use Rattle.std.specs.Prelude.{Option, Some, None, find, map}
 use Rattle.geom_core.specs.Limits.{clamp_coordinate}
 use Rattle.geom_core.specs.declared.geometry.Rect.{Rect}
 use Rattle.touch_event.specs.declared.event.Action.TheVariants.{Cancel}
@@ -35,7 +36,8 @@ local_point rect offset p = record p {
 }
 
 abbrev pub local_event : Option Rect → ℤ → Event → Event
-local_event rect offset event = record event { points = record { items = map (local_point rect offset) event.points.items } }
+local_event rect offset event =
+    record event { points = record { items = map (local_point rect offset) event.points.items } }
 
 abbrev pub is_between : ℤ → ℤ → ℤ → Bool
 is_between low x high = int_le low x && int_lt x high

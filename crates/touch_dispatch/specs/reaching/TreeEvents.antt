@@ -15,7 +15,8 @@ use Rattle.touch_targets.specs.Captures.{Target, first_ids, from_child, is_targe
 use Rattle.view_model.specs.Forest.{Forest, Nothing, Branch}
 use Rattle.view_model.specs.Classes.{scrolls}
 use Rattle.view_model.specs.PlainTree.{PlainView, part_of}
-use Rattle.view_tree.specs.Rows.{Later, Row, ancestors, children_of_first, count_of_key, first_tree, head_view, key_where, part_from, views_of}
+use Rattle.view_tree.specs.Rows.{Later, Row, ancestors, children_of_first, count_of_key, first_tree, head_view}
+use Rattle.view_tree.specs.Rows.{key_where, part_from, views_of}
 use Rattle.view_tree.specs.Views.{Held, IsLive, IsTree, SameTree, Views, held_of, held_or, number_of, state_of}
 
 abbrev pub held_under : Views → Option ℕ → Held
@@ -55,7 +56,8 @@ is_root number (Branch view below after) = (view.number == number) || is_root nu
 -- each target of a group is a child of it
 abbrev pub AreChildren : Forest PlainView → PlainGesture → Type 0
 AreChildren tree gesture =
-    (group child : ℕ) → is_target child (gesture.targets group) ≡ true → is_root child (below_first (part_of group tree)) ≡ true
+    (group child : ℕ) → is_target child (gesture.targets group) ≡ true
+    → is_root child (below_first (part_of group tree)) ≡ true
 
 -- a gesture has a place for each view of a tree, and each target is a child of its group there
 pub record IsGestureIn (tree : Forest Row) (kept : Kept) : Type 0 where
@@ -66,7 +68,8 @@ pub record IsGestureIn (tree : Forest Row) (kept : Kept) : Type 0 where
 abbrev pub own_range : Views → ℕ → ℤ
 own_range views key =
     let own = head_view (part_from key views.tree) in
-    range_for (scrolls own.class) own.facts (state_of views key).bounds (first_place (held_of views) (children_of_first (part_from key views.tree)))
+    range_for (scrolls own.class) own.facts (state_of views key).bounds
+    (first_place (held_of views) (children_of_first (part_from key views.tree)))
 
 -- nothing changes except offsets
 pub record OnlyScrolls (old new : Views) : Type 0 where
@@ -110,7 +113,8 @@ child_at views slop key = record {
 
 -- the view of a key handles an event itself
 abbrev pub handled_at : Views → ℤ → ℕ → Event → Progress → Reached
-handled_at views slop key event progress = handled (receiver (scene_of views slop) (own_of views key) (kids_of views slop key)) event progress
+handled_at views slop key event progress =
+    handled (receiver (scene_of views slop) (own_of views key) (kids_of views slop key)) event progress
 
 -- the target of a child
 abbrev pub target_of : ℕ → List Target → Target
