@@ -4,7 +4,7 @@
 ghost use Rattle.std.specs.Prelude.{◌≡◌, ◌<◌, ◌≤◌, ◌+◌, ℕ, Some, None, OnOk, if◌then◌else◌, nat_eq};
 ghost use Rattle.indexmap.specs.IndexMap.{get as key_of, spare};
 ghost use Rattle.slab.specs.Slab.{HasRoomFor};
-ghost use Rattle.slab_link.specs.declared.link.TheConstants.{LINKS_END};
+ghost use Rattle.slab_link.specs.Numbers.{links_end};
 ghost use Rattle.view_model.specs.Refusals.{IsRefusedExactlyFor};
 
 pub mod ids;
@@ -19,7 +19,7 @@ use slab_link::LINKS_END;
 /// Records the key of a number, for which there is room.
 pub fn note_key(keys: &mut IndexMap<u64, u32>, number: u64, key: usize)
     requires room { 0 < spare keys.old }
-    requires small { key < LINKS_END }
+    requires small { key < links_end }
     ensures noted { (n : ℕ)
         → key_of nat_eq keys.new n ≡ (if nat_eq number n then Some key else key_of nat_eq keys.old n) }
     ensures spare { spare keys.old ≤ spare keys.new + 1 }
@@ -71,7 +71,7 @@ pub fn make_room(
     ensures keys { keys.new.entries ≡ keys.old.entries }
     ensures ids { ids.new.entries ≡ ids.old.entries }
     ensures room { OnOk result (HasRoomFor nodes.new views) }
-    ensures small { OnOk result (nodes.new.capacity ≤ LINKS_END) }
+    ensures small { OnOk result (nodes.new.capacity ≤ links_end) }
     ensures spare { OnOk result ((views ≤ spare keys.new) × (names ≤ spare ids.new)) }
 {
     if nodes.reserve(views).is_err()

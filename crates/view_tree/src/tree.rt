@@ -1,6 +1,6 @@
 //! The tree of views.
 ghost use Rattle.std.specs.Prelude.{◌≡◌, IfSome, ◌≤◌};
-ghost use Rattle.view_model.specs.declared.limits.TheConstants.{MAX_VIEWS};
+ghost use Rattle.view_model.specs.Numbers.{max_views};
 ghost use Rattle.view_model.specs.Forest.{count_of};
 ghost use Rattle.view_tree.specs.Rows.{rest_from, first_key};
 ghost use Rattle.view_tree.specs.Views.{IsLive, IsTree, no_views};
@@ -115,7 +115,7 @@ impl ViewTree {
     /// How many views there are.
     pub fn len(&self) -> usize
         ensures value { result ≡ count_of self.now.tree }
-        ensures few { result ≤ MAX_VIEWS }
+        ensures few { result ≤ max_views }
     {
         self.nodes.len()
     }

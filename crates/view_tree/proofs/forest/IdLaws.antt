@@ -2,7 +2,7 @@
 use Rattle.std.proofs.Common.{◌≡◌, ◌≢◌, ℕ, ◌+◌, ◌^◌, ◌<◌, ◌≤◌, Bool, Option, Some, None, refl, sym, ◌∙◌, ap, arith, inl, inr}
 use Rattle.std.proofs.lemmas.Bool.{cases_Bool}
 use Rattle.std.specs.Prelude.{◌==◌, if◌then◌else◌, IfSome}
-use Rattle.view_model.specs.declared.limits.TheConstants.{MAX_VIEWS}
+use Rattle.view_model.specs.Numbers.{max_views}
 use Rattle.view_model.specs.Forest.{Forest, Nothing, Branch, count_of, sum_of}
 use Rattle.view_model.specs.PlainTree.{PlainView}
 use Rattle.view_tree.specs.declared.table.ids.Holders.{Holders}
@@ -144,7 +144,7 @@ holders_of-put id key change tree live once small =
     count keys (keys_where-none (has_id id) tree) small
 
 -- how a look-up relates to a search
-pub holders_of-few : (id : ℕ) (tree : Forest Row) → count_of tree ≤ MAX_VIEWS → IfSome (holders_of id tree) (λ held. held.count ≤ MAX_VIEWS)
+pub holders_of-few : (id : ℕ) (tree : Forest Row) → count_of tree ≤ max_views → IfSome (holders_of id tree) (λ held. held.count ≤ max_views)
 holders_of-few id tree few =
     let less = count_where-few (has_id id) tree in
     held_few id (count_where (has_id id) tree) (keys_where (has_id id) tree) (omega arith)

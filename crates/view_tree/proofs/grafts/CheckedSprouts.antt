@@ -3,7 +3,7 @@ use Rattle.std.proofs.Common.{◌≡◌, ℕ, suc, ◌+◌, ◌-◌, ◌<◌, �
 use Rattle.std.proofs.lemmas.Bool.{cases_eq}
 use Rattle.std.proofs.lemmas.List.{get_or-replicate, get_or-set_other, get_or-set_same, length-set}
 use Rattle.std.specs.Prelude.{nat_le, replicate, slice_index_or, slice_set}
-use Rattle.view_model.specs.declared.limits.TheConstants.{MAX_DEPTH, MAX_VIEWS}
+use Rattle.view_model.specs.Numbers.{max_depth, max_views}
 use Rattle.view_model.specs.declared.kinds.Class.{Class}
 use Rattle.view_model.specs.declared.kinds.Class.TheVariants as class
 use Rattle.view_model.specs.declared.sprout.Sprout.{Sprout}
@@ -20,18 +20,18 @@ use Rattle.view_tree.proofs.values.KeptLaws.{grows}
 pub record IsLeftToCheck (depth : ℕ) (total : Option PlainRefusal) (before : ℕ) (classes : List Class) (count element : ℕ) (rest : List Sprout) : Type 0 where
   pub path : ℕ → Class
   pub read : (place : ℕ) → place < before → slice_index_or classes place class.View ≡ path place
-  pub shallow : before ≤ MAX_DEPTH
-  pub long : length classes ≡ MAX_DEPTH
+  pub shallow : before ≤ max_depth
+  pub long : length classes ≡ max_depth
   pub follow : follows before rest ≡ true
   pub same : refusal_along depth before path count element rest ≡ total
   pub small : element ≤ count + 2
-  pub few : count ≤ MAX_VIEWS + 1
+  pub few : count ≤ max_views + 1
 
-pub left_start : (depth count : ℕ) (own : Class) (classes : List Class) (sprouts : List Sprout) → classes ≡ replicate MAX_DEPTH own → count ≤ MAX_VIEWS + 1 → follows 1 sprouts ≡ true
+pub left_start : (depth count : ℕ) (own : Class) (classes : List Class) (sprouts : List Sprout) → classes ≡ replicate max_depth own → count ≤ max_views + 1 → follows 1 sprouts ≡ true
     → IsLeftToCheck depth (refusal_along depth 1 (λ _. own) count 2 sprouts) 1 classes count 2 sprouts
 left_start depth count own classes sprouts all few follow = record {
   path = λ _. own;
-  read = λ place less. rw all (get_or-replicate MAX_DEPTH place own class.View (omega arith));
+  read = λ place less. rw all (get_or-replicate max_depth place own class.View (omega arith));
   shallow = omega arith;
   long = ap length all;
   follow = follow;
@@ -57,7 +57,7 @@ module _ (depth : ℕ) (total : Option PlainRefusal) (before : ℕ) (classes : L
 
   -- it may be added
   module _ (taken : at_element element (growth_refusal (slice_index_or classes (sprout.depth - 2) class.View) (nat_le sprout.depth before) (depth + (sprout.depth - 2)) count) ≡ None) where
-    pub low : (depth + (sprout.depth - 2) < MAX_DEPTH) × (count < MAX_VIEWS)
+    pub low : (depth + (sprout.depth - 2) < max_depth) × (count < max_views)
     low = let g = grows (slice_index_or classes (sprout.depth - 2) class.View) (nat_le sprout.depth before) (depth + (sprout.depth - 2)) count (at_none element _ taken) in (g.1, g.2)
 
     pub left_on : (place : ℕ) → place ≡ sprout.depth - 1 → 1 ≤ depth → IsLeftToCheck depth total sprout.depth (slice_set classes place sprout.class) (count + 1) (element + 1) more

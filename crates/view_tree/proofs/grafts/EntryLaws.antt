@@ -4,7 +4,7 @@ use Rattle.std.proofs.lemmas.Bool.{cases_Bool, cases_lt}
 use Rattle.std.proofs.lemmas.List.{append-nil, get_or_append_left, get_or_push}
 use Rattle.std.specs.declared.alloc.Global.{Global}
 use Rattle.std.specs.Prelude.{Vec, Err, Ok, Result, if◌then◌else◌, nat_lt, slice_index, ◌==◌}
-use Rattle.view_model.specs.declared.limits.TheConstants.{MAX_VIEWS}
+use Rattle.view_model.specs.Numbers.{max_views}
 use Rattle.view_model.specs.declared.refusal.Member.{Member}
 use Rattle.view_model.specs.declared.relative.Link.{Link}
 use Rattle.view_model.specs.declared.sprout.Sprout.{Sprout}
@@ -123,7 +123,7 @@ few_then views parent is live =
     let within = count_within f.row f.kids f.siblings f.within in
     omega arith
 
-pub near_then : (views : Views) (parent : ℕ) → IsTree views → IsLive views parent → (p : ℕ) → p < length (numbers_then views parent) → slice_index (numbers_then views parent) p < views.next + MAX_VIEWS
+pub near_then : (views : Views) (parent : ℕ) → IsTree views → IsLive views parent → (p : ℕ) → p < length (numbers_then views parent) → slice_index (numbers_then views parent) p < views.next + max_views
 near_then views parent is live p small =
     let numbers = numbers_in (views_of (children_of_first (part_from parent views.tree))) in
     let size : length (numbers_then views parent) ≡ length numbers + 1 = length-append numbers (views.next ∷ []) in

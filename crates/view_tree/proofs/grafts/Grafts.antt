@@ -3,7 +3,7 @@ use Rattle.std.proofs.Common.{◌≡◌, ℕ, suc, ◌+◌, ◌≤◌, Bool, tru
 use Rattle.std.proofs.lemmas.Bool.{eq-eqb}
 use Rattle.std.specs.Prelude.{IfSome}
 use Rattle.std.specs.Option.{option_map, option_or}
-use Rattle.view_model.specs.declared.limits.TheConstants.{MAX_VIEWS}
+use Rattle.view_model.specs.Numbers.{max_views}
 use Rattle.view_model.specs.declared.kinds.Class.{Class}
 use Rattle.view_model.specs.declared.sprout.Sprout.{Sprout}
 use Rattle.view_model.specs.Directed.{directed}
@@ -43,7 +43,7 @@ or_none : (first later : Option PlainRefusal) → option_or first later ≡ None
 or_none None later is = (refl, is)
 or_none (Some refusal) later is = absurd (cc)
 
-few_below : (class : Class) (occupied : Bool) (depth count element : ℕ) (list : Forest Seed) → refusal_below class occupied depth count element list ≡ None → count ≤ MAX_VIEWS → count + count_of list ≤ MAX_VIEWS
+few_below : (class : Class) (occupied : Bool) (depth count element : ℕ) (list : Forest Seed) → refusal_below class occupied depth count element list ≡ None → count ≤ max_views → count + count_of list ≤ max_views
 few_below class occupied depth count element Nothing taken few = omega arith
 few_below class occupied depth count element (Branch seed kids siblings) taken few =
     let own = first_none element (growth_refusal class occupied depth count) _ taken in
@@ -63,7 +63,7 @@ outer_of views (Some parent) = suc (length (ancestors parent views.tree))
 pub record Taken (views : Views) (parent : Option ℕ) (seed : Seed) (kids : Forest Seed) : Type 0 where
   pub own : refusal_at (plain_of views) (option_map (number_of views) parent) ≡ None
   pub below : refusal_below seed.class false (suc (outer_of views parent)) (suc (count_of views.tree)) 2 kids ≡ None
-  pub few : suc (count_of views.tree) ≤ MAX_VIEWS
+  pub few : suc (count_of views.tree) ≤ max_views
 
 pub taken : (views : Views) (parent : Option ℕ) (sprouts : List Sprout) (shape : Shaped sprouts) → IsTree views → IfSome parent (λ parent. IsLive views parent)
     → (parent ≡ None → views.tree ≡ Nothing) → graft_refusal (plain_of views) (option_map (number_of views) parent) (seeds_of sprouts) ≡ None
@@ -93,7 +93,7 @@ taken views (Some parent) sprouts shape is live empty none =
     }
 
 pub room_for : (views : Views) (parent : Option ℕ) (sprouts : List Sprout) → IsTree views → IfSome parent (λ parent. IsLive views parent) → (parent ≡ None → views.tree ≡ Nothing) → IsPreorder sprouts
-    → graft_refusal (plain_of views) (option_map (number_of views) parent) (seeds_of sprouts) ≡ None → count_of views.tree + length sprouts ≤ MAX_VIEWS
+    → graft_refusal (plain_of views) (option_map (number_of views) parent) (seeds_of sprouts) ≡ None → count_of views.tree + length sprouts ≤ max_views
 room_for views parent sprouts is live empty pre free =
     let shape = shaped sprouts pre in
     let may = taken views parent sprouts shape is live empty free in
@@ -142,7 +142,7 @@ grown_whole old (Some parent) view kids is live number =
 pub record OutermostCame (old mid : Views) (parent : Option ℕ) (key : ℕ) (more sprouts : List Sprout) : Type 0 where
   pub there : IsLive mid key
   pub fits : FitsBelow mid key more
-  pub few : suc (length more) ≤ MAX_VIEWS
+  pub few : suc (length more) ≤ max_views
   pub grafted : (new : Views) → GainedBelow mid key new
       → ((kids : Forest Seed) → preorder 2 kids ≡ more → plain_of new ≡ grown (number_of mid key) (directed (is_rtl_at (Some key) mid.tree) (numbered mid.next kids)) (plain_of mid))
       → new.next ≡ mid.next + length more → Grafted old parent (seeds_of sprouts) key new
@@ -184,7 +184,7 @@ module _ (old mid : Views) (parent : Option ℕ) (key : ℕ) (sprout : Sprout) (
   length_is : length more ≡ count_of shape.kids
   length_is = ap length (sym rest) ∙ length-preorder 2 shape.kids
 
-  few : suc (length more) ≤ MAX_VIEWS
+  few : suc (length more) ≤ max_views
   few = let n = few_below shape.seed.class false (suc (outer_of old parent)) (suc (count_of old.tree)) 2 shape.kids may.below may.few in let l = length_is in omega arith
 
   grafted : (new : Views) → GainedBelow mid key new

@@ -3,7 +3,7 @@ use Rattle.std.proofs.Common.{◌≡◌, ◌≢◌, Bool, ℕ, suc, ◌+◌, ◌
 use Rattle.std.proofs.lemmas.Bool.{cases_eq, cases_lt, le-leb, lt-leb}
 use Rattle.std.proofs.lemmas.List.{get_or-replicate, get_or-set_other, get_or-set_same, length-set}
 use Rattle.std.specs.Prelude.{nat_le, replicate, slice_index_or, slice_set}
-use Rattle.view_model.specs.declared.limits.TheConstants.{MAX_DEPTH}
+use Rattle.view_model.specs.Numbers.{max_depth}
 use Rattle.view_model.specs.declared.kinds.Class.{Class}
 use Rattle.view_model.specs.declared.sprout.Sprout.{Sprout}
 use Rattle.view_model.specs.Directed.{directed, running}
@@ -96,8 +96,8 @@ pub record Sowing (start : Views) (outermost : ℕ) (all : List Sprout) (keys : 
   pub ways : ℕ → Bool
   pub entries : (place : ℕ) → place < before → Entry now (slice_index_or keys place 0) (numbers place) (classes place) (ways place) (length (ancestors outermost start.tree) + place)
   pub occupied : (place : ℕ) → place < before → has_kids (slice_index_or keys place 0) now.tree ≡ nat_le (suc (suc place)) before
-  pub long : length keys ≡ MAX_DEPTH
-  pub shallow : before ≤ MAX_DEPTH
+  pub long : length keys ≡ max_depth
+  pub shallow : before ≤ max_depth
   pub follow : follows before rest ≡ true
   pub sown : sown now.next numbers ways (plain_of now) rest ≡ sown start.next (λ _. number_of start outermost) (λ _. is_rtl_at (Some outermost) start.tree) (plain_of start) all
   pub element : ℕ
@@ -107,11 +107,11 @@ pub record Sowing (start : Views) (outermost : ℕ) (all : List Sprout) (keys : 
   pub gained : Gained start (Some outermost) added now
   pub among : (place : ℕ) → place < before → (slice_index_or keys place 0 ≡ outermost) ⊎ (0 < count_of_key (slice_index_or keys place 0) added)
 
-pub sowing_start : (start : Views) (outermost : ℕ) (all : List Sprout) (keys : List ℕ) → IsLive start outermost → keys ≡ replicate MAX_DEPTH outermost → follows 1 all ≡ true
+pub sowing_start : (start : Views) (outermost : ℕ) (all : List Sprout) (keys : List ℕ) → IsLive start outermost → keys ≡ replicate max_depth outermost → follows 1 all ≡ true
     → FitsBelow start outermost all → Sowing start outermost all keys all start
 sowing_start start outermost all keys live every follow fits =
     let high = length (ancestors outermost start.tree) in
-    let read : (place : ℕ) → place < 1 → slice_index_or keys place 0 ≡ outermost = λ place less. rw every (get_or-replicate MAX_DEPTH place outermost 0 (omega arith)) in
+    let read : (place : ℕ) → place < 1 → slice_index_or keys place 0 ≡ outermost = λ place less. rw every (get_or-replicate max_depth place outermost 0 (omega arith)) in
     let way = is_rtl_at (Some outermost) start.tree in
     let own : Entry start outermost (number_of start outermost) (class_of start outermost) way high = record { live = live; number_is = refl; class_is = refl; way_is = refl; deep = refl } in
     record {
@@ -141,7 +141,7 @@ sowing_start start outermost all keys live every follow fits =
 -- what the next view needs
 pub record IsReadyToSow (keys : List ℕ) (sprout : Sprout) (now : Views) : Type 0 where
   pub deep : 1 < sprout.depth
-  pub shallow : sprout.depth ≤ MAX_DEPTH
+  pub shallow : sprout.depth ≤ max_depth
   pub live : IsLive now (slice_index_or keys (sprout.depth - 2) 0)
   pub taken : refusal_at (plain_of now) (Some (number_of now (slice_index_or keys (sprout.depth - 2) 0))) ≡ None
 
@@ -175,7 +175,7 @@ module _ (start : Views) (outermost : ℕ) (all : List Sprout) (keys : List ℕ)
       let height : suc (length (ancestors parent now.tree)) ≡ suc high + (sprout.depth - 2) = let e = entry.deep in omega arith in
       rw (height, entry.class_is, occupied_here) parts.0
 
-  shallow_here : sprout.depth ≤ MAX_DEPTH
+  shallow_here : sprout.depth ≤ max_depth
   shallow_here =
       let g = grows (so_far.classes (sprout.depth - 2)) (nat_le sprout.depth so_far.before) (suc high + (sprout.depth - 2)) (count_of now.tree) parts.0 in
       let low = g.1 in

@@ -3,7 +3,7 @@ use Rattle.std.proofs.Common.{◌≡◌, ◌≢◌, ℕ, ◌+◌, ◌-◌, ◌%�
 use Rattle.std.proofs.lemmas.Bool.{eq-eqb, ne_eqb, cases_eq, lt-ltb}
 use Rattle.std.proofs.Math.Nat.{add-mod_right, mod-add-mod}
 use Rattle.std.specs.Prelude.{◌==◌, if◌then◌else◌, nat_lt, IfSome}
-use Rattle.view_model.specs.declared.limits.TheConstants.{MAX_VIEWS}
+use Rattle.view_model.specs.Numbers.{max_views}
 use Rattle.view_tree.specs.declared.table.ids.Holders.{Holders}
 use Rattle.view_tree.proofs.forest.Forests.{some_is}
 use Rattle.view_tree.specs.table.Holders.{dropped, holders, noted, renamed, with_holder, without_holder}
@@ -107,7 +107,7 @@ pub renamed_same : (held : Option Holders) (old new key id : ℕ) → new ≡ ol
 renamed_same held old new key id same = rw (eq-eqb new old same)
 
 -- an id has no more views than there are
-pub held_few : (id n sum : ℕ) → n ≤ MAX_VIEWS → IfSome (held_for id n sum) (λ held. held.count ≤ MAX_VIEWS)
+pub held_few : (id n sum : ℕ) → n ≤ max_views → IfSome (held_for id n sum) (λ held. held.count ≤ max_views)
 held_few id n sum few = elim (cases_eq id 0) [
   | inl z ↦ rw (eq-eqb id 0 z) tt
   | inr ne ↦ rw (ne_eqb id 0 ne) (elim (cases_eq n 0) [

@@ -5,7 +5,7 @@ use Rattle.std.specs.Prelude.{◌==◌, IfSome, if◌then◌else◌, map, nat_eq
 use Rattle.std.specs.Option.{option_map}
 use Rattle.indexmap.specs.IndexMap.{get as get_key}
 use Rattle.slab.specs.Slab.{Slab, get, slab_len, ContainsKey}
-use Rattle.slab_link.specs.declared.link.TheConstants.{LINKS_END}
+use Rattle.slab_link.specs.Numbers.{links_end}
 use Rattle.view_model.specs.Direction.{dir}
 use Rattle.view_model.specs.Forest.{Forest, Nothing, count_of}
 use Rattle.view_model.specs.Growth.{refusal_at}
@@ -32,7 +32,7 @@ use Rattle.view_tree.proofs.forest.SearchLaws.{search_new}
 -- the parent of a new view is there, and so is its last child
 -- a link may name a parent
 pub parent_linked : (a : Inside) (v : Views) (parent : Option ℕ) → IsPlanted a → value_of a ≡ v → IfSome parent (λ parent. IsLive v parent)
-    → IfSome parent (λ parent. parent < LINKS_END)
+    → IfSome parent (λ parent. parent < links_end)
 parent_linked a v None sound e live = live
 parent_linked a v (Some k) sound e live = link_for a v sound e k live
 
@@ -100,7 +100,7 @@ module _ (a b : Inside) (nodes : b.nodes ≡ record a.nodes { capacity = b.nodes
     full = ap slab_len nodes ∙ sound.full ∙ ap count_of (sym tree-room);
     found = λ n. rw keys (sound.found n) ∙ ap (key_where (λ (w : PlainView). w.number == n)) (sym tree-room);
     named = λ id. rw ids (sound.named id) ∙ ap (holders_of id) (sym tree-room);
-    small = subst (λ (t : Forest Row). (k : ℕ) → 0 < count_of_key k t → k < LINKS_END) (sym tree-room) sound.small;
+    small = subst (λ (t : Forest Row). (k : ℕ) → 0 < count_of_key k t → k < links_end) (sym tree-room) sound.small;
   }
 
 -- how the fields have changed
@@ -113,7 +113,7 @@ module _ (a b : Inside) (v : Views) (parent : Option ℕ) (key : ℕ) (view : Pl
     (runs : view.facts.rtl ≡ dir (is_rtl_at parent v.tree) view.facts.direction)
     (len : slab_len b.nodes ≡ slab_len a.nodes + 1)
     (listed : (n : ℕ) → get_key nat_eq b.keys n ≡ (if nat_eq view.number n then Some key else get_key nat_eq a.keys n))
-    (ids : (id : ℕ) → get_key nat_eq b.ids id ≡ noted (get_key nat_eq a.ids id) view.facts.id key id) (fits : key < LINKS_END) where
+    (ids : (id : ℕ) → get_key nat_eq b.ids id ≡ noted (get_key nat_eq a.ids id) view.facts.id key id) (fits : key < links_end) where
   represents-attach : RepresentsTree (links_at b.nodes) b.root b.next (with_child parent (leaf key view) v.tree)
   represents-attach =
       rw (root, next)

@@ -3,7 +3,7 @@ use Rattle.std.proofs.Common.{◌≡◌, arith, ℕ, ◌<◌, ◌^◌, zero, suc
 use Rattle.std.specs.Prelude.{slice_index_or, IfSome, nat_eq}
 use Rattle.indexmap.specs.IndexMap.{get as get_key}
 use Rattle.slab.specs.Slab.{get, ContainsKey}
-use Rattle.slab_link.specs.declared.link.TheConstants.{LINKS_END}
+use Rattle.slab_link.specs.Numbers.{links_end}
 use Rattle.view_model.specs.Forest.{Forest}
 use Rattle.view_model.specs.PlainTree.{PlainView}
 use Rattle.view_tree.specs.Rows.{Row, head_view, part_from, children_of_first, later_siblings, first_key, last_key, previous_key}
@@ -66,8 +66,8 @@ is_tree a v sound e = subst IsTree e sound.kept
 pub named_for : (a : Inside) (v : Views) → IsPlanted a → value_of a ≡ v → (id : ℕ) → get_key nat_eq a.ids id ≡ holders_of id v.tree
 named_for a v sound e id = sound.named id ∙ ap (λ (v : Views). holders_of id v.tree) e
 
-pub link_for : (a : Inside) (v : Views) → IsPlanted a → value_of a ≡ v → (key : ℕ) → IsLive v key → key < LINKS_END
-link_for a v sound e = subst (λ (v : Views). (key : ℕ) → IsLive v key → key < LINKS_END) e sound.small
+pub link_for : (a : Inside) (v : Views) → IsPlanted a → value_of a ≡ v → (key : ℕ) → IsLive v key → key < links_end
+link_for a v sound e = subst (λ (v : Views). (key : ℕ) → IsLive v key → key < links_end) e sound.small
 
 pub small_for : (a : Inside) (v : Views) → IsPlanted a → value_of a ≡ v → (key : ℕ) → IsLive v key → key < 2 ^ 64
 small_for a v sound e key live = omega (arith, link_for a v sound e key live)

@@ -6,7 +6,7 @@ use Rattle.std.proofs.lemmas.Grind.{common_steps}
 use Rattle.std.specs.Prelude.{◌==◌, count_by, is_some, nat_eq, pos, slice_index_or}
 use Rattle.indexmap.specs.IndexMap.{get as get_key}
 use Rattle.slab.specs.Slab.{get, with_value, Updates}
-use Rattle.slab_link.specs.declared.link.TheConstants.{LINKS_END}
+use Rattle.slab_link.specs.Numbers.{links_end}
 use Rattle.slab.proofs.SlabLemmas.{Updates-with_value}
 use Rattle.view_model.specs.Forest.{Forest, count_of}
 use Rattle.view_model.specs.PlainTree.{PlainView}
@@ -82,7 +82,7 @@ module _ (a : Inside) (k : ℕ) (n m : Node) (at : get a.nodes k ≡ Some n) (sa
     full = len_write a.nodes.slots k m (rw at) ∙ sound.full ∙ ap count_of (sym tree-write);
     found = λ number. sound.found number ∙ ap (key_where (λ (view : PlainView). view.number == number)) (sym tree-write);
     named = λ id. sound.named id ∙ ap (holders_of id) (sym tree-write);
-    small = subst (λ (t : Forest Row). (key : ℕ) → 0 < count_of_key key t → key < LINKS_END) (sym tree-write) sound.small;
+    small = subst (λ (t : Forest Row). (key : ℕ) → 0 < count_of_key key t → key < links_end) (sym tree-write) sound.small;
   }
 
   -- and what is kept of relative layouts

@@ -2,7 +2,7 @@
 use Rattle.std.proofs.Common.{◌≡◌, ◌≢◌, ℕ, suc, ◌<◌, ◌≤◌, Bool, Option, Some, None, refl, sym, ◌∙◌, ap, subst, arith}
 use Rattle.std.specs.Prelude.{option_map}
 use Rattle.slab.specs.Slab.{ContainsKey, Slab, get}
-use Rattle.view_model.specs.declared.limits.TheConstants.{MAX_VIEWS}
+use Rattle.view_model.specs.Numbers.{max_views}
 use Rattle.view_model.specs.Direction.{dir}
 use Rattle.view_model.specs.Forest.{Forest, Nothing, Branch, count_of}
 use Rattle.view_tree.specs.node.Nodes.{PlainNode, RepresentsPart, forest, links_at, links_for, links_in}
@@ -92,10 +92,10 @@ module _ (nodes : Slab Node) (view : ℕ) (is : IsPart (links_at nodes) view (pa
   pub kids_fewer : count_of kids < count_of (first_tree (part_at nodes view))
   kids_fewer = rw at.is (omega arith)
 
-  kids_few : count_of kids ≤ MAX_VIEWS
+  kids_few : count_of kids ≤ max_views
   kids_few =
-      let few : count_of (Branch at.row at.kids at.siblings) ≤ MAX_VIEWS = subst (λ part. count_of part ≤ MAX_VIEWS) at.is is.few in
-      subst (λ list. count_of list ≤ MAX_VIEWS) (sym kids_is) (omega arith)
+      let few : count_of (Branch at.row at.kids at.siblings) ≤ max_views = subst (λ part. count_of part ≤ max_views) at.is is.few in
+      subst (λ list. count_of list ≤ max_views) (sym kids_is) (omega arith)
 
   directed_at : AreDirected at.row.view.facts.rtl kids
   directed_at = subst (AreDirected at.row.view.facts.rtl) (sym kids_is) (subst RunsBelow at.is is.below)
@@ -154,14 +154,14 @@ module _ (nodes : Slab Node) (view : ℕ) (is : IsPart (links_at nodes) view (pa
     rest_within : Within w.rest kids
     rest_within = until_within w.done
 
-    rest_few : count_of w.rest ≤ MAX_VIEWS
+    rest_few : count_of w.rest ≤ max_views
     rest_few = let few = count-within rest_within in let all = kids_few in omega arith
 
     kid_part : part_at now kid ≡ w.rest
     kid_part =
         let few = rest_few in
-        ap (forest (suc MAX_VIEWS) (links_at now)) (sym w.first)
-        ∙ forest_is (suc MAX_VIEWS) (links_at now) (Some view) w.before w.rest w.represented (omega arith)
+        ap (forest (suc max_views) (links_at now)) (sym w.first)
+        ∙ forest_is (suc max_views) (links_at now) (Some view) w.before w.rest w.represented (omega arith)
 
     rest_directed : {rest list : Forest Row} (above : Bool) → TurnedUntil (get nodes) (get now) rtl rest list → AreDirected above list → AreDirected above rest
     rest_directed above At_rest are = are

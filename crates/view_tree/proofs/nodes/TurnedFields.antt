@@ -5,7 +5,7 @@ use Rattle.std.proofs.lemmas.Bool.{cases_eq}
 use Rattle.std.specs.Prelude.{◌==◌, if◌then◌else◌, count_by, is_some, slice_index_or}
 use Rattle.slab.specs.Slab.{Slab, Updates, get, slab_len, with_value}
 use Rattle.slab.proofs.SlabLemmas.{Updates-with_value}
-use Rattle.view_model.specs.declared.limits.TheConstants.{MAX_VIEWS}
+use Rattle.view_model.specs.Numbers.{max_views}
 use Rattle.view_model.specs.declared.facts.Facts.{Facts}
 use Rattle.view_model.specs.declared.placing.Direction.{Direction}
 use Rattle.view_model.specs.Directed.{directed, with_direction as plain_with_direction}
@@ -85,7 +85,7 @@ module _ (a : Inside) (v : Views) (view : ℕ) (direction : Direction) (n : Node
       let own : RunsBelow (part_with direction (Branch f.row f.kids f.siblings)) = directed-within f.row f.kids f.siblings false f.within is.directed in
       subst RunsBelow (sym part_is) (subst (λ part. RunsBelow (part_with direction part)) (sym f.is) own)
 
-  few_first : count_of first_tree_of ≤ MAX_VIEWS
+  few_first : count_of first_tree_of ≤ max_views
   few_first = rw (count-alike (alike_put view direction v.tree)) is.few
 
   first_part : IsPart (links_at first_nodes) view part
@@ -109,8 +109,8 @@ module _ (a : Inside) (v : Views) (view : ℕ) (direction : Direction) (n : Node
   part_same =
       let p = first_part in
       let few = p.few in
-      ap (forest (suc MAX_VIEWS) (links_at first_nodes)) (sym p.first)
-      ∙ forest_is (suc MAX_VIEWS) (links_at first_nodes) p.parent p.before part p.represented (omega arith)
+      ap (forest (suc max_views) (links_at first_nodes)) (sym p.first)
+      ∙ forest_is (suc max_views) (links_at first_nodes) p.parent p.before part p.represented (omega arith)
 
   -- what a turn wants
   pub can_turn : IsPart (links_at first_nodes) view (part_at first_nodes view)

@@ -8,7 +8,7 @@ use Rattle.relative_layout.specs.declared.ordering.OrderFault.TheVariants as ord
 use Rattle.relative_layout.specs.ordering.Sorting.{IsFaultOf}
 use Rattle.std.specs.Prelude.{Vec, Bool, false, ◌==◌, if◌then◌else◌, option_map, slice_index, IfSome, Ok, Err}
 use Rattle.relative_layout.specs.declared.ordering.Orders.{Orders}
-use Rattle.view_model.specs.declared.limits.TheConstants.{MAX_VIEWS}
+use Rattle.view_model.specs.Numbers.{max_views}
 use Rattle.view_model.specs.declared.fault.Fault.{Fault}
 use Rattle.view_model.specs.declared.fault.Fault.TheVariants as fault
 use Rattle.view_model.specs.declared.refusal.Member.{Member}
@@ -370,7 +370,7 @@ views-count Nothing = refl
 views-count (Branch row kids siblings) = rw (views-count kids, views-count siblings)
 
 -- how many children there are to put in order
-pub few_links : (views : Views) (parent number : ℕ) (link : Link) → IsTree views → IsLive views parent → length (links_below views parent number link) ≤ MAX_VIEWS
+pub few_links : (views : Views) (parent number : ℕ) (link : Link) → IsTree views → IsLive views parent → length (links_below views parent number link) ≤ max_views
 few_links views parent number link is live =
     let f = located parent views.tree live in
     let kids = views_of (children_of_first (part_from parent views.tree)) in

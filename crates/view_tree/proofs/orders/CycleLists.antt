@@ -5,7 +5,7 @@ use Rattle.std.specs.Prelude.{Vec, slice_index, Err}
 use Rattle.relative_layout.specs.declared.ordering.OrderFault.TheVariants as order
 use Rattle.relative_layout.specs.ordering.Sorting.{IsFaultOf}
 use Rattle.view_model.specs.declared.refusal.Member.{Member}
-use Rattle.view_model.specs.declared.refusals.TheConstants.{CYCLE}
+use Rattle.view_model.specs.Numbers.{cycle}
 use Rattle.view_model.specs.declared.relative.Axis.{Axis}
 use Rattle.view_model.specs.declared.relative.Axis.TheVariants.{Horizontal, Vertical}
 use Rattle.view_model.specs.declared.relative.Link.{Link}
@@ -28,21 +28,21 @@ module _ (name : ℕ → Member) (links : List Link) (numbers : List ℕ) where
   none_of free = rw (none_on Horizontal false free.across) (none_on Vertical true free.down)
 
   reported_with : (down : Bool) (members : List ℕ) → 0 < length members
-      → cycle_with name down (map (slice_index numbers) members) ≡ Some (record { number = CYCLE; reason = Cycle down (map name (map (slice_index numbers) members)) })
+      → cycle_with name down (map (slice_index numbers) members) ≡ Some (record { number = cycle; reason = Cycle down (map name (map (slice_index numbers) members)) })
   reported_with down [] some = absurd (omega arith)
   reported_with down (first ∷ members) some = refl
 
   -- an axis with cycles has their members to report
   reported_on : (axis : Axis) (down : Bool) (members : List ℕ) → IsCycle (leads axis links) (length links) members
       → cycle_with name down (map (slice_index numbers) (members_of (leads axis links) (length links)))
-      ≡ Some (record { number = CYCLE; reason = Cycle down (map name (map (slice_index numbers) members)) })
-  reported_on axis down members cycle =
+      ≡ Some (record { number = cycle; reason = Cycle down (map name (map (slice_index numbers) members)) })
+  reported_on axis down members is =
       ap (λ (members : List ℕ). cycle_with name down (map (slice_index numbers) members))
-      (sym (members_are (leads axis links) (length links) (leads_inside axis links) members cycle.exact))
-      ∙ reported_with down members cycle.some
+      (sym (members_are (leads axis links) (length links) (leads_inside axis links) members is.exact))
+      ∙ reported_with down members is.some
 
   pub reported_of : (down : Bool) (members : List ℕ) → AreCyclic links down members
-      → cycle_of name links numbers ≡ Some (record { number = CYCLE; reason = Cycle down (map name (map (slice_index numbers) members)) })
+      → cycle_of name links numbers ≡ Some (record { number = cycle; reason = Cycle down (map name (map (slice_index numbers) members)) })
   reported_of false members cyclic = rw (reported_on Horizontal false members cyclic) refl
   reported_of true members cyclic = rw (none_on Horizontal false cyclic.0) (reported_on Vertical true members cyclic.1)
 
@@ -59,6 +59,6 @@ module _ (name : ℕ → Member) (links : List Link) (numbers : List ℕ) where
       → IsReportedFrom (λ place. name (slice_index numbers place)) down members.items fault → IsGroupOrCycle name links numbers (Err fault)
   reported_is down members (fault.Refused refusal) is reported =
       reported_of down members.items (cyclic_of down members is)
-      ∙ ap (λ (members : List Member). let refusal : PlainRefusal = record { number = CYCLE; reason = Cycle down members } in Some refusal) (sym (map_twice members.items))
+      ∙ ap (λ (members : List Member). let refusal : PlainRefusal = record { number = cycle; reason = Cycle down members } in Some refusal) (sym (map_twice members.items))
       ∙ ap (λ (refusal : PlainRefusal). Some refusal) (sym reported)
   reported_is down members fault.NoMemory is reported = tt

@@ -5,7 +5,7 @@ use Rattle.std.specs.Option.{option_or}
 use Rattle.std.specs.Prelude.{slice_index}
 use Rattle.view_model.specs.declared.kinds.Class.{Class}
 use Rattle.view_model.specs.declared.refusal.Member.{Member}
-use Rattle.view_model.specs.declared.refusals.TheConstants.{CYCLE}
+use Rattle.view_model.specs.Numbers.{cycle}
 use Rattle.view_model.specs.Classes.{is_relative}
 use Rattle.view_model.specs.Cycles.{cycle_among, cycle_below, first_cycle, links_in, numbers_in}
 use Rattle.view_model.specs.Forest.{Forest, Nothing, Branch, EveryBranch}
@@ -20,14 +20,14 @@ module _ (name : ℕ → Member) (kids : Forest PlainView) where
   none_among free = none_of name (links_in kids) (numbers_in kids) free
 
   pub reported_among : (down : Bool) (members : List ℕ) → AreCyclic (links_in kids) down members
-      → cycle_among name kids ≡ Some (record { number = CYCLE; reason = Cycle down (map name (map (slice_index (numbers_in kids)) members)) })
+      → cycle_among name kids ≡ Some (record { number = cycle; reason = Cycle down (map name (map (slice_index (numbers_in kids)) members)) })
   reported_among down members cyclic = reported_of name (links_in kids) (numbers_in kids) down members cyclic
 
   -- the same by the places of the members
   pub reported_is : (refusal : PlainRefusal) → IsCycleReported (λ place. name (slice_index (numbers_in kids) place)) (links_in kids) refusal → cycle_among name kids ≡ Some refusal
   reported_is refusal reported =
       reported_among reported.down reported.members reported.cyclic
-      ∙ ap (λ (members : List Member). let refusal : PlainRefusal = record { number = CYCLE; reason = Cycle reported.down members } in Some refusal) (sym (map_twice name (links_in kids) (numbers_in kids) reported.members))
+      ∙ ap (λ (members : List Member). let refusal : PlainRefusal = record { number = cycle; reason = Cycle reported.down members } in Some refusal) (sym (map_twice name (links_in kids) (numbers_in kids) reported.members))
       ∙ ap (λ (refusal : PlainRefusal). Some refusal) (sym reported.reported)
 
 none_below : (name : ℕ → Member) (class : Class) (kids : Forest PlainView) → (is_relative class ≡ true → IsFree (links_in kids)) → cycle_below name class kids ≡ None

@@ -4,7 +4,7 @@ use Rattle.std.proofs.lemmas.Bool.{cases_Bool, cases_lt, eq-eqb, eqb-true}
 use Rattle.std.specs.Prelude.{MatchOption, slice_get, ◌==◌, ◌^◌, IfSome, option_map, nat_eq, replicate}
 use Rattle.std.specs.Map.{lookup}
 use Rattle.std.specs.Option.{unwrap_or}
-use Rattle.view_model.specs.declared.limits.TheConstants.{MAX_VIEWS}
+use Rattle.view_model.specs.Numbers.{max_views}
 use Rattle.view_model.specs.Forest.{Forest, Nothing, Branch, EveryBranch, EveryRow, changed_where, count_of, joined}
 use Rattle.view_model.specs.Growth.{grown_at}
 use Rattle.view_model.specs.Orders.{IsOrder}
@@ -130,7 +130,7 @@ count_within row kids siblings (in_below w) = let less = count_within row kids s
 count_within row kids siblings (in_after w) = let less = count_within row kids siblings w in omega arith
 
 pub few_kids : (views : Views) (key : ℕ) (group : Option PlainGroup) → IsTree views → IsLive views key
-    → IsKeptOf (plain_rows (held_of views) (children_of_first (part_from key views.tree))) group → IfSome group (λ group. length group.kids ≤ MAX_VIEWS)
+    → IsKeptOf (plain_rows (held_of views) (children_of_first (part_from key views.tree))) group → IfSome group (λ group. length group.kids ≤ max_views)
 few_kids views key None is live kept = absurd kept
 few_kids views key (Some group) is live kept =
     let f = located key views.tree live in
@@ -311,7 +311,7 @@ pub nothing_grouped : (groups : Groups) (held : ℕ → Held) (tree : Forest Row
 nothing_grouped groups held tree is = subst (λ (t : Forest Row). IsGrouped groups (plain_rows held t)) (sym is) tt
 
 -- the group of a parent is not too large for its places
-fewer : (group : Option PlainGroup) → IfSome group (λ group. length group.kids ≤ MAX_VIEWS) → IfSome group (λ group. length group.kids < 2 ^ 32)
+fewer : (group : Option PlainGroup) → IfSome group (λ group. length group.kids ≤ max_views) → IfSome group (λ group. length group.kids < 2 ^ 32)
 fewer None few = tt
 fewer (Some group) few = omega arith
 
@@ -320,7 +320,7 @@ pub few_at : (groups : Groups) (views : Views) (parent : Option ℕ) → IsTree 
 few_at groups views None is live grouped k reported = absurd (cc)
 few_at groups views (Some parent) is live grouped k reported =
     let own = group_number-is views parent k reported in
-    fewer (groups k) (subst (λ n. IfSome (groups n) (λ group. length group.kids ≤ MAX_VIEWS)) own.1
+    fewer (groups k) (subst (λ n. IfSome (groups n) (λ group. length group.kids ≤ max_views)) own.1
     (few_kids views parent (groups (number_of views parent)) is live (group_there groups views parent live grouped own.0)))
 
 -- the child at a place

@@ -3,14 +3,13 @@ use Rattle.std.proofs.Common.{◌≡◌, ℕ, suc, ◌+◌, ◌<◌, ◌≤◌, 
 use Rattle.std.proofs.lemmas.Bool.{eq-eqb, ne_eqb, cases_eq, cases_Bool, ltb-true, not-false, true≢false}
 use Rattle.std.specs.Prelude.{◌==◌, ◌&&◌, if◌then◌else◌, IfSome, nat_lt, not}
 use Rattle.std.specs.Option.{option_map}
-use Rattle.view_model.specs.declared.limits.TheConstants.{MAX_DEPTH, MAX_VIEWS}
+use Rattle.view_model.specs.Numbers.{max_depth, max_views, not_group, scroll_full, too_deep, too_many_views}
 use Rattle.view_model.specs.declared.kinds.Class.{Class}
 use Rattle.view_model.specs.Direction.{dir}
 use Rattle.view_model.specs.Forest.{Forest, Nothing, Branch, count_of, edited_where, joined, or_else}
 use Rattle.view_model.specs.Classes.{is_group, takes_one_child}
 use Rattle.view_model.specs.Growth.{growth_refusal, growth_refusal_of, refusal_at}
 use Rattle.view_model.specs.Refusals.{PlainRefusal, refusal_numbered}
-use Rattle.view_model.specs.declared.refusals.TheConstants.{NOT_GROUP, SCROLL_FULL, TOO_DEEP, TOO_MANY_VIEWS}
 use Rattle.view_model.specs.PlainTree.{PlainView, depth_of, has_child}
 use Rattle.view_tree.specs.tree.Directions.{is_rtl_at}
 use Rattle.view_tree.specs.Rows.{Row, later_siblings, ancestors, around, children_of_first, pruned_at_key, part_from, grown_at_key, has_kids, head_view, leaf, changed_at_key, count_of_key, count_of_number, with_child}
@@ -182,21 +181,21 @@ is_tree-put old new key change is number class offset runs tree next = is_tree-s
 -- a parent that takes a child
 pub record Grows (views : Views) (parent : ℕ) : Type 0 where
   pub group : is_group (head_view (part_from parent views.tree)).class ≡ true
-  pub high : suc (length (ancestors parent views.tree)) < MAX_DEPTH
-  pub room : count_of views.tree < MAX_VIEWS
+  pub high : suc (length (ancestors parent views.tree)) < max_depth
+  pub room : count_of views.tree < max_views
 
 passed : (test : Bool) (refusal : PlainRefusal) (later : Option PlainRefusal) → (if test then Some refusal else later) ≡ None → (test ≡ false) × (later ≡ None)
 passed true refusal later none = absurd (cc)
 passed false refusal later none = (refl, none)
 
-pub grows : (class : Class) (occupied : Bool) (depth count : ℕ) → growth_refusal class occupied depth count ≡ None → (is_group class ≡ true) × (depth < MAX_DEPTH) × (count < MAX_VIEWS)
+pub grows : (class : Class) (occupied : Bool) (depth count : ℕ) → growth_refusal class occupied depth count ≡ None → (is_group class ≡ true) × (depth < max_depth) × (count < max_views)
 unfolding growth_refusal
 grows class occupied depth count none =
-    let group = passed (not (is_group class)) (refusal_numbered NOT_GROUP) _ none in
-    let vacant = passed (takes_one_child class && occupied) (refusal_numbered SCROLL_FULL) _ group.1 in
-    let high = passed (not (nat_lt depth MAX_DEPTH)) (refusal_numbered TOO_DEEP) _ vacant.1 in
-    let room = passed (not (nat_lt count MAX_VIEWS)) (refusal_numbered TOO_MANY_VIEWS) None high.1 in
-    (not-false (is_group class) group.0, ltb-true depth MAX_DEPTH (not-false _ high.0), ltb-true count MAX_VIEWS (not-false _ room.0))
+    let group = passed (not (is_group class)) (refusal_numbered not_group) _ none in
+    let vacant = passed (takes_one_child class && occupied) (refusal_numbered scroll_full) _ group.1 in
+    let high = passed (not (nat_lt depth max_depth)) (refusal_numbered too_deep) _ vacant.1 in
+    let room = passed (not (nat_lt count max_views)) (refusal_numbered too_many_views) None high.1 in
+    (not-false (is_group class) group.0, ltb-true depth max_depth (not-false _ high.0), ltb-true count max_views (not-false _ room.0))
 
 -- why a live parent takes no child
 pub refusal_live : (views : Views) (parent : ℕ) → IsTree views → IsLive views parent

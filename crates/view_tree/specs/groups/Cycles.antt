@@ -2,7 +2,7 @@
 use Rattle.std.specs.Prelude.{◌≡◌, ℕ, Bool, true, false, List, length, map, slice_index, Option, Some, None, Result, Ok, Err}
 use Rattle.view_model.specs.declared.refusal.Member.{Member}
 use Rattle.view_model.specs.declared.refusal.Member.TheVariants as member
-use Rattle.view_model.specs.declared.refusals.TheConstants.{CYCLE}
+use Rattle.view_model.specs.Numbers.{cycle}
 use Rattle.view_model.specs.declared.relative.Axis.TheVariants.{Horizontal, Vertical}
 use Rattle.view_model.specs.declared.relative.Link.{Link}
 use Rattle.view_model.specs.Forest.{Forest, EveryBranch}
@@ -34,7 +34,7 @@ pub record IsCycleReported (name : ℕ → Member) (links : List Link) (refusal 
   pub down : Bool
   pub members : List ℕ
   pub cyclic : AreCyclic links down members
-  pub reported : refusal ≡ record { number = CYCLE; reason = Cycle down (map name members) }
+  pub reported : refusal ≡ record { number = cycle; reason = Cycle down (map name members) }
 
 -- a child that is a view, by its place
 abbrev pub view_member : Forest PlainView → ℕ → Member
@@ -46,7 +46,7 @@ HasNoCycle tree = EveryBranch (λ (view : PlainView) (kids : Forest PlainView). 
 
 -- the result reports a cycle with these members, unless memory runs out
 abbrev pub IsReportedFrom : (ℕ → Member) → Bool → List ℕ → Fault → Type 0
-IsReportedFrom name down members (fault.Refused refusal) = plain_refusal refusal ≡ record { number = CYCLE; reason = Cycle down (map name members) }
+IsReportedFrom name down members (fault.Refused refusal) = plain_refusal refusal ≡ record { number = cycle; reason = Cycle down (map name members) }
 IsReportedFrom name down members fault.NoMemory = Unit {0}
 
 -- the children of a view, as rules read them, once the one of a number is another

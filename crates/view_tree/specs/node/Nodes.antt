@@ -3,7 +3,7 @@ use Rattle.std.specs.declared.hash.BuildHasherDefault.{BuildHasherDefault}
 use Rattle.std.specs.declared.hash.FoldHasher.{FoldHasher}
 use Rattle.std.specs.Prelude.{ℕ, zero, suc, ◌≡◌, ◌<◌, ◌≤◌, ◌==◌, nat_eq, map, Bool, false, [], Option, Some, None, if◌then◌else◌, option_map, ◌⊎◌}
 use Rattle.slab.specs.Slab.{Slab, get, slab_len}
-use Rattle.slab_link.specs.declared.link.TheConstants.{LINKS_END}
+use Rattle.slab_link.specs.Numbers.{links_end}
 use Rattle.indexmap.specs.IndexMap.{IndexMap, get as get_key, hasher_of}
 use Rattle.indexmap.specs.Layout.{hash_map}
 use Rattle.view_model.specs.Forest.{Forest, Nothing, Branch, count_of}
@@ -181,7 +181,7 @@ pub record IsPlanted (inside : Inside) : Type 0 where
   pub full : slab_len inside.nodes ≡ count_of (tree_of inside)
   pub found : (number : ℕ) → get_key nat_eq inside.keys number ≡ key_where (λ view. view.number == number) (tree_of inside)
   pub named : (id : ℕ) → get_key nat_eq inside.ids id ≡ holders_of id (tree_of inside)
-  pub small : (key : ℕ) → 0 < count_of_key key (tree_of inside) → key < LINKS_END
+  pub small : (key : ℕ) → 0 < count_of_key key (tree_of inside) → key < links_end
 
 -- and what is kept of each relative layout is right, and nothing else is kept
 pub record IsSoundTree (inside : Inside) : Type 0 where

@@ -1,7 +1,7 @@
 -- How the nodes of a tree turn with their parents.
 use Rattle.std.specs.Prelude.{◌≡◌, ℕ, suc, ◌≤◌, Bool, true, if◌then◌else◌, not, [], Option, Some, option_map}
 use Rattle.slab.specs.Slab.{Slab}
-use Rattle.view_model.specs.declared.limits.TheConstants.{MAX_VIEWS}
+use Rattle.view_model.specs.Numbers.{max_views}
 use Rattle.view_model.specs.Direction.{dir}
 use Rattle.view_model.specs.Forest.{Forest, Nothing, Branch, count_of}
 use Rattle.view_tree.specs.node.Nodes.{PlainNode, RepresentsPart, forest, links_at}
@@ -30,7 +30,7 @@ HaveTurned old new above (Branch row kids siblings) =
 
 -- the trees from a view on, as the nodes have them
 abbrev pub part_at : Slab Node → ℕ → Forest Row
-part_at nodes view = forest (suc MAX_VIEWS) (links_at nodes) (Some view)
+part_at nodes view = forest (suc max_views) (links_at nodes) (Some view)
 
 -- what is below the first view of a list runs as that makes it
 abbrev pub RunsBelow : Forest Row → Type 0
@@ -44,5 +44,5 @@ pub record IsPart (at : ℕ → Option PlainNode) (view : ℕ) (part : Forest Ro
   pub represented : RepresentsPart at parent before part
   pub first : first_key part ≡ Some view
   pub once : (key : ℕ) → count_of_key key part ≤ 1
-  pub few : count_of part ≤ MAX_VIEWS
+  pub few : count_of part ≤ max_views
   pub below : RunsBelow part

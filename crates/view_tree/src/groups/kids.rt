@@ -1,7 +1,7 @@
 //! Children of a relative layout that are to be put in order.
 ghost use Rattle.std.specs.Prelude.{◌≡◌, ◌<◌, ◌≤◌, ◌+◌, ◌++◌, ◌∷◌, [], ℕ, IfOk, OnOk, length, map, slice_index};
 ghost use Rattle.view_model.specs.Cycles.{member_from};
-ghost use Rattle.view_model.specs.declared.limits.TheConstants.{MAX_VIEWS};
+ghost use Rattle.view_model.specs.Numbers.{max_views};
 ghost use Rattle.view_tree.specs.groups.Cycles.{IsReportedFrom};
 ghost use Rattle.view_tree.specs.groups.Latest.{AreRising};
 ghost use Rattle.view_tree.specs.tree.Grafting.{IsGroupOrCycle};
@@ -48,10 +48,10 @@ impl Kids {
 
 /// What is kept of children, or a cycle among them: those with numbers from this one on are reported as elements.
 pub fn group_of(alloc: Global, kids: Kids, next: u64) -> Result<Group, AttachFault>
-    requires few { length kids.links.items ≤ MAX_VIEWS }
+    requires few { length kids.links.items ≤ max_views }
     requires alike { length kids.numbers.items ≡ length kids.links.items }
     requires rising { AreRising kids.numbers.items }
-    requires near { (p : ℕ) → p < length kids.numbers.items → slice_index kids.numbers.items p < next + MAX_VIEWS }
+    requires near { (p : ℕ) → p < length kids.numbers.items → slice_index kids.numbers.items p < next + max_views }
     ensures { IsGroupOrCycle (member_from next) kids.links.items kids.numbers.items result }
 {
     match order(alloc, &kids.links) {
@@ -77,7 +77,7 @@ pub fn group_of(alloc: Global, kids: Kids, next: u64) -> Result<Group, AttachFau
 /// The refusal for a cycle with members at these places.
 fn reported(alloc: Global, next: u64, numbers: &[u64], down: bool, places: &[u32]) -> AttachFault
     requires inside { (p : ℕ) → p < length places.now → slice_index places.now p < length numbers.now }
-    requires near { (p : ℕ) → p < length numbers.now → slice_index numbers.now p < next + MAX_VIEWS }
+    requires near { (p : ℕ) → p < length numbers.now → slice_index numbers.now p < next + max_views }
     ensures { IsReportedFrom (λ place. member_from next (slice_index numbers.now place)) down places.now result }
 {
     match members_at(alloc, next, numbers, places) {
@@ -97,7 +97,7 @@ fn members_at(
     places: &[u32],
 ) -> Result<Vec<Member>, AllocError>
     requires inside { (p : ℕ) → p < length places.now → slice_index places.now p < length numbers.now }
-    requires near { (p : ℕ) → p < length numbers.now → slice_index numbers.now p < next + MAX_VIEWS }
+    requires near { (p : ℕ) → p < length numbers.now → slice_index numbers.now p < next + max_views }
     ensures { IfOk result (λ members. members.items
         ≡ map (λ place. member_from next (slice_index numbers.now place)) places.now) }
 {
@@ -110,7 +110,7 @@ fn members_at(
 
 /// A view with a number from `next` on comes with a sapling, and is reported as an element of it.
 fn member_from(next: u64, number: u64) -> Member
-    requires { number < next + MAX_VIEWS }
+    requires { number < next + max_views }
     ensures { result ≡ member_from next number }
 {
     if number < next {

@@ -1,7 +1,7 @@
 //! How nodes join and leave their neighbours. A key that is `None` means that there is no such neighbour.
 ghost use Rattle.std.specs.Prelude.{◌≡◌, ◌≢◌, ◌<◌, ◌≤◌, ◌+◌, ℕ, Some, None, IfSome};
 ghost use Rattle.slab.specs.Slab.{get, slab_len, ContainsKey, HasRoomFor};
-ghost use Rattle.slab_link.specs.declared.link.TheConstants.{LINKS_END};
+ghost use Rattle.slab_link.specs.Numbers.{links_end};
 ghost use Rattle.view_model.specs.Sprouts.{seed_of, view_of};
 ghost use Rattle.view_tree.specs.node.Nodes.{PlainNode, IsAround, changed_at, held_in, linked, replaced_if_none, key_or, last_child, links_at, unlinked};
 ghost use Rattle.view_tree.specs.Views.{fresh_held};
@@ -47,7 +47,7 @@ fn set_previous(nodes: &mut Slab<Node>, key: Option<usize>, previous: Link)
 /// A child is added after the others.
 fn set_last(nodes: &mut Slab<Node>, parent: Option<usize>, kid: usize)
     requires there { (k : ℕ) → parent ≡ Some k → ContainsKey nodes.old k }
-    requires small { kid < LINKS_END }
+    requires small { kid < links_end }
     ensures links { (x : ℕ)
         → links_at nodes.new x ≡ changed_at (links_at nodes.old) parent
         (λ node. record node { first = key_or node.first kid; last = Some kid }) x }
@@ -107,12 +107,12 @@ pub fn link_last(
     sprout: Sprout,
 ) -> usize
     requires room { HasRoomFor nodes.old 1 }
-    requires small { nodes.old.capacity ≤ LINKS_END }
-    requires linked { IfSome parent (λ k. k < LINKS_END) }
+    requires small { nodes.old.capacity ≤ links_end }
+    requires linked { IfSome parent (λ k. k < links_end) }
     requires parent { (k : ℕ) → parent ≡ Some k → ContainsKey nodes.old k }
     requires last { (k : ℕ) → last_child (links_at nodes.old) parent ≡ Some k → ContainsKey nodes.old k }
     ensures unused { get nodes.old result ≡ None }
-    ensures small { result < LINKS_END }
+    ensures small { result < links_end }
     ensures links { (x : ℕ)
         → links_at nodes.new x ≡ linked (links_at nodes.old) parent result (view_of number (seed_of sprout))
         (last_child (links_at nodes.old) parent) x }

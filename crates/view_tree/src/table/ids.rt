@@ -4,7 +4,7 @@
 //! and the sum is the key where one view has the id. Of several views the first is found by a walk.
 ghost use Rattle.std.specs.Prelude.{◌≡◌, ◌≢◌, ◌≤◌, ◌<◌, ◌+◌, ℕ, Some, None, IfSome, IsOk, OnErr, OnOk, nat_eq};
 ghost use Rattle.indexmap.specs.IndexMap.{get as holders_at, spare};
-ghost use Rattle.view_model.specs.declared.limits.TheConstants.{MAX_VIEWS};
+ghost use Rattle.view_model.specs.Numbers.{max_views};
 ghost use Rattle.view_model.specs.Refusals.{IsRefusedExactlyFor};
 ghost use Rattle.view_tree.specs.table.Holders.{dropped, noted, renamed, with_holder, without_holder};
 
@@ -20,7 +20,7 @@ pub struct Holders {
 
 /// These views and the one of a key.
 fn one_more(held: Option<Holders>, key: usize) -> Holders
-    requires { IfSome held (λ holders. holders.count ≤ MAX_VIEWS) }
+    requires { IfSome held (λ holders. holders.count ≤ max_views) }
     ensures { result ≡ with_holder held key }
 {
     match held {
@@ -47,7 +47,7 @@ fn one_less(holders: Holders, key: usize) -> Option<Holders>
 
 /// Records that the view of this key has an id; 0 names nothing and has no entry.
 pub fn note_id(ids: &mut IndexMap<u32, Holders>, id: u32, key: usize) -> Result<(), AttachFault>
-    requires { IfSome (holders_at nat_eq ids.old id) (λ holders. holders.count ≤ MAX_VIEWS) }
+    requires { IfSome (holders_at nat_eq ids.old id) (λ holders. holders.count ≤ max_views) }
     ensures refused { IsRefusedExactlyFor None result }
     ensures noted { OnOk result ((i : ℕ) → holders_at nat_eq ids.new i ≡ noted (holders_at nat_eq ids.old i) id key i) }
     ensures unchanged { OnErr result (ids.new.entries ≡ ids.old.entries) }
@@ -92,7 +92,7 @@ pub fn rename(
     old: u32,
     new: u32,
 ) -> Result<(), AttachFault>
-    requires { IfSome (holders_at nat_eq ids.old new) (λ holders. holders.count ≤ MAX_VIEWS) }
+    requires { IfSome (holders_at nat_eq ids.old new) (λ holders. holders.count ≤ max_views) }
     ensures refused { IsRefusedExactlyFor None result }
     ensures renamed { OnOk result ((i : ℕ)
         → holders_at nat_eq ids.new i ≡ renamed (holders_at nat_eq ids.old i) old new key i) }

@@ -1,7 +1,7 @@
 //! Views that are added to a tree.
 ghost use Rattle.std.specs.Prelude.{◌≡◌, ◌≢◌, ◌+◌, ◌<◌, ℕ, length, replicate, None, Some, IfOk, IfSome, OnErr, OnOk};
 ghost use Rattle.std.specs.Option.{option_map};
-ghost use Rattle.view_model.specs.declared.limits.TheConstants.{NUMBERS_END};
+ghost use Rattle.view_model.specs.Numbers.{max_depth, numbers_end};
 ghost use Rattle.view_model.specs.Forest.{Nothing};
 ghost use Rattle.view_model.specs.Growth.{growth_refusal, refusal_at};
 ghost use Rattle.view_model.specs.PlainTree.{PlainView};
@@ -33,7 +33,7 @@ impl ViewTree {
         requires live { IfSome parent (λ parent. IsLive self.old parent) }
         requires root { parent ≡ None → self.old.tree ≡ Nothing }
         requires unnamed { (facts.id ≡ 0) × (facts.rules.values ≡ replicate 21 0) }
-        requires numbers { self.old.next < NUMBERS_END }
+        requires numbers { self.old.next < numbers_end }
         ensures attached { let view : PlainView =
             record { number = self.old.next; class = class; facts = facts; text = text } in
             IfOk result (λ key. Attached self.old parent (running_below parent self.old.tree view) key self.new) }
@@ -97,7 +97,7 @@ impl ViewTree {
     /// How deep a view is: 1 for the root.
     pub fn depth(&self, view: Key) -> usize
         requires live { IsLive self.now view }
-        requires shallow { length (ancestors view self.now.tree) < MAX_DEPTH }
+        requires shallow { length (ancestors view self.now.tree) < max_depth }
         ensures { result ≡ length (ancestors view self.now.tree) + 1 }
     {
         let mut depth = 1;

@@ -4,7 +4,7 @@ ghost use Rattle.std.specs.Option.{option_map};
 ghost use Rattle.std.specs.Vec.Iter.{into_iter_items};
 ghost use Rattle.indexmap.specs.IndexMap.{spare};
 ghost use Rattle.slab.specs.Slab.{ContainsKey, HasRoomFor, slab_len};
-ghost use Rattle.slab_link.specs.declared.link.TheConstants.{LINKS_END};
+ghost use Rattle.slab_link.specs.Numbers.{links_end};
 ghost use Rattle.view_model.specs.Directed.{directed};
 ghost use Rattle.view_model.specs.Direction.{dir};
 ghost use Rattle.view_model.specs.Forest.{Forest, Nothing};
@@ -45,7 +45,7 @@ impl Bed<'_> {
     pub fn plant(&mut self, parent: Option<Key>, sprout: Sprout) -> Key
         requires sound { IsPlanted (fields_of self.old) }
         requires room { HasRoomFor self.old.nodes.now 1 }
-        requires small { self.old.nodes.now.capacity ≤ LINKS_END }
+        requires small { self.old.nodes.now.capacity ≤ links_end }
         requires spare { 0 < spare self.old.keys.now }
         requires named { sprout.facts.id ≢ 0 → 0 < spare self.old.ids.now }
         requires live { IfSome parent (λ parent. IsLive (represented self.old) parent) }
@@ -82,7 +82,7 @@ impl Bed<'_> {
     pub fn sow(&mut self, outermost: Key, sprouts: IntoIter<Sprout>)
         requires sound { IsPlanted (fields_of self.old) }
         requires room { HasRoomFor self.old.nodes.now (length (into_iter_items sprouts)) }
-        requires small { self.old.nodes.now.capacity ≤ LINKS_END }
+        requires small { self.old.nodes.now.capacity ≤ links_end }
         requires spare { (length (into_iter_items sprouts) ≤ spare self.old.keys.now)
             × (length (into_iter_items sprouts) ≤ spare self.old.ids.now) }
         requires live { IsLive (represented self.old) outermost }

@@ -1,7 +1,7 @@
 //! Saplings that are added to a tree.
 ghost use Rattle.std.specs.Prelude.{◌≡◌, ◌≢◌, ◌≤◌, ◌+◌, ◌<◌, ◌∷◌, [], ℕ, true, false, length, None, Some, IfOk, IfSome, OnErr};
 ghost use Rattle.std.specs.Option.{option_map};
-ghost use Rattle.view_model.specs.declared.limits.TheConstants.{MAX_DEPTH, MAX_VIEWS, NUMBERS_END};
+ghost use Rattle.view_model.specs.Numbers.{max_depth, max_views, numbers_end};
 ghost use Rattle.view_model.specs.Cycles.{graft_cycle, member_from};
 ghost use Rattle.view_model.specs.Forest.{Forest, Nothing, count_of};
 ghost use Rattle.view_model.specs.Grafts.{at_element, graft_refusal, refusal_below};
@@ -33,7 +33,7 @@ impl ViewTree {
     pub fn graft(&mut self, parent: Option<Key>, sapling: Sapling) -> Result<Key, AttachFault>
         requires live { IfSome parent (λ parent. IsLive self.old parent) }
         requires root { parent ≡ None → self.old.tree ≡ Nothing }
-        requires numbers { self.old.next < NUMBERS_END }
+        requires numbers { self.old.next < numbers_end }
         ensures grafted { IfOk result (λ key. Grafted self.old parent (seeds_of sapling.sprouts.items) key self.new) }
         ensures orders { (k : ℕ)
             → group_number self.old parent ≢ Some k
@@ -43,7 +43,7 @@ impl ViewTree {
             (seeds_of sapling.sprouts.items))
             (graft_cycle (plain_of self.old) (option_map (number_of self.old) parent) self.old.next
             (seeds_of sapling.sprouts.items)) result }
-        ensures few { self.new.next ≤ self.old.next + MAX_VIEWS }
+        ensures few { self.new.next ≤ self.old.next + max_views }
         ensures unchanged { OnErr result (self.new ≡ self.old) }
         ensures counts { self.new.counts ≡ self.old.counts }
     {
@@ -81,8 +81,8 @@ impl ViewTree {
     ) -> Result<Vec<(u64, Group)>, AttachFault>
         requires live { IfSome parent (λ parent. IsLive self.now parent) }
         requires some { 0 < length sprouts.now }
-        requires few { count_of self.now.tree + length sprouts.now ≤ MAX_VIEWS }
-        requires numbers { self.now.next < NUMBERS_END }
+        requires few { count_of self.now.tree + length sprouts.now ≤ max_views }
+        requires numbers { self.now.next < numbers_end }
         ensures { IsMadeUnless (entries_cycle self.now parent sprouts.now)
             (λ entries. AreGrafted self.now parent sprouts.now entries.items) result }
     {
@@ -99,8 +99,8 @@ impl ViewTree {
         sprout: &Sprout,
     ) -> Result<Vec<(u64, Group)>, AttachFault>
         requires live { IfSome parent (λ parent. IsLive self.now parent) }
-        requires few { count_of self.now.tree < MAX_VIEWS }
-        requires numbers { self.now.next < NUMBERS_END }
+        requires few { count_of self.now.tree < max_views }
+        requires numbers { self.now.next < numbers_end }
         ensures { IsMadeUnless (parent_cycle self.now parent sprout.now)
             (λ entries. IsParentEntry self.now parent sprout.now entries.items) result }
     {
@@ -121,8 +121,8 @@ impl ViewTree {
     fn group_then(&self, parent: Key, link: Link) -> Result<Group, AttachFault>
         requires live { IsLive self.now parent }
         requires relative { is_relative (class_of self.now parent) ≡ true }
-        requires few { count_of self.now.tree < MAX_VIEWS }
-        requires numbers { self.now.next < NUMBERS_END }
+        requires few { count_of self.now.tree < max_views }
+        requires numbers { self.now.next < numbers_end }
         ensures { IsGroupOrCycle (member_from self.now.next) (links_then self.now parent link)
             (numbers_then self.now parent) result }
     {
@@ -183,8 +183,8 @@ fn one_entry(alloc: Global, number: u64, group: Group) -> Result<Vec<(u64, Group
 /// a sprout has a child if the sprout before it is as deep, or deeper.
 fn growth_below(class: Class, depth: usize, count: usize, sprouts: &[Sprout]) -> Result<(), Refusal>
     requires follow { follows 1 sprouts.now ≡ true }
-    requires depth { (1 ≤ depth) × (depth ≤ MAX_DEPTH) }
-    requires count { count ≤ MAX_VIEWS + 1 }
+    requires depth { (1 ≤ depth) × (depth ≤ max_depth) }
+    requires count { count ≤ max_views + 1 }
     ensures { (kids : Forest Seed)
         → preorder 2 kids ≡ sprouts.now
         → RefusesExactlyFor (refusal_below class false depth count 2 kids) result }

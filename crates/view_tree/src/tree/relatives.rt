@@ -4,7 +4,7 @@
 //! before those of the file; then each relative layout of the file in preorder, the horizontal axis first.
 ghost use Rattle.std.specs.Prelude.{◌≡◌, ◌<◌, ◌≤◌, ◌+◌, ◌^◌, ◌++◌, ◌∷◌, [], None, suc, length, IfOk};
 ghost use Rattle.view_model.specs.Cycles.{member_from};
-ghost use Rattle.view_model.specs.declared.limits.TheConstants.{MAX_VIEWS};
+ghost use Rattle.view_model.specs.Numbers.{max_views};
 ghost use Rattle.view_tree.specs.tree.Grafting.{AreEntries, HasAdded, IsFollowing, IsGroupOrCycle, IsMadeUnless, cycle_after, cycle_in, links_following, numbers_following, sprout_link};
 
 use crate::fault::AttachFault;
@@ -59,8 +59,8 @@ fn group_after(
     number: u64,
     sprouts: &[Sprout],
 ) -> Result<Group, AttachFault>
-    requires few { number + 1 + length sprouts.now ≤ next + MAX_VIEWS }
-    requires numbers { next + MAX_VIEWS < 2 ^ 64 }
+    requires few { number + 1 + length sprouts.now ≤ next + max_views }
+    requires numbers { next + max_views < 2 ^ 64 }
     requires late { next ≤ number }
     ensures { IsGroupOrCycle (member_from next) (links_following depth (suc number) sprouts.now)
         (numbers_following depth (suc number) sprouts.now) result }
@@ -79,8 +79,8 @@ fn add_entry(
     sprout: &Sprout,
     more: &[Sprout],
 ) -> Result<(), AttachFault>
-    requires few { number + 1 + length more.now ≤ next + MAX_VIEWS }
-    requires numbers { next + MAX_VIEWS < 2 ^ 64 }
+    requires few { number + 1 + length more.now ≤ next + max_views }
+    requires numbers { next + max_views < 2 ^ 64 }
     requires late { next ≤ number }
     ensures { IsMadeUnless (cycle_after (member_from next) number sprout.now more.now)
         (λ _. HasAdded entries.old.items entries.new.items (IsFollowing number sprout.now more.now)) result }
@@ -114,8 +114,8 @@ pub fn with_entries(
     next: u64,
     sprouts: &[Sprout],
 ) -> Result<Vec<(u64, Group)>, AttachFault>
-    requires few { length sprouts.now ≤ MAX_VIEWS }
-    requires numbers { next + MAX_VIEWS < 2 ^ 64 }
+    requires few { length sprouts.now ≤ max_views }
+    requires numbers { next + max_views < 2 ^ 64 }
     ensures { IsMadeUnless (cycle_in (member_from next) next sprouts.now)
         (λ all. HasAdded entries.items all.items (AreEntries next sprouts.now)) result }
 {

@@ -3,7 +3,7 @@ use Rattle.std.specs.Option.{option_map, option_or}
 use Rattle.std.specs.Prelude.{Vec, Err, ℕ}
 use Rattle.std.specs.Vec.Iter.{into_iter_items}
 use Rattle.std.specs.declared.alloc.Global.{Global}
-use Rattle.view_model.specs.declared.limits.TheConstants.{MAX_VIEWS}
+use Rattle.view_model.specs.Numbers.{max_views}
 use Rattle.view_model.specs.declared.sprout.Sprout.{Sprout}
 use Rattle.view_model.specs.Cycles.{graft_cycle}
 use Rattle.view_model.specs.Forest.{count_of}
@@ -83,7 +83,7 @@ entries-requires-clause-few c =
     let v = c.args.self.now in
     let free : graft_refusal (plain_of v) (option_map (number_of v) c.args.parent) (seeds_of c.args.sapling.sprouts.items) ≡ None =
     ap (λ list. graft_refusal (plain_of v) (option_map (number_of v) c.args.parent) (seeds_of list)) (sym c.deref.ensures.value) ∙ c.in_ok-may_take.ensures in
-    subst (λ (sprouts : List Sprout). count_of v.tree + length sprouts ≤ MAX_VIEWS) (sym c.deref-2.ensures.value)
+    subst (λ (sprouts : List Sprout). count_of v.tree + length sprouts ≤ max_views) (sym c.deref-2.ensures.value)
     (room_for v c.args.parent c.args.sapling.sprouts.items (is_tree c.self.inside v c.self.invariant.planted c.self.view_is) c.requires.live c.requires.root c.args.sapling.preorder free)
 
 pub returns-in-Err-clause-refused : goal.returns-in-Err-clause-refused

@@ -1,7 +1,7 @@
 use Rattle.std.proofs.Common.{◌≡◌, ap, arith, length, subst, suc, sym}
 use Rattle.std.specs.Prelude.{List, ℕ, slice_index, ◌+◌}
 use Rattle.view_model.specs.Cycles.{member_from}
-use Rattle.view_model.specs.declared.limits.TheConstants.{MAX_VIEWS}
+use Rattle.view_model.specs.Numbers.{max_views}
 use Rattle.view_model.specs.declared.relative.Link.{Link}
 use Rattle.view_tree.specs.groups.Latest.{AreRising}
 use Rattle.view_tree.specs.tree.Grafting.{IsGroupOrCycle, links_following, numbers_following, sprout_link}
@@ -27,7 +27,7 @@ pub group_of-requires-clause-near : goal.group_of-requires-clause-near
 group_of-requires-clause-near c = λ p small.
     let numbers = ap length c.in-Ok.ensures.numbers in
     let all = c.requires.few in
-    let near = following-near (c.args.next + MAX_VIEWS) c.args.depth (c.args.number + 1) c.args.sprouts.now (omega arith) p (omega arith) in
+    let near = following-near (c.args.next + max_views) c.args.depth (c.args.number + 1) c.args.sprouts.now (omega arith) p (omega arith) in
     let same = ap (λ (numbers : List ℕ). slice_index numbers p) c.in-Ok.ensures.numbers in
     omega arith
 
