@@ -7,7 +7,7 @@ ghost use Rattle.relative_layout.specs.ordering.Sorting.{IsFaultOf, IsLongest, I
 ghost use Rattle.view_model.specs.declared.relative.Axis.TheVariants.{Horizontal, Vertical};
 ghost use Rattle.view_model.specs.Orders.{AreMembers, IsAcyclic, IsOrder};
 ghost use Rattle.view_model.specs.SiblingRules.{last_with_id, leads};
-ghost use Rattle.view_model.specs.declared.limits.TheConstants.{MAX_VIEWS};
+ghost use Rattle.view_model.specs.Numbers.{max_views};
 
 pub mod components;
 pub mod ids;
@@ -50,7 +50,7 @@ enum Sorting {
 
 /// The orders of a relative layout's children.
 pub fn order(alloc: Global, kids: &[Link]) -> Result<Orders, OrderFault>
-    requires few { length kids.now ≤ MAX_VIEWS }
+    requires few { length kids.now ≤ max_views }
     ensures across { IfOk result (λ orders. IsOrder (leads Horizontal kids.now) (length kids.now) orders.across.items) }
     ensures down { IfOk result (λ orders. IsOrder (leads Vertical kids.now) (length kids.now) orders.down.items) }
     ensures acyclic_across { IfOk result (λ orders. IsAcyclic (leads Horizontal kids.now)) }
@@ -65,7 +65,7 @@ pub fn order(alloc: Global, kids: &[Link]) -> Result<Orders, OrderFault>
 
 /// The same, by the last child with each id.
 fn order_by(alloc: Global, kids: &[Link], lasts: &IndexMap<u32, u32>) -> Result<Orders, OrderFault>
-    requires few { length kids.now ≤ MAX_VIEWS }
+    requires few { length kids.now ≤ max_views }
     requires table { (id : ℕ) → place_in nat_eq lasts.now id ≡ last_with_id kids.now id }
     ensures across { IfOk result (λ orders. IsOrder (leads Horizontal kids.now) (length kids.now) orders.across.items) }
     ensures down { IfOk result (λ orders. IsOrder (leads Vertical kids.now) (length kids.now) orders.down.items) }
@@ -101,7 +101,7 @@ fn sorted_on(
     kids: &[Link],
     lasts: &IndexMap<u32, u32>,
 ) -> Result<Sorting, AllocError>
-    requires few { length kids.now ≤ MAX_VIEWS }
+    requires few { length kids.now ≤ max_views }
     requires table { (id : ℕ) → place_in nat_eq lasts.now id ≡ last_with_id kids.now id }
     ensures { IfOk result (λ sorting. IsSorting axis kids.now sorting) }
 {
@@ -114,7 +114,7 @@ fn sorted_on(
 
 /// The same for any children.
 fn sorted_by_names(alloc: Global, axis: Axis, kids: &[Link]) -> Result<Sorting, AllocError>
-    requires few { length kids.now ≤ MAX_VIEWS }
+    requires few { length kids.now ≤ max_views }
     ensures { IfOk result (λ sorting. IsSorting axis kids.now sorting) }
 {
     let naming = Naming::new(alloc, axis, kids)?;
@@ -123,7 +123,7 @@ fn sorted_by_names(alloc: Global, axis: Axis, kids: &[Link]) -> Result<Sorting, 
 
 /// The same, by which children name which ids.
 fn sorted_with(alloc: Global, kids: &[Link], naming: &Naming) -> Result<Sorting, AllocError>
-    requires few { length kids.now ≤ MAX_VIEWS }
+    requires few { length kids.now ≤ max_views }
     requires naming { IsNaming kids.now naming.now }
     ensures { IfOk result (λ sorting. IsSorting naming.now.axis kids.now sorting) }
 {
@@ -137,7 +137,7 @@ fn sorted_with(alloc: Global, kids: &[Link], naming: &Naming) -> Result<Sorting,
 
 /// The children in order, as many as can be taken.
 fn longest_order(alloc: Global, kids: &[Link], naming: &Naming) -> Result<Vec<u32>, AllocError>
-    requires few { length kids.now ≤ MAX_VIEWS }
+    requires few { length kids.now ≤ max_views }
     requires naming { IsNaming kids.now naming.now }
     ensures { IfOk result (λ order. IsLongest (leads naming.now.axis kids.now) (length kids.now) order.items) }
 {
@@ -149,7 +149,7 @@ fn longest_order(alloc: Global, kids: &[Link], naming: &Naming) -> Result<Vec<u3
 
 /// The children that reach themselves, in list order.
 fn members(alloc: Global, kids: &[Link], naming: &Naming) -> Result<Vec<u32>, AllocError>
-    requires few { length kids.now ≤ MAX_VIEWS }
+    requires few { length kids.now ≤ max_views }
     requires naming { IsNaming kids.now naming.now }
     ensures { IfOk result (λ members. AreMembers (leads naming.now.axis kids.now) (length kids.now) members.items) }
 {
@@ -163,7 +163,7 @@ fn members(alloc: Global, kids: &[Link], naming: &Naming) -> Result<Vec<u32>, Al
 
 /// Appends a child if it is marked.
 fn note_member(members: &mut Vec<u32>, marks: &[bool], place: usize) -> Result<(), AllocError>
-    requires few { place < MAX_VIEWS }
+    requires few { place < max_views }
     requires place { place < length marks.now }
     ensures { OnOk result (members.new.items ≡ members_with marks.now place members.old.items) }
 {

@@ -8,7 +8,7 @@ use Rattle.std.proofs.Math.ListN.{length-set}
 use Rattle.relative_layout.specs.ordering.Naming.{id_at}
 use Rattle.relative_layout.proofs.orders.NamingLaws.{last_is, none_is}
 use Rattle.std.specs.Prelude.{IfSome, replicate}
-use Rattle.view_model.specs.declared.limits.TheConstants.{MAX_VIEWS}
+use Rattle.view_model.specs.Numbers.{max_views}
 use Rattle.std.proofs.lemmas.List.{get_or-replicate, get_or_past, length-replicate}
 use Rattle.relative_layout.specs.ordering.Topological.{AreCounts, CountsBelow, count_below, counted_up, has_more, is_left, is_marked, left_with, waits_for}
 use Rattle.view_model.specs.declared.relative.Link.{Link}
@@ -325,8 +325,8 @@ AreCounts-all kids taken left none counts = record {
 
 -- a child is counted by the last one with its id
 
-pub last_few : (kids : List Link) (place : ℕ) (last : Option ℕ) (left : List ℕ) → place < length kids → length kids ≤ MAX_VIEWS → last ≡ last_with_id kids (id_at kids place) → CountsBelow kids place left
-    → IfSome last (λ q. get_or left q 0 < MAX_VIEWS)
+pub last_few : (kids : List Link) (place : ℕ) (last : Option ℕ) (left : List ℕ) → place < length kids → length kids ≤ max_views → last ≡ last_with_id kids (id_at kids place) → CountsBelow kids place left
+    → IfSome last (λ q. get_or left q 0 < max_views)
 last_few kids place None left h few e counts = tt
 last_few kids place (Some q) left h few e counts = omega (arith, few_below kids place q left (sym e) counts)
 

@@ -11,7 +11,7 @@ use Rattle.view_model.specs.declared.relative.Axis.TheVariants.{Horizontal, Vert
 use Rattle.view_model.specs.declared.relative.Tie.{Tie}
 use Rattle.view_model.specs.declared.relative.Tie.TheVariants.{Before, After, AlignNear, AlignFar}
 use Rattle.view_model.specs.declared.relative.Link.{Link}
-use Rattle.view_model.specs.declared.verbs.TheConstants.{START_OF, END_OF, ALIGN_START, ALIGN_END}
+use Rattle.view_model.specs.Verbs as verb
 use Rattle.view_model.specs.Direction.{left_of_two, right_of_two}
 use Rattle.view_model.specs.Orders.{IsAnchorsFirst, Reaches, AtOnce, Through}
 use Rattle.view_model.specs.SiblingRules.{anchor_id, anchor_of, anchor_within, form_of, last_with_id, leads, named_sibling, names, other_than, shown_or, value_of}
@@ -43,10 +43,10 @@ padded : (axis : Axis) (rules : Rules) (at : ℕ) → at < 8 → IsPadded axis r
 padded axis rules at below = record { at = at; below = below; is = refl }
 
 anchor_padded : (rtl : Bool) (axis : Axis) (tie : Tie) (rules : Rules) → IsPadded axis rules (anchor_id rtl axis tie rules)
-anchor_padded rtl Horizontal Before rules = form_padded rules _ _ (one_padded rules rtl START_OF END_OF (padded Horizontal rules 4 (omega arith)) (padded Horizontal rules 5 (omega arith))) (padded Horizontal rules 0 (omega arith))
-anchor_padded rtl Horizontal After rules = form_padded rules _ _ (other_padded rules rtl START_OF END_OF (padded Horizontal rules 4 (omega arith)) (padded Horizontal rules 5 (omega arith))) (padded Horizontal rules 1 (omega arith))
-anchor_padded rtl Horizontal AlignNear rules = form_padded rules _ _ (one_padded rules rtl ALIGN_START ALIGN_END (padded Horizontal rules 6 (omega arith)) (padded Horizontal rules 7 (omega arith))) (padded Horizontal rules 2 (omega arith))
-anchor_padded rtl Horizontal AlignFar rules = form_padded rules _ _ (other_padded rules rtl ALIGN_START ALIGN_END (padded Horizontal rules 6 (omega arith)) (padded Horizontal rules 7 (omega arith))) (padded Horizontal rules 3 (omega arith))
+anchor_padded rtl Horizontal Before rules = form_padded rules _ _ (one_padded rules rtl verb.start_of verb.end_of (padded Horizontal rules 4 (omega arith)) (padded Horizontal rules 5 (omega arith))) (padded Horizontal rules 0 (omega arith))
+anchor_padded rtl Horizontal After rules = form_padded rules _ _ (other_padded rules rtl verb.start_of verb.end_of (padded Horizontal rules 4 (omega arith)) (padded Horizontal rules 5 (omega arith))) (padded Horizontal rules 1 (omega arith))
+anchor_padded rtl Horizontal AlignNear rules = form_padded rules _ _ (one_padded rules rtl verb.align_start verb.align_end (padded Horizontal rules 6 (omega arith)) (padded Horizontal rules 7 (omega arith))) (padded Horizontal rules 2 (omega arith))
+anchor_padded rtl Horizontal AlignFar rules = form_padded rules _ _ (other_padded rules rtl verb.align_start verb.align_end (padded Horizontal rules 6 (omega arith)) (padded Horizontal rules 7 (omega arith))) (padded Horizontal rules 3 (omega arith))
 anchor_padded rtl Vertical Before rules = padded Vertical rules 0 (omega arith)
 anchor_padded rtl Vertical After rules = padded Vertical rules 1 (omega arith)
 anchor_padded rtl Vertical AlignNear rules = padded Vertical rules 2 (omega arith)

@@ -7,16 +7,16 @@ use Rattle.view_model.specs.declared.facts.Rules.{Rules}
 use Rattle.view_model.specs.declared.relative.Axis.{Axis}
 use Rattle.view_model.specs.declared.relative.Axis.TheVariants.{Horizontal, Vertical}
 use Rattle.view_model.specs.declared.relative.Link.{Link}
-use Rattle.view_model.specs.declared.verbs.TheConstants.{LEFT_OF, RIGHT_OF, ABOVE, BELOW, ALIGN_LEFT, ALIGN_TOP, ALIGN_RIGHT, ALIGN_BOTTOM, START_OF, END_OF, ALIGN_START, ALIGN_END}
 use Rattle.view_model.specs.SiblingRules.{last_with_id, names, no_link, value_of}
+use Rattle.view_model.specs.Verbs as verb
 
 -- the ids that rules name on an axis, filled up with zeros
 abbrev pub padded_ids : Axis → Rules → List ℕ
 padded_ids Horizontal rules =
-    value_of rules LEFT_OF ∷ value_of rules RIGHT_OF ∷ value_of rules ALIGN_LEFT ∷ value_of rules ALIGN_RIGHT
-    ∷ value_of rules START_OF ∷ value_of rules END_OF ∷ value_of rules ALIGN_START ∷ value_of rules ALIGN_END ∷ []
+    value_of rules verb.left_of ∷ value_of rules verb.right_of ∷ value_of rules verb.align_left ∷ value_of rules verb.align_right
+    ∷ value_of rules verb.start_of ∷ value_of rules verb.end_of ∷ value_of rules verb.align_start ∷ value_of rules verb.align_end ∷ []
 padded_ids Vertical rules =
-    value_of rules ABOVE ∷ value_of rules BELOW ∷ value_of rules ALIGN_TOP ∷ value_of rules ALIGN_BOTTOM ∷ 0 ∷ 0 ∷ 0 ∷ 0 ∷ []
+    value_of rules verb.above ∷ value_of rules verb.below ∷ value_of rules verb.align_top ∷ value_of rules verb.align_bottom ∷ 0 ∷ 0 ∷ 0 ∷ 0 ∷ []
 
 abbrev pub link_at : List Link → ℕ → Link
 link_at kids place = slice_index_or kids place no_link

@@ -6,7 +6,7 @@ ghost use Rattle.relative_layout.specs.ordering.Components.{AreMarked, HasTwo, I
 ghost use Rattle.relative_layout.specs.ordering.Points.{Goes};
 ghost use Rattle.relative_layout.specs.declared.ordering.components.Status.TheVariants.{Done, Fresh, OnPath};
 ghost use Rattle.view_model.specs.SiblingRules.{leads};
-ghost use Rattle.view_model.specs.declared.limits.TheConstants.{MAX_VIEWS};
+ghost use Rattle.view_model.specs.Numbers.{max_views};
 
 use crate::ordering::marks::unmarked;
 use crate::ordering::naming::Naming;
@@ -49,7 +49,7 @@ pub fn marks_of_members(
     kids: &[Link],
     naming: &Naming,
 ) -> Result<Vec<bool>, AllocError>
-    requires few { length kids.now ≤ MAX_VIEWS }
+    requires few { length kids.now ≤ max_views }
     requires naming { IsNaming kids.now naming.now }
     ensures size { IfOk result (λ marks. length marks.items ≡ length kids.now) }
     ensures marks { IfOk result (λ marks. AreMarked (leads naming.now.axis kids.now) (length kids.now) marks.items) }
@@ -63,7 +63,7 @@ pub fn marks_of_members(
 impl Search {
     /// Before any point is entered.
     fn start(alloc: Global, count: usize) -> Result<Search, AllocError>
-        requires few { count ≤ MAX_VIEWS }
+        requires few { count ≤ max_views }
         ensures status { IfOk result (λ search. search.status.items ≡ replicate (count + count) Fresh) }
         ensures path { IfOk result (λ search. search.path.items ≡ []) }
         ensures todo { IfOk result (λ search. search.todo.items ≡ []) }
@@ -81,7 +81,7 @@ impl Search {
 
     /// Searches from each point.
     fn search_all(&mut self, kids: &[Link], naming: &Naming) -> Result<(), AllocError>
-        requires few { length kids.now ≤ MAX_VIEWS }
+        requires few { length kids.now ≤ max_views }
         requires naming { IsNaming kids.now naming.now }
         requires search { IsSearching kids.now naming.now self.old None }
         requires parts { self.old.parts.items ≡ [] }
@@ -103,7 +103,7 @@ impl Search {
         naming: &Naming,
         point: usize,
     ) -> Result<(), AllocError>
-        requires few { length kids.now ≤ MAX_VIEWS }
+        requires few { length kids.now ≤ max_views }
         requires point { point < length kids.now + length kids.now }
         requires naming { IsNaming kids.now naming.now }
         requires search { IsSearching kids.now naming.now self.old None }
@@ -122,7 +122,7 @@ impl Search {
 
     /// Goes on until the path is empty.
     fn leave_all(&mut self, kids: &[Link], naming: &Naming) -> Result<(), AllocError>
-        requires few { length kids.now ≤ MAX_VIEWS }
+        requires few { length kids.now ≤ max_views }
         requires naming { IsNaming kids.now naming.now }
         requires search { IsSearching kids.now naming.now self.old None }
         ensures search { OnOk result (IsSearching kids.now naming.now self.new None) }
@@ -147,7 +147,7 @@ impl Search {
 
     /// Follows one edge of the last part, or finishes the part if there is none.
     fn step(&mut self, kids: &[Link], naming: &Naming, part: Part) -> Result<(), AllocError>
-        requires few { length kids.now ≤ MAX_VIEWS }
+        requires few { length kids.now ≤ max_views }
         requires naming { IsNaming kids.now naming.now }
         requires search { IsSearching kids.now naming.now self.old None }
         requires last { IsLastPart self.old.parts.items part }
@@ -184,7 +184,7 @@ impl Search {
 
     /// Follows an edge of the last part to this point.
     fn look_at(&mut self, kids: &[Link], naming: &Naming, point: usize) -> Result<(), AllocError>
-        requires few { length kids.now ≤ MAX_VIEWS }
+        requires few { length kids.now ≤ max_views }
         requires point { point < length kids.now + length kids.now }
         requires naming { IsNaming kids.now naming.now }
         requires search { IsSearching kids.now naming.now self.old (Some point) }
@@ -206,7 +206,7 @@ impl Search {
 
     /// Puts a fresh point on the path, as a part of its own.
     fn enter(&mut self, kids: &[Link], naming: &Naming, point: usize) -> Result<(), AllocError>
-        requires few { length kids.now ≤ MAX_VIEWS }
+        requires few { length kids.now ≤ max_views }
         requires point { point < length kids.now + length kids.now }
         requires naming { IsNaming kids.now naming.now }
         requires search { IsSearching kids.now naming.now self.old (Some point) }
@@ -229,7 +229,7 @@ impl Search {
 
     /// Appends a point to the path, as a part of its own.
     fn append(&mut self, point: usize) -> Result<(), AllocError>
-        requires few { point < MAX_VIEWS + MAX_VIEWS }
+        requires few { point < max_views + max_views }
         requires point { point < length self.old.status.items }
         ensures status { OnOk result
             (self.new.status.items ≡ slice_set self.old.status.items point (OnPath (length self.old.path.items))) }

@@ -3,7 +3,7 @@ ghost use Rattle.std.specs.Prelude.{◌≡◌, ◌≤◌, ℕ, IfOk, OnOk, lengt
 ghost use Rattle.indexmap.specs.IndexMap.{get as place_in};
 ghost use Rattle.relative_layout.specs.ordering.Naming.{padded_ids, with_last};
 ghost use Rattle.view_model.specs.SiblingRules.{last_with_id};
-ghost use Rattle.view_model.specs.declared.limits.TheConstants.{MAX_VIEWS};
+ghost use Rattle.view_model.specs.Numbers.{max_views};
 
 use indexmap::IndexMap;
 use std::alloc::{AllocError, Global};
@@ -44,7 +44,7 @@ pub fn named_ids(axis: Axis, rules: &Rules) -> [u32; 8]
 
 /// The last child with each id.
 pub fn last_places(alloc: Global, kids: &[Link]) -> Result<IndexMap<u32, u32>, AllocError>
-    requires few { length kids.now ≤ MAX_VIEWS }
+    requires few { length kids.now ≤ max_views }
     ensures { IfOk result (λ lasts. (id : ℕ) → place_in nat_eq lasts id ≡ last_with_id kids.now id) }
 {
     let mut lasts = IndexMap::new(alloc);

@@ -3,7 +3,7 @@ ghost use Rattle.std.specs.Prelude.{◌≡◌, ◌<◌, ◌≤◌, ℕ, IfOk, If
 ghost use Rattle.indexmap.specs.IndexMap.{get as place_in};
 ghost use Rattle.relative_layout.specs.ordering.Naming.{NamesBack};
 ghost use Rattle.view_model.specs.SiblingRules.{last_with_id, leads};
-ghost use Rattle.view_model.specs.declared.limits.TheConstants.{MAX_VIEWS};
+ghost use Rattle.view_model.specs.Numbers.{max_views};
 
 use crate::ordering::ids::named_ids;
 use crate::ordering::naming::last_in;
@@ -50,7 +50,7 @@ fn is_before(last: Option<usize>, place: usize) -> bool
 
 /// All places, the first first.
 pub fn listed_places(alloc: Global, count: usize) -> Result<Vec<u32>, AllocError>
-    requires few { count ≤ MAX_VIEWS }
+    requires few { count ≤ max_views }
     ensures size { IfOk result (λ places. length places.items ≡ count) }
     ensures each { IfOk result (λ places. (place : ℕ) → place < count → slice_index places.items place ≡ place) }
 {

@@ -6,7 +6,7 @@ ghost use Rattle.std.specs.Prelude.{◌≡◌, ◌<◌, ◌≤◌, ◌+◌, [], 
 ghost use Rattle.indexmap.specs.IndexMap.{get as place_in};
 ghost use Rattle.relative_layout.specs.ordering.Naming.{AreNamers, lists_of, row_at, with_place};
 ghost use Rattle.view_model.specs.SiblingRules.{last_with_id};
-ghost use Rattle.view_model.specs.declared.limits.TheConstants.{MAX_VIEWS};
+ghost use Rattle.view_model.specs.Numbers.{max_views};
 
 use crate::ordering::ids::{last_places, named_ids};
 use indexmap::IndexMap;
@@ -26,7 +26,7 @@ impl Naming {
     ghost use Rattle.relative_layout.specs.ordering.Naming.{IsNaming};
 
     pub fn new(alloc: Global, axis: Axis, kids: &[Link]) -> Result<Naming, AllocError>
-        requires few { length kids.now ≤ MAX_VIEWS }
+        requires few { length kids.now ≤ max_views }
         ensures axis { IfOk result (λ naming. naming.axis ≡ axis) }
         ensures naming { IfOk result (λ naming. IsNaming kids.now naming) }
     {
@@ -62,7 +62,7 @@ fn namers(
     kids: &[Link],
     lasts: &IndexMap<u32, u32>,
 ) -> Result<Vec<Vec<u32>>, AllocError>
-    requires few { length kids.now ≤ MAX_VIEWS }
+    requires few { length kids.now ≤ max_views }
     requires table { (id : ℕ) → place_in nat_eq lasts.now id ≡ last_with_id kids.now id }
     ensures { IfOk result (λ rows. AreNamers axis kids.now (length kids.now) (lists_of rows.items)) }
 {
@@ -81,7 +81,7 @@ fn add_names(
     lasts: &IndexMap<u32, u32>,
     place: usize,
 ) -> Result<(), AllocError>
-    requires few { length kids.now ≤ MAX_VIEWS }
+    requires few { length kids.now ≤ max_views }
     requires place { place < length kids.now }
     requires table { (id : ℕ) → place_in nat_eq lasts.now id ≡ last_with_id kids.now id }
     requires rows { AreNamers axis kids.now place (lists_of rows.old.items) }

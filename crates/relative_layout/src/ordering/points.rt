@@ -2,7 +2,7 @@
 ghost use Rattle.std.specs.Prelude.{◌≡◌, ◌<◌, ◌≤◌, ◌+◌, ◌++◌, IfSome, OnOk, length};
 ghost use Rattle.relative_layout.specs.ordering.Naming.{IsNaming, lists_of};
 ghost use Rattle.relative_layout.specs.ordering.Points.{heads_of, id_point};
-ghost use Rattle.view_model.specs.declared.limits.TheConstants.{MAX_VIEWS};
+ghost use Rattle.view_model.specs.Numbers.{max_views};
 
 use crate::ordering::naming::Naming;
 use std::alloc::AllocError;
@@ -16,7 +16,7 @@ pub fn put_heads(
     naming: &Naming,
     point: usize,
 ) -> Result<(), AllocError>
-    requires few { length kids.now ≤ MAX_VIEWS }
+    requires few { length kids.now ≤ max_views }
     requires point { point < length kids.now + length kids.now }
     requires naming { IsNaming kids.now naming.now }
     ensures { OnOk result (points.new.items
@@ -32,7 +32,7 @@ pub fn put_heads(
 
 /// Appends the point of an id by the last child with it, if there is one.
 fn put_id(points: &mut Vec<u32>, count: usize, last: Option<usize>) -> Result<(), AllocError>
-    requires few { count ≤ MAX_VIEWS }
+    requires few { count ≤ max_views }
     requires inside { IfSome last (λ last. last < count) }
     ensures { OnOk result (points.new.items ≡ points.old.items ++ id_point count last) }
 {

@@ -3,7 +3,7 @@ ghost use Rattle.std.specs.Prelude.{◌≡◌, ◌==◌, ◌<◌, ◌≤◌, ◌
 ghost use Rattle.relative_layout.specs.ordering.Naming.{Has, IsNaming, lists_of, row_at};
 ghost use Rattle.relative_layout.specs.ordering.Topological.{AreCounts, CountsBelow, IsTaking, LeadsIn, Waits, counted_up, effort, has_more, is_marked};
 ghost use Rattle.view_model.specs.SiblingRules.{leads};
-ghost use Rattle.view_model.specs.declared.limits.TheConstants.{MAX_VIEWS};
+ghost use Rattle.view_model.specs.Numbers.{max_views};
 
 use crate::ordering::ids::named_ids;
 use crate::ordering::marks::unmarked;
@@ -25,7 +25,7 @@ pub struct Taking {
 impl Taking {
     /// Before any child is taken: all are to be looked at, the first of them first.
     pub fn start(alloc: Global, kids: &[Link], naming: &Naming) -> Result<Taking, AllocError>
-        requires few { length kids.now ≤ MAX_VIEWS }
+        requires few { length kids.now ≤ max_views }
         requires naming { IsNaming kids.now naming.now }
         ensures { IfOk result (λ taking. IsTaking naming.now.axis kids.now taking.left.items taking.taken.items
             taking.todo.items taking.order.items) }
@@ -42,7 +42,7 @@ impl Taking {
 
     /// Takes children while there is one that can be taken.
     pub fn take_all(&mut self, kids: &[Link], naming: &Naming) -> Result<(), AllocError>
-        requires few { length kids.now ≤ MAX_VIEWS }
+        requires few { length kids.now ≤ max_views }
         requires naming { IsNaming kids.now naming.now }
         requires taking { IsTaking naming.now.axis kids.now self.old.left.items self.old.taken.items
             self.old.todo.items self.old.order.items }
@@ -69,7 +69,7 @@ impl Taking {
 
     /// Takes a child if it can be taken and is not yet.
     fn look_at(&mut self, kids: &[Link], naming: &Naming, place: usize) -> Result<(), AllocError>
-        requires few { length kids.now ≤ MAX_VIEWS }
+        requires few { length kids.now ≤ max_views }
         requires place { place < length kids.now }
         requires naming { IsNaming kids.now naming.now }
         requires taking { IsTaking naming.now.axis kids.now self.old.left.items self.old.taken.items
@@ -121,7 +121,7 @@ impl Taking {
 
     /// Takes a child that leads only to taken ones.
     fn take(&mut self, kids: &[Link], naming: &Naming, place: usize) -> Result<(), AllocError>
-        requires few { length kids.now ≤ MAX_VIEWS }
+        requires few { length kids.now ≤ max_views }
         requires place { place < length kids.now }
         requires naming { IsNaming kids.now naming.now }
         requires fresh { is_marked self.old.taken.items place ≡ false }
@@ -146,7 +146,7 @@ impl Taking {
 
     /// Appends a child to the order.
     fn append(&mut self, place: usize) -> Result<(), AllocError>
-        requires few { place < MAX_VIEWS }
+        requires few { place < max_views }
         requires place { place < length self.old.taken.items }
         ensures order { OnOk result (self.new.order.items ≡ self.old.order.items ++ place ∷ []) }
         ensures taken { OnOk result (self.new.taken.items ≡ slice_set self.old.taken.items place true) }
@@ -188,7 +188,7 @@ fn own_count(own: u32, id: u32) -> u32
 
 /// For the last child with an id, how many have it.
 fn counts(alloc: Global, kids: &[Link], naming: &Naming) -> Result<Vec<u32>, AllocError>
-    requires few { length kids.now ≤ MAX_VIEWS }
+    requires few { length kids.now ≤ max_views }
     requires naming { IsNaming kids.now naming.now }
     ensures { IfOk result (λ left. CountsBelow kids.now (length kids.now) left.items) }
 {
@@ -202,7 +202,7 @@ fn counts(alloc: Global, kids: &[Link], naming: &Naming) -> Result<Vec<u32>, All
 /// Counts a child by the last one with its id.
 fn count_up(left: &mut Vec<u32>, last: Option<usize>)
     requires inside { IfSome last (λ last. last < length left.old.items) }
-    requires few { IfSome last (λ last. slice_index left.old.items last < MAX_VIEWS) }
+    requires few { IfSome last (λ last. slice_index left.old.items last < max_views) }
     ensures { left.new.items ≡ counted_up last left.old.items }
 {
     if let Some(last) = last {
@@ -218,7 +218,7 @@ fn zeros(alloc: Global, count: usize) -> Result<Vec<u32>, AllocError>
 
 /// All places, the last first.
 fn all_places(alloc: Global, count: usize) -> Result<Vec<u32>, AllocError>
-    requires few { count ≤ MAX_VIEWS }
+    requires few { count ≤ max_views }
     ensures inside { IfOk result (λ places. (p : ℕ) → p < length places.items → slice_index places.items p < count) }
     ensures each { IfOk result (λ places. (place : ℕ) → place < count → Has places.items place) }
 {
