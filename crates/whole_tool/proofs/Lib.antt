@@ -10,6 +10,7 @@ pub mod NameLaws
 mod RefusalExamples
 pub mod RunLaws
 pub mod ScriptLaws
+pub mod SessionLaws
 pub mod StackPageLaws
 pub mod StatusLaws
 pub mod SumLaws

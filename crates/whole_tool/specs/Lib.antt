@@ -10,6 +10,7 @@ pub mod Outside
 pub mod Refusals
 pub mod Run
 pub mod Script
+pub mod Session
 pub mod StackPage
 pub mod Tally
 pub mod Tool

@@ -4,7 +4,7 @@
 //! carries out each line of them as soon as it has ended, by a `carrier` (a world or a stack), and `refusals` reports
 //! refused lines, by `names`. `dump` prints a file, or reports by `file_replies` why it is refused, `lookup` prints
 //! resources, `loading` runs a load, and `focusing` answers which view gets the focus next after a script. `status` has
-//! the statuses.
+//! the statuses. `session` takes the lines of a script one at a time.
 //!
 //! The program `view_tool` passes it the real objects, `vindaesk_c` and tests objects in memory. Its contract is the
 //! theorem: the bytes that it writes are those of the plain world.
@@ -22,8 +22,11 @@ mod names;
 mod refusals;
 mod run;
 mod script;
+mod session;
 pub mod status;
 mod usage;
 mod whole;
 
+pub use run::Stop;
+pub use session::Session;
 pub use whole::tool;

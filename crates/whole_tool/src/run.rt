@@ -49,9 +49,31 @@ pub struct LineRunner {
 }
 
 impl LineRunner {
+    /// Before the first line.
+    pub fn new(alloc: Global, carrier: Carrier) -> LineRunner
+        ensures carrier { result.carrier ≡ carrier }
+        ensures lines { result.lines ≡ 0 }
+        ensures refused { result.refused ≡ 0 }
+    {
+        LineRunner {
+            alloc,
+            carrier,
+            lines: 0,
+            refused: 0,
+            text: TextBuffer::new(),
+        }
+    }
+
+    /// How many lines were refused so far.
+    pub fn refused(&self) -> u64
+        ensures { result ≡ self.now.refused }
+    {
+        self.refused
+    }
+
     /// Takes the next line, which is carried out unless it is passed over. `None` is a line that is too long.
     #[inline]
-    fn line<K: Sink, F: Shelf>(
+    pub fn line<K: Sink, F: Shelf>(
         &mut self,
         line: Option<&[u8]>,
         shelf: &mut F,
