@@ -7,7 +7,7 @@ use Rattle.arsc_reader.specs.Contents.{Contents}
 use Rattle.arsc_reader.specs.Table.{value_of}
 
 -- a table represents what was read: it has the same strings, and each resource holds the same
-pub record RepresentsFault (table : Contents) (read : Result Contents Fault) : Type 0 where
+pub record RepresentsTable (table : Contents) (read : Result Contents Fault) : Type 0 where
   pub whole : Contents
   pub whole_is : read ≡ Ok whole
   pub pool_is : table.pool ≡ whole.pool
@@ -15,5 +15,5 @@ pub record RepresentsFault (table : Contents) (read : Result Contents Fault) : T
 
 -- a call returns a table of what the reading gives, or its fault, unless memory ran out
 abbrev pub ReadsTable : Result Contents ReadFault → Result Contents Fault → Type 0
-ReadsTable (Ok table) read = RepresentsFault table read
+ReadsTable (Ok table) read = RepresentsTable table read
 ReadsTable (Err e) read = Fails e read

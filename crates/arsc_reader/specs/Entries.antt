@@ -1,5 +1,6 @@
 -- The entries of one type of a table, each from its place.
-use Rattle.std.specs.Prelude.{ℕ, zero, suc, ◌+◌, ◌-◌, ◌*◌, ◌%◌, ◌^◌, ◌≤◌, Bool, true, not, ◌||◌, ◌&&◌, List, [], ◌∷◌, ◌++◌, slice_index, Option, Some, None, Result, Ok, Err, nat_lt, ◌==◌, if◌then◌else◌}
+use Rattle.std.specs.Prelude.{ℕ, zero, suc, ◌+◌, ◌-◌, ◌*◌, ◌%◌, ◌^◌, ◌≤◌, Bool, true, not, ◌||◌, ◌&&◌, List, [], ◌∷◌}
+use Rattle.std.specs.Prelude.{◌++◌, slice_index, Option, Some, None, Result, Ok, Err, nat_lt, ◌==◌, if◌then◌else◌}
 use Rattle.axml_chunks.specs.declared.chunk.Chunk.{Chunk}
 use Rattle.axml_chunks.specs.declared.fault.Fault.{Fault}
 use Rattle.axml_chunks.specs.Faults.{truncated, bad_chunk}
@@ -41,7 +42,9 @@ unfoldable pub listing_of : List ℕ → ℕ → ℕ → Chunk → Result (Optio
 listing_of bytes place package_id chunk =
     if nat_lt chunk.head 24 then Err (bad_chunk place)
     else (if not (slice_index bytes (place + 9) == 0) then Ok None
-    else (if is_bad_type chunk.head (slice_index bytes (place + 8)) (number32 bytes (place + 20)) then Err (bad_chunk place)
+    else
+    (if is_bad_type chunk.head (slice_index bytes (place + 8)) (number32 bytes (place + 20))
+    then Err (bad_chunk place)
     else (if not (are_zeros bytes (place + 24) (number32 bytes (place + 20) - 4)) then Ok None
     else (if is_outside chunk (number32 bytes (place + 12)) (number32 bytes (place + 16)) then Err (bad_chunk place)
     else Ok (Some (listing_at bytes place package_id chunk))))))
@@ -65,7 +68,9 @@ IfListed len (Some listing) = IsListing len listing
 unfoldable pub plain_at : List ℕ → ℕ → ℕ → ℕ → Result Held Fault
 plain_at bytes own end place =
     if nat_lt (number16 bytes place) 8 || nat_lt end (place + number16 bytes place + 8) then Err (truncated own)
-    else Ok (held.Plain (slice_index bytes (place + number16 bytes place + 3)) (number32 bytes (place + number16 bytes place + 4)))
+    else Ok
+    (held.Plain (slice_index bytes (place + number16 bytes place + 3))
+    (number32 bytes (place + number16 bytes place + 4)))
 
 -- what the entry at a place holds
 unfoldable pub entry_at : List ℕ → ℕ → ℕ → ℕ → Result Held Fault

@@ -1,5 +1,6 @@
 -- A table chunk by chunk, up to the first fault.
-use Rattle.std.specs.Prelude.{ℕ, zero, suc, ◌+◌, not, List, [], Option, Some, None, is_some, Result, Ok, Err, nat_lt, ◌==◌, if◌then◌else◌}
+use Rattle.std.specs.Prelude.{ℕ, zero, suc, ◌+◌, not, List, [], Option, Some, None, is_some, Result, Ok, Err, nat_lt}
+use Rattle.std.specs.Prelude.{◌==◌, if◌then◌else◌}
 use Rattle.axml_chunks.specs.declared.chunk.Chunk.{Chunk}
 use Rattle.axml_chunks.specs.declared.fault.Fault.{Fault}
 use Rattle.axml_chunks.specs.Chunks.{chunk_of}
@@ -26,14 +27,18 @@ unfoldable pub listed : List ℕ → ℕ → Option Listing → Found → Result
 listed bytes place None s = Ok s
 listed bytes place (Some listing) s =
     if nat_lt 262144 (s.count + listing.count) then Err (too_big place)
-    else (entries_upto bytes listing s.entries listing.count >>= λ entries. Ok (record { pool = s.pool; entries = entries; count = s.count + listing.count }))
+    else
+    (entries_upto bytes listing s.entries listing.count
+    >>= λ entries. Ok (record { pool = s.pool; entries = entries; count = s.count + listing.count }))
 
 unfoldable pub type_read : List ℕ → ℕ → ℕ → Chunk → Found → Result Found Fault
-type_read bytes package_id place chunk s = listing_of bytes place package_id chunk >>= λ listing. listed bytes place listing s
+type_read bytes package_id place chunk s =
+    listing_of bytes place package_id chunk >>= λ listing. listed bytes place listing s
 
 -- what was read with a chunk of a package; only types are looked at
 unfoldable pub in_package : List ℕ → ℕ → ℕ → Chunk → Found → Result Found Fault
-in_package bytes package_id place chunk s = if chunk.kind == 0x201 then type_read bytes package_id place chunk s else Ok s
+in_package bytes package_id place chunk s =
+    if chunk.kind == 0x201 then type_read bytes package_id place chunk s else Ok s
 
 -- what was read with one chunk more, and the place after it
 unfoldable pub one_chunk : (ℕ → Chunk → Found → Result Found Fault) → List ℕ → ℕ → ℕ → Found → Result (ℕ × Found) Fault

@@ -1,5 +1,6 @@
 -- A table from its bytes, or the first fault, and what its resources hold.
-use Rattle.std.specs.Prelude.{ℕ, zero, suc, not, ◌&&◌, List, [], ◌∷◌, length, slice_get, Option, Some, None, Result, Ok, Err, nat_lt, ◌==◌, if◌then◌else◌}
+use Rattle.std.specs.Prelude.{ℕ, zero, suc, not, ◌&&◌, List, [], ◌∷◌, length, slice_get, Option, Some, None, Result, Ok}
+use Rattle.std.specs.Prelude.{Err, nat_lt, ◌==◌, if◌then◌else◌}
 use Rattle.axml_chunks.specs.declared.chunk.Chunk.{Chunk}
 use Rattle.axml_chunks.specs.declared.fault.Fault.{Fault}
 use Rattle.axml_chunks.specs.Chunks.{chunk_of}
@@ -60,7 +61,8 @@ through own (Some id) next = next id
 -- what an id holds, through at most n references, and nothing if one more is needed
 unfoldable pub followed : ℕ → List Entry → ℕ → Held
 followed zero entries id = through (latest entries id) (named_by (latest entries id)) (λ word. held.None)
-followed (suc n) entries id = through (latest entries id) (named_by (latest entries id)) (λ word. followed n entries word)
+followed (suc n) entries id =
+    through (latest entries id) (named_by (latest entries id)) (λ word. followed n entries word)
 
 -- what the resource with an id holds
 abbrev pub value_of : List Entry → ℕ → Held

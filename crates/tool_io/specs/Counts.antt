@@ -1,7 +1,6 @@
 -- Counts of calls, which end at the greatest u64.
-use Rattle.std.specs.Prelude.{ℕ, ◌+◌, ◌≤◌, max, Bool, if◌then◌else◌, Option}
+use Rattle.std.specs.Prelude.{ℕ, ◌+◌, ◌≤◌, max, Bool, if◌then◌else◌}
 use Rattle.std.specs.Io.Iter.{u64_saturate}
-use Rattle.std.specs.Option.{option_map}
 
 -- one more, up to the greatest u64
 unfoldable pub raised : ℕ → ℕ
@@ -10,10 +9,6 @@ raised count = max count (u64_saturate (count + 1))
 -- the count of failed calls after one more call, which succeeded or failed
 abbrev pub faults_after : ℕ → Bool → ℕ
 faults_after faults succeeded = if succeeded then faults else raised faults
-
--- a count of calls after one more call, if calls are counted
-abbrev pub one_more : Option ℕ → Option ℕ
-one_more calls = option_map raised calls
 
 -- a call has failed: a count rose, or is at its end
 abbrev pub Rose : ℕ → ℕ → Type 0

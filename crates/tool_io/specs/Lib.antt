@@ -3,6 +3,7 @@ pub mod BytesLeft
 pub mod Calls
 pub mod Counts
 pub mod Fetched
+pub mod Fetches
 pub mod Files
 pub mod MemoryShelf
 pub mod MemorySink

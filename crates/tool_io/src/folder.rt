@@ -41,12 +41,13 @@ impl<R> FolderShelf<R> {
 
 impl<R: Files> Shelf for FolderShelf<R> {
     ghost use Rattle.std.specs.Prelude.{None};
+    ghost use Rattle.tool_io.specs.Fetches.{Unseen};
 
     ghost files = { λ _. None };
 
     ghost faults = { λ s. s.faults };
 
-    ghost fetches = { λ _. None };
+    ghost fetches = { λ _. Unseen };
 
     #[tactic(auto, using(crate::proofs::Counting::counts_each))]
     fn fetch(&mut self, name: &str, into: &mut Vec<u8>, limit: usize) -> Result<Found, ShelfFault>

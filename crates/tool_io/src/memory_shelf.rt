@@ -43,13 +43,14 @@ impl MemoryShelf {
 impl Shelf for MemoryShelf {
     ghost use Rattle.std.specs.Prelude.{Some};
     ghost use Rattle.tool_io.specs.Calls.{fails_next};
+    ghost use Rattle.tool_io.specs.Fetches.{Counted};
     ghost use Rattle.tool_io.specs.MemoryShelf.{after_fetch};
 
     ghost files = { λ s. Some s.files };
 
     ghost faults = { λ s. s.calls.faults };
 
-    ghost fetches = { λ s. Some s.calls.made };
+    ghost fetches = { λ s. Counted s.calls.made };
 
     fn fetch(&mut self, name: &str, into: &mut Vec<u8>, limit: usize) -> Result<Found, ShelfFault>
         ensures stays { self.new.files ≡ self.old.files }

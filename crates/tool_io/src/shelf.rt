@@ -3,8 +3,8 @@
 //! Contracts see the files through the ghost of the shelf, and the plain world takes them as a parameter instead of
 //! keeping them: so what is said of a line that asks for no file holds over every shelf.
 ghost use Rattle.std.specs.Prelude.{◌≡◌, ◌≢◌, ℕ, ◌≤◌, List, [], length, Option, IfSome, IfOk};
-ghost use Rattle.tool_io.specs.Counts.{one_more};
 ghost use Rattle.tool_io.specs.Fetched.{CountsFetch, Fetched};
+ghost use Rattle.tool_io.specs.Fetches.{Fetches, with_fetch};
 
 /// How a fetch ended.
 #[derive(Clone, Copy, Debug, PartialEq, Eq)]
@@ -35,9 +35,9 @@ pub trait Shelf {
     /// How many calls have failed. The count ends at the greatest `u64`.
     ghost faults: { Self → ℕ };
 
-    /// How many calls were made, whether they have failed or not, if the object counts them. The count ends at the
-    /// greatest `u64`.
-    ghost fetches: { Self → Option ℕ };
+    /// What the object shows of the calls that were made, whether they have failed or not: nothing, how many they are,
+    /// or the name and the limit of each.
+    ghost fetches: { Self → Fetches };
 
     /// Puts the file of this name into `into`, in place of what that holds, if the file has at
     /// most `limit` bytes. After anything but `Found::Whole`, `into` is empty.
@@ -48,5 +48,6 @@ pub trait Shelf {
         ensures empty { result ≢ Ok Found.Whole → into.new.items ≡ [] }
         ensures limit { length into.new.items ≤ limit }
         ensures counted { CountsFetch (faults self.old) (faults self.new) result }
-        ensures asked { fetches self.new ≡ one_more (fetches self.old) };
+        ensures asked { fetches self.new
+            ≡ with_fetch (fetches self.old) (record { name = name.now; limit = limit }) };
 }

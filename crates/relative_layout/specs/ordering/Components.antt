@@ -1,5 +1,7 @@
 -- A search for cycles: a path of points, cut into parts whose points all lead to one another.
-use Rattle.std.specs.Prelude.{◌≡◌, ◌≢◌, ◌⊎◌, ℕ, ◌+◌, ◌-◌, ◌*◌, ◌<◌, ◌≤◌, Bool, true, false, ◌&&◌, if◌then◌else◌, List, [], ◌∷◌, ◌++◌, length, Option, Some, count_by, nat_lt, slice_index, slice_index_or, sum_by}
+use Rattle.std.specs.Prelude.{◌≡◌, ◌≢◌, ◌⊎◌, ℕ, ◌+◌, ◌-◌, ◌*◌, ◌<◌, ◌≤◌, Bool, true, false, ◌&&◌, if◌then◌else◌, List}
+use Rattle.std.specs.Prelude.{[], ◌∷◌, ◌++◌, length, Option, Some, count_by, nat_lt, slice_index, slice_index_or}
+use Rattle.std.specs.Prelude.{sum_by}
 use Rattle.relative_layout.specs.declared.ordering.naming.Naming.{Naming}
 use Rattle.relative_layout.specs.declared.ordering.components.Part.{Part}
 use Rattle.relative_layout.specs.declared.ordering.components.Search.{Search}
@@ -46,25 +48,31 @@ pub record IsPending (heads : ℕ → List ℕ) (path : List ℕ) (parts : List 
   pub before : (i : ℕ) → i < length parts → at < todo_of parts i → from < start_of parts i
 
 -- a search with a current point, or none
-pub record IsSearch (heads : ℕ → List ℕ) (status : List Status) (path todo : List ℕ) (parts : List Part) (held : Option ℕ) : Type 0 where
+pub record IsSearch (heads : ℕ → List ℕ) (status : List Status) (path todo : List ℕ) (parts : List Part)
+    (held : Option ℕ) : Type 0 where
   pub there : (place : ℕ) → place < length path → status_of status (slice_index path place) ≡ OnPath place
-  pub back : (point place : ℕ) → status_of status point ≡ OnPath place → (place < length path) × (slice_index path place ≡ point)
+  pub back : (point place : ℕ) → status_of status point ≡ OnPath place
+      → (place < length path) × (slice_index path place ≡ point)
   pub closed : (a b : ℕ) → status_of status a ≡ Done → Has (heads a) b → status_of status b ≡ Done
   pub inside : (i : ℕ) → i < length parts → (start_of parts i ≤ length path) × (todo_of parts i ≤ length todo)
-  pub rising : (i j : ℕ) → i ≤ j → j < length parts → (start_of parts i ≤ start_of parts j) × (todo_of parts i ≤ todo_of parts j)
+  pub rising : (i j : ℕ) → i ≤ j → j < length parts
+      → (start_of parts i ≤ start_of parts j) × (todo_of parts i ≤ todo_of parts j)
   pub covered : (place : ℕ) → place < length path → (i : ℕ) × (i < length parts) × (start_of parts i ≤ place)
-  pub known : (i place point : ℕ) → i < length parts → start_of parts i ≤ place → place < length path → Has (heads (slice_index path place)) point
+  pub known : (i place point : ℕ) → i < length parts → start_of parts i ≤ place → place < length path
+      → Has (heads (slice_index path place)) point
       → Known status todo held (start_of parts i) (todo_of parts i) point
   pub pending : (at : ℕ) → at < length todo → IsPending heads path parts at (slice_index todo at)
   pub forth : (p q : ℕ) → p ≤ q → q < length path → Goes heads (slice_index path p) (slice_index path q)
-  pub back_in : (p q : ℕ) → p ≤ q → q < length path → ((i : ℕ) → i < length parts → start_of parts i ≤ q → start_of parts i ≤ p)
+  pub back_in : (p q : ℕ) → p ≤ q → q < length path
+      → ((i : ℕ) → i < length parts → start_of parts i ≤ q → start_of parts i ≤ p)
       → Goes heads (slice_index path q) (slice_index path p)
 
 -- of all points that are done those are marked that lead to another child and back
 pub record IsReported (heads : ℕ → List ℕ) (count : ℕ) (status : List Status) (marks : List Bool) : Type 0 where
   pub size : length marks ≡ count
   pub sound : (place : ℕ) → is_marked marks place ≡ true → Circles heads count place
-  pub whole : (place : ℕ) → place < count → status_of status place ≡ Done → Circles heads count place → is_marked marks place ≡ true
+  pub whole : (place : ℕ) → place < count → status_of status place ≡ Done → Circles heads count place
+      → is_marked marks place ≡ true
 
 abbrev pub heads_in : List Link → Naming → ℕ → List ℕ
 heads_in kids naming point = heads_of kids (lists_of naming.namers.items) point
@@ -72,7 +80,8 @@ heads_in kids naming point = heads_of kids (lists_of naming.namers.items) point
 -- a search among the children and their ids
 pub record IsSearching (kids : List Link) (naming : Naming) (search : Search) (held : Option ℕ) : Type 0 where
   pub size : length search.status.items ≡ length kids + length kids
-  pub path : IsSearch (heads_in kids naming) search.status.items search.path.items search.todo.items search.parts.items held
+  pub path : IsSearch (heads_in kids naming) search.status.items search.path.items search.todo.items search.parts.items
+      held
   pub reported : IsReported (heads_in kids naming) (length kids) search.status.items search.members.items
 
 -- a point that is not fresh does not become so
@@ -120,23 +129,29 @@ unfoldable pub fresh : List Status → ℕ
 fresh status = count_by is_fresh status
 
 -- points of a stretch of the path that are done now, and the children among them marked if they are two
-pub record Settles (two : Bool) (count start end : ℕ) (path : List ℕ) (old new : List Status) (old_marks new_marks : List Bool) : Type 0 where
+pub record Settles (two : Bool) (count start end : ℕ) (path : List ℕ) (old new : List Status)
+    (old_marks new_marks : List Bool) : Type 0 where
   pub size : length new ≡ length old
   pub marks_size : length new_marks ≡ length old_marks
   pub done : (place : ℕ) → start ≤ place → place < end → status_of new (slice_index path place) ≡ Done
-  pub same : (point : ℕ) → ((place : ℕ) → start ≤ place → place < end → slice_index path place ≢ point) → status_of new point ≡ status_of old point
+  pub same : (point : ℕ) → ((place : ℕ) → start ≤ place → place < end → slice_index path place ≢ point)
+      → status_of new point ≡ status_of old point
   pub keeps : (point : ℕ) → is_marked old_marks point ≡ true → is_marked new_marks point ≡ true
-  pub marks : (place : ℕ) → start ≤ place → place < end → two ≡ true → slice_index path place < count → is_marked new_marks (slice_index path place) ≡ true
+  pub marks : (place : ℕ) → start ≤ place → place < end → two ≡ true → slice_index path place < count
+      → is_marked new_marks (slice_index path place) ≡ true
   pub only : (point : ℕ) → is_marked new_marks point ≡ true
-      → (is_marked old_marks point ≡ true) ⊎ ((two ≡ true) × (place : ℕ) × (start ≤ place) × (place < end) × (slice_index path place ≡ point) × (point < count))
+      → (is_marked old_marks point ≡ true) ⊎
+      ((two ≡ true) × (place : ℕ) × (start ≤ place) × (place < end) × (slice_index path place ≡ point)
+      × (point < count))
   pub fewer_fresh : fresh new ≤ fresh old
 
 -- points of a path from a place on that are done now, and the children among them marked if they are two
-pub record Leaves (count start : ℕ) (path : List ℕ) (old new : List Status) (old_marks new_marks : List Bool) : Type 0 where
-  pub two : Bool
-  pub yes : two ≡ true → HasTwo count start path
-  pub no : HasTwo count start path → two ≡ true
-  pub settles : Settles two count start (length path) path old new old_marks new_marks
+pub record Leaves (count start : ℕ) (path : List ℕ) (old new : List Status) (old_marks new_marks : List Bool) : Type 0
+  where
+    pub two : Bool
+    pub yes : two ≡ true → HasTwo count start path
+    pub no : HasTwo count start path → two ≡ true
+    pub settles : Settles two count start (length path) path old new old_marks new_marks
 
 -- what remains: the edges to follow, the parts, and for each fresh point itself and at most the longest list
 unfoldable pub search_effort : List (List ℕ) → List Status → ℕ → ℕ → ℕ

@@ -1,5 +1,6 @@
 -- Which children name which ids on an axis, as lists by the last child with an id.
-use Rattle.std.specs.Prelude.{◌≡◌, ℕ, ◌<◌, ◌==◌, true, if◌then◌else◌, List, [], ◌∷◌, length, map, nat_eq, Option, Some, IfSome, slice_index, slice_index_or, Vec, ◌++◌, None, slice_set}
+use Rattle.std.specs.Prelude.{◌≡◌, ℕ, ◌<◌, ◌==◌, true, if◌then◌else◌, List, [], ◌∷◌, length, map, nat_eq, Option, Some}
+use Rattle.std.specs.Prelude.{IfSome, slice_index, slice_index_or, Vec, ◌++◌, None, slice_set}
 use Rattle.std.specs.declared.alloc.Global.{Global}
 use Rattle.indexmap.specs.IndexMap.{get as place_in}
 use Rattle.relative_layout.specs.declared.ordering.naming.Naming.{Naming}
@@ -13,10 +14,13 @@ use Rattle.view_model.specs.Verbs as verb
 -- the ids that rules name on an axis, filled up with zeros
 abbrev pub padded_ids : Axis → Rules → List ℕ
 padded_ids Horizontal rules =
-    value_of rules verb.left_of ∷ value_of rules verb.right_of ∷ value_of rules verb.align_left ∷ value_of rules verb.align_right
-    ∷ value_of rules verb.start_of ∷ value_of rules verb.end_of ∷ value_of rules verb.align_start ∷ value_of rules verb.align_end ∷ []
+    value_of rules verb.left_of ∷ value_of rules verb.right_of ∷ value_of rules verb.align_left
+    ∷ value_of rules verb.align_right
+    ∷ value_of rules verb.start_of ∷ value_of rules verb.end_of ∷ value_of rules verb.align_start
+    ∷ value_of rules verb.align_end ∷ []
 padded_ids Vertical rules =
-    value_of rules verb.above ∷ value_of rules verb.below ∷ value_of rules verb.align_top ∷ value_of rules verb.align_bottom ∷ 0 ∷ 0 ∷ 0 ∷ 0 ∷ []
+    value_of rules verb.above ∷ value_of rules verb.below ∷ value_of rules verb.align_top
+    ∷ value_of rules verb.align_bottom ∷ 0 ∷ 0 ∷ 0 ∷ 0 ∷ []
 
 abbrev pub link_at : List Link → ℕ → Link
 link_at kids place = slice_index_or kids place no_link
@@ -50,14 +54,17 @@ NamesId axis kids named place = names axis (link_at kids place).rules (id_at kid
 
 -- the ids that a child names on an axis are only those of children before it
 abbrev pub NamesBack : Axis → List Link → ℕ → Type 0
-NamesBack axis kids place = (k : ℕ) → k < 8 → IfSome (last_with_id kids (slice_index (padded_ids axis (link_at kids place).rules) k)) (λ last. last < place)
+NamesBack axis kids place =
+    (k : ℕ) → k < 8
+    → IfSome (last_with_id kids (slice_index (padded_ids axis (link_at kids place).rules) k)) (λ last. last < place)
 
 -- for the last child with an id, the children below a number that name it; no other children are in any list
 pub record AreNamers (axis : Axis) (kids : List Link) (below : ℕ) (rows : List (List ℕ)) : Type 0 where
   pub size : length rows ≡ length kids
   pub inside : (q p : ℕ) → p < length (row_at rows q) → slice_index (row_at rows q) p < length kids
   pub sound : (q p : ℕ) → p < length (row_at rows q) → NamesId axis kids q (slice_index (row_at rows q) p)
-  pub whole : (q place : ℕ) → place < below → last_with_id kids (id_at kids q) ≡ Some q → NamesId axis kids q place → Has (row_at rows q) place
+  pub whole : (q place : ℕ) → place < below → last_with_id kids (id_at kids q) ≡ Some q → NamesId axis kids q place
+      → Has (row_at rows q) place
 
 -- the tables of some children on the axis that they are for
 pub record IsNaming (kids : List Link) (naming : Naming) : Type 0 where

@@ -12,7 +12,8 @@ id_point count (Some last) = (count + last) ∷ []
 -- where a point leads: a child to its id, an id to the children that name it
 unfoldable pub heads_of : List Link → List (List ℕ) → ℕ → List ℕ
 heads_of kids rows point =
-    if nat_lt point (length kids) then id_point (length kids) (last_with_id kids (id_at kids point)) else row_at rows (point - length kids)
+    if nat_lt point (length kids) then id_point (length kids) (last_with_id kids (id_at kids point))
+    else row_at rows (point - length kids)
 
 -- from one point to another, in no step or more
 pub data Goes (heads : ℕ → List ℕ) : ℕ → ℕ → Type 0 where
@@ -21,4 +22,5 @@ pub data Goes (heads : ℕ → List ℕ) : ℕ → ℕ → Type 0 where
 
 -- a point that leads to another one below a number, and back
 abbrev pub Circles : (ℕ → List ℕ) → ℕ → ℕ → Type 0
-Circles heads count point = (other : ℕ) × (other < count) × (other ≢ point) × Goes heads point other × Goes heads other point
+Circles heads count point =
+    (other : ℕ) × (other < count) × (other ≢ point) × Goes heads point other × Goes heads other point

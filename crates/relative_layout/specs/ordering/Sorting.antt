@@ -14,13 +14,15 @@ use Rattle.view_model.specs.SiblingRules.{leads}
 -- a cycle on the horizontal axis, or one on the vertical if there is none on the horizontal; memory may run out in
 -- either case
 abbrev pub IsFaultOf : List Link → OrderFault → Type 0
-IsFaultOf kids (fault.Cycle true members) = IsAcyclic (leads Horizontal kids) × IsCycle (leads Vertical kids) (length kids) members.items
+IsFaultOf kids (fault.Cycle true members) =
+    IsAcyclic (leads Horizontal kids) × IsCycle (leads Vertical kids) (length kids) members.items
 IsFaultOf kids (fault.Cycle false members) = IsCycle (leads Horizontal kids) (length kids) members.items
 IsFaultOf kids fault.NoMemory = Unit {0}
 
 -- an order on an axis, if no child reaches itself, or the members of its cycles
 abbrev pub IsSorting : Axis → List Link → Sorting → Type 0
-IsSorting axis kids (sorting.Order order) = IsOrder (leads axis kids) (length kids) order.items × IsAcyclic (leads axis kids)
+IsSorting axis kids (sorting.Order order) =
+    IsOrder (leads axis kids) (length kids) order.items × IsAcyclic (leads axis kids)
 IsSorting axis kids (sorting.Cycle members) = IsCycle (leads axis kids) (length kids) members.items
 
 -- an order that can't be made longer: each child that is not taken waits for another that is not

@@ -1,5 +1,7 @@
 -- Children that are taken into an order one after the other, each after all to which it leads.
-use Rattle.std.specs.Prelude.{◌≡◌, ◌⊎◌, ℕ, zero, suc, ◌+◌, ◌-◌, ◌*◌, ◌<◌, ◌==◌, Bool, true, false, ◌&&◌, not, if◌then◌else◌, nat_lt, List, length, Option, None, Some, count_by, slice_index, slice_index_or, slice_set, sum_by}
+use Rattle.std.specs.Prelude.{◌≡◌, ◌⊎◌, ℕ, zero, suc, ◌+◌, ◌-◌, ◌*◌, ◌<◌, ◌==◌, Bool, true, false, ◌&&◌, not}
+use Rattle.std.specs.Prelude.{if◌then◌else◌, nat_lt, List, length, Option, None, Some, count_by, slice_index}
+use Rattle.std.specs.Prelude.{slice_index_or, slice_set, sum_by}
 use Rattle.relative_layout.specs.ordering.Naming.{Has, id_at}
 use Rattle.view_model.specs.declared.relative.Axis.{Axis}
 use Rattle.view_model.specs.declared.relative.Link.{Link}
@@ -47,12 +49,14 @@ waits_for kids taken own id = not (id == 0) && nat_lt (if id == own then 1 else 
 -- for the last child with an id, how many with it are not taken
 pub record AreCounts (kids : List Link) (taken : List Bool) (left : List ℕ) : Type 0 where
   pub size : length left ≡ length kids
-  pub each : (q : ℕ) → last_with_id kids (id_at kids q) ≡ Some q → slice_index left q ≡ left_with kids taken (id_at kids q)
+  pub each : (q : ℕ) → last_with_id kids (id_at kids q) ≡ Some q
+      → slice_index left q ≡ left_with kids taken (id_at kids q)
 
 -- the same, of the children below a number, none of which is taken
 pub record CountsBelow (kids : List Link) (below : ℕ) (left : List ℕ) : Type 0 where
   pub size : length left ≡ length kids
-  pub each : (q : ℕ) → last_with_id kids (id_at kids q) ≡ Some q → slice_index left q ≡ count_below (λ place. id_at kids place == id_at kids q) below
+  pub each : (q : ℕ) → last_with_id kids (id_at kids q) ≡ Some q
+      → slice_index left q ≡ count_below (λ place. id_at kids place == id_at kids q) below
 
 -- counts with one more for a last child, if it is given
 abbrev pub counted_up : Option ℕ → List ℕ → List ℕ
@@ -65,12 +69,14 @@ has_more None own left = false
 has_more (Some last) own left = nat_lt own (slice_index left last)
 
 -- each child that is not taken is still to be looked at, or waits
-pub record IsTaking (axis : Axis) (kids : List Link) (left : List ℕ) (taken : List Bool) (todo order : List ℕ) : Type 0 where
-  pub size : length taken ≡ length kids
-  pub partial : IsPartial (leads axis kids) (length kids) order taken
-  pub counts : AreCounts kids taken left
-  pub inside : (p : ℕ) → p < length todo → slice_index todo p < length kids
-  pub pending : (place : ℕ) → place < length kids → is_marked taken place ≡ false → Has todo place ⊎ Waits (leads axis kids) taken place
+pub record IsTaking (axis : Axis) (kids : List Link) (left : List ℕ) (taken : List Bool) (todo order : List ℕ) : Type 0
+  where
+    pub size : length taken ≡ length kids
+    pub partial : IsPartial (leads axis kids) (length kids) order taken
+    pub counts : AreCounts kids taken left
+    pub inside : (p : ℕ) → p < length todo → slice_index todo p < length kids
+    pub pending : (place : ℕ) → place < length kids → is_marked taken place ≡ false
+        → Has todo place ⊎ Waits (leads axis kids) taken place
 
 -- what remains: what is to be looked at, and for each that is not taken itself and at most the longest list
 unfoldable pub effort : List (List ℕ) → List Bool → ℕ → ℕ

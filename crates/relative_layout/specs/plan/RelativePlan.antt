@@ -20,7 +20,8 @@ pub record IsExtent (extent : Extent) (axis : Axis) (own : Facts) (specs : Specs
   pub of_most : extent.most ≡ greatest_reach axis kids
 
 -- a plan in a phase of this axis, with these children taken from left to right and these from top to bottom
-pub record HasTakenOnAxis (plan : RelativePlan) (axis : Axis) (own : Facts) (specs : Specs) (across down : List Spanned) : Type 0 where
+pub record HasTakenOnAxis (plan : RelativePlan) (axis : Axis) (own : Facts) (specs : Specs) (across down : List Spanned)
+    : Type 0 where
   pub of_axis : plan.axis ≡ axis
   pub of_rtl : plan.rtl ≡ own.rtl
   pub of_across : IsExtent plan.across Horizontal own specs across
@@ -34,18 +35,21 @@ RepresentsRelative plan own specs (first ∷ second ∷ more) taken = ⊥
 
 -- a child as it is taken with this size
 abbrev pub spanned_as : Facts → Specs → List (List Spanned) → Facts → Anchors → Size → Spanned
-spanned_as own specs past kid anchors size = record { facts = kid; span = span_on (phase_axis past) own specs kid anchors size }
+spanned_as own specs past kid anchors size =
+    record { facts = kid; span = span_on (phase_axis past) own specs kid anchors size }
 
 -- what is known then of its sides
 abbrev pub edges_as : Facts → Specs → List (List Spanned) → Facts → Edges → Anchors → Size → Edges
-edges_as own specs past kid edges anchors size = edges_with (phase_axis past) (span_on (phase_axis past) own specs kid anchors size) edges
+edges_as own specs past kid edges anchors size =
+    edges_with (phase_axis past) (span_on (phase_axis past) own specs kid anchors size) edges
 
 abbrev pub is_first : List (List Spanned) → Bool
 is_first [] = true
 is_first (first ∷ more) = false
 
 -- the plan at the end of a phase, once it has returned whether another follows: one does after the first
-pub record TurnsRelative (plan : RelativePlan) (own : Facts) (specs : Specs) (past : List (List Spanned)) (taken : List Spanned) (answer : Bool) : Type 0 where
+pub record TurnsRelative (plan : RelativePlan) (own : Facts) (specs : Specs) (past : List (List Spanned))
+    (taken : List Spanned) (answer : Bool) : Type 0 where
   pub answers : answer ≡ is_first past
   pub follows : answer ≡ true → RepresentsRelative plan own specs (past ++ taken ∷ []) []
   pub ends : answer ≡ false → RepresentsRelative plan own specs past taken

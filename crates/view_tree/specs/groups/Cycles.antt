@@ -1,5 +1,6 @@
 -- Cycles among the children of relative layouts, and why they make a tree refused.
-use Rattle.std.specs.Prelude.{◌≡◌, ℕ, Bool, true, false, List, length, map, slice_index, Option, Some, None, Result, Ok, Err}
+use Rattle.std.specs.Prelude.{◌≡◌, ℕ, Bool, true, false, List, length, map, slice_index, Option, Some, None, Result, Ok}
+use Rattle.std.specs.Prelude.{Err}
 use Rattle.view_model.specs.declared.refusal.Member.{Member}
 use Rattle.view_model.specs.declared.refusal.Member.TheVariants as member
 use Rattle.view_model.specs.Numbers.{cycle}
@@ -27,7 +28,8 @@ pub record IsFree (links : List Link) : Type 0 where
 -- the members of the cycles on the horizontal axis, or on the vertical if there are none on the horizontal
 abbrev pub AreCyclic : List Link → Bool → List ℕ → Type 0
 AreCyclic links false members = IsCycle (leads Horizontal links) (length links) members
-AreCyclic links true members = IsAcyclic (leads Horizontal links) × IsCycle (leads Vertical links) (length links) members
+AreCyclic links true members =
+    IsAcyclic (leads Horizontal links) × IsCycle (leads Vertical links) (length links) members
 
 -- there is a cycle, and its members are reported under these names
 pub record IsCycleReported (name : ℕ → Member) (links : List Link) (refusal : PlainRefusal) : Type 0 where
@@ -42,16 +44,20 @@ view_member kids place = member.View (slice_index (numbers_in kids) place)
 
 -- no relative layout of a tree has a cycle
 abbrev pub HasNoCycle : Forest PlainView → Type 0
-HasNoCycle tree = EveryBranch (λ (view : PlainView) (kids : Forest PlainView). is_relative view.class ≡ true → IsFree (links_in kids)) tree
+HasNoCycle tree =
+    EveryBranch (λ (view : PlainView) (kids : Forest PlainView). is_relative view.class ≡ true → IsFree (links_in kids))
+    tree
 
 -- the result reports a cycle with these members, unless memory runs out
 abbrev pub IsReportedFrom : (ℕ → Member) → Bool → List ℕ → Fault → Type 0
-IsReportedFrom name down members (fault.Refused refusal) = plain_refusal refusal ≡ record { number = cycle; reason = Cycle down (map name members) }
+IsReportedFrom name down members (fault.Refused refusal) =
+    plain_refusal refusal ≡ record { number = cycle; reason = Cycle down (map name members) }
 IsReportedFrom name down members fault.NoMemory = Unit {0}
 
 -- the children of a view, as rules read them, once the one of a number is another
 abbrev pub links_below : Views → ℕ → ℕ → Link → List Link
-links_below views parent number link = linked_in number link (views_of (children_of_first (part_from parent views.tree)))
+links_below views parent number link =
+    linked_in number link (views_of (children_of_first (part_from parent views.tree)))
 
 -- orders of the children of a view's parent, once the view has another id and other rules, or why there are none; if
 -- the parent is no relative layout there is nothing to put in order, and no new orders where those of before stay right
@@ -59,9 +65,14 @@ abbrev pub AreNewOrders : Views → ℕ → Link → Option ℕ → Result (Opti
 AreNewOrders views view link None (Ok None) = Unit {0}
 AreNewOrders views view link None (Ok (Some orders)) = ⊥
 AreNewOrders views view link None (Err fault) = ⊥
-AreNewOrders views view link (Some parent) (Ok None) = is_relative (class_of views parent) ≡ true → AreOrders (links_below views parent (number_of views view) link) (orders_of views parent)
-AreNewOrders views view link (Some parent) (Ok (Some orders)) = (is_relative (class_of views parent) ≡ true) × AreOrders (links_below views parent (number_of views view) link) (plain_orders orders)
+AreNewOrders views view link (Some parent) (Ok None) =
+    is_relative (class_of views parent) ≡ true
+    → AreOrders (links_below views parent (number_of views view) link) (orders_of views parent)
+AreNewOrders views view link (Some parent) (Ok (Some orders)) =
+    (is_relative (class_of views parent) ≡ true)
+    × AreOrders (links_below views parent (number_of views view) link) (plain_orders orders)
 AreNewOrders views view link (Some parent) (Err (fault.Refused refusal)) =
     (is_relative (class_of views parent) ≡ true)
-    × IsCycleReported (view_member (views_of (children_of_first (part_from parent views.tree)))) (links_below views parent (number_of views view) link) (plain_refusal refusal)
+    × IsCycleReported (view_member (views_of (children_of_first (part_from parent views.tree))))
+    (links_below views parent (number_of views view) link) (plain_refusal refusal)
 AreNewOrders views view link (Some parent) (Err fault.NoMemory) = Unit {0}

@@ -11,4 +11,5 @@ IsAboveRules highest rules = (axis : Axis) (id : ℕ) → names axis rules id �
 
 -- no child names an id above this one
 abbrev pub IsAboveNamed : ℕ → List Link → Type 0
-IsAboveNamed highest links = (place : ℕ) → place < length links → IsAboveRules highest (slice_index_or links place no_link).rules
+IsAboveNamed highest links =
+    (place : ℕ) → place < length links → IsAboveRules highest (slice_index_or links place no_link).rules

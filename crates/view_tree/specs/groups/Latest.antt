@@ -1,5 +1,6 @@
 -- The last children that have each id, by their numbers, which rise in list order.
-use Rattle.std.specs.Prelude.{◌≡◌, ◌≢◌, ℕ, ◌<◌, ◌≤◌, List, length, nat_eq, slice_index, slice_index_or, Option, Some, None}
+use Rattle.std.specs.Prelude.{◌≡◌, ◌≢◌, ℕ, ◌<◌, ◌≤◌, List, length, nat_eq, slice_index, slice_index_or, Option, Some}
+use Rattle.std.specs.Prelude.{None}
 use Rattle.std.specs.Map.{lookup}
 use Rattle.view_model.specs.declared.relative.Link.{Link}
 use Rattle.view_model.specs.SiblingRules.{no_link}
@@ -19,14 +20,17 @@ IsReachedIn latest id number = IsReached number (lookup (nat_eq id) latest)
 -- the numbers of children with an id are not above the one that a table has for the id; 0 is no id
 abbrev pub AreReached : List (ℕ × ℕ) → List Link → List ℕ → Type 0
 AreReached latest links kids =
-    (p : ℕ) → p < length links → (slice_index_or links p no_link).id ≢ 0 → IsReachedIn latest (slice_index_or links p no_link).id (slice_index kids p)
+    (p : ℕ) → p < length links → (slice_index_or links p no_link).id ≢ 0
+    → IsReachedIn latest (slice_index_or links p no_link).id (slice_index kids p)
 
 -- the child of a number has an id, unless that is 0, and all that was reached still is
 pub record HasNoted (id number : ℕ) (old new : List (ℕ × ℕ)) : Type 0 where
   pub own : id ≢ 0 → IsReachedIn new id number
   pub others : (other reached : ℕ) → IsReachedIn old other reached → IsReachedIn new other reached
 
--- the numbers of children with this id are not above the given one, if there is one, and rise; without one, no child has it
+-- the numbers of children with this id are not above the given one, if there is one, and rise; without one, no child
+-- has it
 pub record IsLatest (id : ℕ) (links : List Link) (kids : List ℕ) (latest : Option ℕ) : Type 0 where
   pub rising : AreRising kids
-  pub reached : id ≢ 0 → (p : ℕ) → p < length links → (slice_index_or links p no_link).id ≡ id → IsReached (slice_index kids p) latest
+  pub reached : id ≢ 0 → (p : ℕ) → p < length links → (slice_index_or links p no_link).id ≡ id
+      → IsReached (slice_index kids p) latest

@@ -1,5 +1,6 @@
 -- The orders in which relative layouts measure their children, and what is kept of these beside the tree.
-use Rattle.std.specs.Prelude.{ℕ, suc, ◌≡◌, ◌≢◌, ◌<◌, ◌≤◌, ◌==◌, ◌-◌, ◌++◌, Bool, true, false, List, [], ◌∷◌, length, map, if◌then◌else◌, Option, Some, None, nat_eq, option_map, slice_get}
+use Rattle.std.specs.Prelude.{ℕ, suc, ◌≡◌, ◌≢◌, ◌<◌, ◌≤◌, ◌==◌, ◌-◌, ◌++◌, Bool, true, false, List, [], ◌∷◌, length}
+use Rattle.std.specs.Prelude.{map, if◌then◌else◌, Option, Some, None, nat_eq, option_map, slice_get}
 use Rattle.std.specs.List.{remove}
 use Rattle.std.specs.Map.{lookup}
 use Rattle.std.specs.Option.{unwrap_or}
@@ -69,7 +70,16 @@ plain_group group = record {
 }
 
 abbrev pub no_group : PlainGroup
-no_group = record { orders = no_orders; kids = []; highest = 0; latest = []; complete = true; straight_across = true; straight_down = true }
+no_group =
+    record {
+      orders = no_orders;
+      kids = [];
+      highest = 0;
+      latest = [];
+      complete = true;
+      straight_across = true;
+      straight_down = true;
+    }
 
 -- what a table of groups has under a number
 abbrev pub group_at : IndexMap ℕ Group (BuildHasherDefault FoldHasher) → ℕ → Option PlainGroup
@@ -88,7 +98,9 @@ pub record HasKidRoom (group : Group) : Type 0 where
 -- a group with one more child, which is tied to no other
 abbrev pub with_kid : ℕ → PlainGroup → PlainGroup
 with_kid kid group = record {
-  orders = record { across = group.orders.across ++ length group.kids ∷ []; down = group.orders.down ++ length group.kids ∷ [] };
+  orders =
+      record
+      { across = group.orders.across ++ length group.kids ∷ []; down = group.orders.down ++ length group.kids ∷ [] };
   kids = group.kids ++ kid ∷ [];
   highest = group.highest;
   latest = group.latest;
@@ -140,7 +152,8 @@ pub record IsWithoutKid (kid : ℕ) (old new : PlainGroup) : Type 0 where
   pub highest : new.highest ≡ old.highest
   pub latest : new.latest ≡ old.latest
   pub complete : new.complete ≡ old.complete
-  pub marked : length old.orders.across ≡ length old.kids → length old.orders.down ≡ length old.kids → HasRightMarks old → HasRightMarks new
+  pub marked : length old.orders.across ≡ length old.kids → length old.orders.down ≡ length old.kids → HasRightMarks old
+      → HasRightMarks new
 
 -- how the removal of a view changes a group: it loses the child, if the view was one
 abbrev pub IsTaken : ℕ → PlainGroup → PlainGroup → Type 0

@@ -13,7 +13,8 @@ StaysWithin gone old new = (a b : ℕ) → new a b ≡ true → old (passing gon
 -- an order of all places but one, given one of all
 abbrev pub IsLowered : ℕ → List ℕ → List ℕ → Type 0
 IsLowered gone old new =
-    (before after : ℕ → ℕ → Bool) (count : ℕ) → gone < count + 1 → IsOrder before (count + 1) old → StaysWithin gone before after → IsOrder after count new
+    (before after : ℕ → ℕ → Bool) (count : ℕ) → gone < count + 1 → IsOrder before (count + 1) old
+    → StaysWithin gone before after → IsOrder after count new
 
 -- each place of an order is its own
 abbrev pub IsStraight : List ℕ → Type 0

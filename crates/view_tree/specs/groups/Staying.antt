@@ -8,7 +8,8 @@ use Rattle.view_tree.specs.Rows.{Row}
 
 -- the last place of an order is that of a number
 abbrev pub IsLastIn : ℕ → List ℕ → List ℕ → Type 0
-IsLastIn number numbers order = (0 < length order) × (slice_index numbers (slice_index order (length order - 1)) ≡ number)
+IsLastIn number numbers order =
+    (0 < length order) × (slice_index numbers (slice_index order (length order - 1)) ≡ number)
 
 -- the child of a number has this place, in the list of children and in an order
 pub record IsInOwnPlace (number : ℕ) (numbers order : List ℕ) (place : ℕ) : Type 0 where
@@ -40,7 +41,8 @@ pub record IsMarkedOrder (straight : Bool) (numbers order kids : List ℕ) : Typ
 abbrev pub AreBefore : ℕ → ℕ → List ℕ → List ℕ → Forest Row → Type 0
 AreBefore id number numbers order Nothing = Unit {0}
 AreBefore id number numbers order (Branch row kids siblings) =
-    (row.view.facts.id ≡ id → IsBefore row.view.number number numbers order) × AreBefore id number numbers order siblings
+    (row.view.facts.id ≡ id → IsBefore row.view.number number numbers order)
+    × AreBefore id number numbers order siblings
 
 -- an id is 0 or the one of before, or all views of a list that have it come before that of a number
 abbrev pub MayName : ℕ → ℕ → ℕ → List ℕ → List ℕ → Forest Row → Type 0
@@ -48,9 +50,12 @@ MayName before id number numbers order list = (id ≡ 0) ⊎ (id ≡ before) ⊎
 
 -- so are all ids of the second list, by those of the first
 abbrev pub MayNameAll : List ℕ → List ℕ → ℕ → List ℕ → List ℕ → Forest Row → Type 0
-MayNameAll before after number numbers order list = (k : ℕ) → k < 8 → MayName (slice_index before k) (slice_index after k) number numbers order list
+MayNameAll before after number numbers order list =
+    (k : ℕ) → k < 8 → MayName (slice_index before k) (slice_index after k) number numbers order list
 
 -- no view of a list names this id, on either axis
 abbrev pub NamesNone : ℕ → Forest Row → Type 0
 NamesNone id Nothing = Unit {0}
-NamesNone id (Branch row kids siblings) = (names Horizontal row.view.facts.rules id ≡ false) × (names Vertical row.view.facts.rules id ≡ false) × NamesNone id siblings
+NamesNone id (Branch row kids siblings) =
+    (names Horizontal row.view.facts.rules id ≡ false) × (names Vertical row.view.facts.rules id ≡ false)
+    × NamesNone id siblings

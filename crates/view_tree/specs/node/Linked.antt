@@ -1,13 +1,15 @@
 -- The neighbours of a view.
 use Rattle.std.specs.Prelude.{◌≡◌, ℕ, [], ◌∷◌, IfSome, MatchOption, None}
 use Rattle.view_tree.specs.declared.node.links.Links.{Links}
-use Rattle.view_tree.specs.Rows.{ancestors, children_of_first, first_key, last_key, later_siblings, part_from, previous_key, rest_from}
+use Rattle.view_tree.specs.Rows.{ancestors, children_of_first, first_key, last_key, later_siblings, part_from}
+use Rattle.view_tree.specs.Rows.{previous_key, rest_from}
 use Rattle.view_tree.specs.Views.{IsLive, Views}
 
 -- these are the neighbours of the view of a key
 pub record AreLinks (views : Views) (key : ℕ) (links : Links) : Type 0 where
   -- its parent, the nearest of the views around it
-  pub path : MatchOption links.parent (ancestors key views.tree ≡ []) (λ parent. ancestors key views.tree ≡ parent ∷ ancestors parent views.tree)
+  pub path : MatchOption links.parent (ancestors key views.tree ≡ [])
+      (λ parent. ancestors key views.tree ≡ parent ∷ ancestors parent views.tree)
   -- its first child, and all its children as the views from that one on
   pub first : links.first ≡ first_key (children_of_first (part_from key views.tree))
   pub below : rest_from links.first views.tree ≡ children_of_first (part_from key views.tree)

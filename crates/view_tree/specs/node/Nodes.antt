@@ -1,7 +1,8 @@
 -- How the nodes of a tree represent its views.
 use Rattle.std.specs.declared.hash.BuildHasherDefault.{BuildHasherDefault}
 use Rattle.std.specs.declared.hash.FoldHasher.{FoldHasher}
-use Rattle.std.specs.Prelude.{ℕ, zero, suc, ◌≡◌, ◌<◌, ◌≤◌, ◌==◌, nat_eq, map, Bool, false, [], Option, Some, None, if◌then◌else◌, option_map, ◌⊎◌}
+use Rattle.std.specs.Prelude.{ℕ, zero, suc, ◌≡◌, ◌<◌, ◌≤◌, ◌==◌, nat_eq, map, Bool, false, [], Option, Some, None}
+use Rattle.std.specs.Prelude.{if◌then◌else◌, option_map, ◌⊎◌}
 use Rattle.slab.specs.Slab.{Slab, get, slab_len}
 use Rattle.slab_link.specs.Numbers.{links_end}
 use Rattle.indexmap.specs.IndexMap.{IndexMap, get as get_key, hasher_of}
@@ -11,7 +12,8 @@ use Rattle.view_model.specs.Layout.{unscrolled}
 use Rattle.view_model.specs.PlainTree.{PlainView}
 use Rattle.view_tree.specs.table.Holders.{holders}
 use Rattle.view_tree.specs.groups.Ordering.{HasNoOther, IsGrouped, group_at, orders_in}
-use Rattle.view_tree.specs.Rows.{Row, later_siblings, count_where, first_key, key_where, keys_where, last_key, count_of_key}
+use Rattle.view_tree.specs.Rows.{Row, later_siblings, count_where, first_key, key_where, keys_where, last_key}
+use Rattle.view_tree.specs.Rows.{count_of_key}
 use Rattle.view_tree.specs.Views.{Held, IsTree, Views, no_counts, plain_of}
 use Rattle.view_tree.specs.declared.table.ids.Holders.{Holders}
 use Rattle.view_tree.specs.declared.node.Node.{Node}
@@ -28,7 +30,8 @@ pub record PlainNode : Type 0 where
 
 -- the view of a node, as it is in a row
 abbrev pub view_of_node : Node → PlainView
-view_of_node node = unscrolled (record { number = node.number; class = node.class; facts = node.facts; text = node.text })
+view_of_node node =
+    unscrolled (record { number = node.number; class = node.class; facts = node.facts; text = node.text })
 
 abbrev pub links_of : Node → PlainNode
 links_of node = record {
@@ -90,7 +93,8 @@ links_for row parent before kids siblings = record {
 abbrev pub RepresentsPart : (ℕ → Option PlainNode) → Option ℕ → Option ℕ → Forest Row → Type 0
 RepresentsPart at parent before Nothing = Unit {0}
 RepresentsPart at parent before (Branch row kids siblings) =
-    (at row.key ≡ Some (links_for row parent before kids siblings)) × RepresentsPart at (Some row.key) None kids × RepresentsPart at parent (Some row.key) siblings
+    (at row.key ≡ Some (links_for row parent before kids siblings)) × RepresentsPart at (Some row.key) None kids
+    × RepresentsPart at parent (Some row.key) siblings
 
 -- the parent of a node, or a sibling right beside it
 abbrev pub IsAround : PlainNode → ℕ → Type 0
@@ -131,7 +135,9 @@ last_child at (Some parent) = last_named (at parent)
 -- what nodes hold once a view was added under this key, the last child of its parent, after a sibling
 abbrev pub linked : (ℕ → Option PlainNode) → Option ℕ → ℕ → PlainView → Option ℕ → ℕ → Option PlainNode
 linked at parent key view before =
-    changed_at (changed_at (with_node at key (record { view = unscrolled view; parent = parent; first = None; last = None; previous = before; next = None }))
+    changed_at
+    (changed_at (with_node at key (record
+    { view = unscrolled view; parent = parent; first = None; last = None; previous = before; next = None }))
     before (λ node. record node { next = Some key }))
     parent (λ node. record node { first = key_or node.first key; last = Some key })
 
@@ -141,7 +147,11 @@ unlinked at key node =
     changed_at (changed_at (changed_at (without at key)
     node.previous (λ before. record before { next = node.next }))
     node.next (λ following. record following { previous = node.previous }))
-    node.parent (λ above. record above { first = replaced_if_none node.previous node.next above.first; last = replaced_if_none node.next node.previous above.last })
+    node.parent
+    (λ above. record above {
+      first = replaced_if_none node.previous node.next above.first;
+      last = replaced_if_none node.next node.previous above.last;
+    })
 
 -- the nodes and the root represent the whole tree
 pub record RepresentsTree (at : ℕ → Option PlainNode) (root : Option ℕ) (next : ℕ) (tree : Forest Row) : Type 0 where
@@ -152,9 +162,18 @@ pub record RepresentsTree (at : ℕ → Option PlainNode) (root : Option ℕ) (n
   pub few : count_of tree < next
 
 -- the fields of a tree, apart from what is kept of relative layouts
-abbrev pub fields : Slab Node → IndexMap ℕ ℕ (BuildHasherDefault FoldHasher) → IndexMap ℕ Holders (BuildHasherDefault FoldHasher) → Option ℕ → ℕ → Inside
+abbrev pub fields : Slab Node → IndexMap ℕ ℕ (BuildHasherDefault FoldHasher)
+    → IndexMap ℕ Holders (BuildHasherDefault FoldHasher) → Option ℕ → ℕ → Inside
 fields nodes keys ids root next =
-    record { nodes = nodes; keys = keys; ids = ids; groups = hash_map [] (hasher_of keys) 0; root = root; next = next; counts = no_counts }
+    record {
+      nodes = nodes;
+      keys = keys;
+      ids = ids;
+      groups = hash_map [] (hasher_of keys) 0;
+      root = root;
+      next = next;
+      counts = no_counts;
+    }
 
 abbrev pub tree_of : Inside → Forest Row
 tree_of inside = forest inside.next (links_at inside.nodes) inside.root
@@ -162,10 +181,19 @@ tree_of inside = forest inside.next (links_at inside.nodes) inside.root
 -- what contracts see of a tree with this root, if this is the number of the view that is made next, except for the
 -- orders of relative layouts
 abbrev pub views_in : Slab Node → Option ℕ → ℕ → Views
-views_in nodes root next = record { tree = forest next (links_at nodes) root; held = map held_in nodes.slots; orders = []; next = next; counts = no_counts }
+views_in nodes root next =
+    record {
+      tree = forest next (links_at nodes) root;
+      held = map held_in nodes.slots;
+      orders = [];
+      next = next;
+      counts = no_counts;
+    }
 
 abbrev pub value_of : Inside → Views
-value_of inside = record (views_in inside.nodes inside.root inside.next) { orders = orders_in inside.groups.entries; counts = inside.counts }
+value_of inside =
+    record (views_in inside.nodes inside.root inside.next)
+    { orders = orders_in inside.groups.entries; counts = inside.counts }
 
 abbrev pub has_id : ℕ → PlainView → Bool
 has_id id view = view.facts.id == id
@@ -179,7 +207,8 @@ pub record IsPlanted (inside : Inside) : Type 0 where
   pub represents : RepresentsTree (links_at inside.nodes) inside.root inside.next (tree_of inside)
   pub kept : IsTree (value_of inside)
   pub full : slab_len inside.nodes ≡ count_of (tree_of inside)
-  pub found : (number : ℕ) → get_key nat_eq inside.keys number ≡ key_where (λ view. view.number == number) (tree_of inside)
+  pub found : (number : ℕ)
+      → get_key nat_eq inside.keys number ≡ key_where (λ view. view.number == number) (tree_of inside)
   pub named : (id : ℕ) → get_key nat_eq inside.ids id ≡ holders_of id (tree_of inside)
   pub small : (key : ℕ) → 0 < count_of_key key (tree_of inside) → key < links_end
 

@@ -15,7 +15,8 @@ runs_so rtl own = if rtl then own else not own
 
 -- a node that is to run from right to left or not, with layout requested at it
 abbrev pub running_node : Bool → Node → Node
-running_node rtl node = record node { facts = record node.facts { rtl = rtl }; state = record node.state { forced = true }; cache = [] }
+running_node rtl node =
+    record node { facts = record node.facts { rtl = rtl }; state = record node.state { forced = true }; cache = [] }
 
 -- the same, where it does not run so yet
 abbrev pub turned_node : Bool → Node → Node
@@ -26,7 +27,8 @@ abbrev pub HaveTurned : (ℕ → Option Node) → (ℕ → Option Node) → Bool
 HaveTurned old new above Nothing = Unit {0}
 HaveTurned old new above (Branch row kids siblings) =
     let rtl = dir above row.view.facts.direction in
-    (new row.key ≡ option_map (turned_node rtl) (old row.key)) × HaveTurned old new rtl kids × HaveTurned old new above siblings
+    (new row.key ≡ option_map (turned_node rtl) (old row.key)) × HaveTurned old new rtl kids
+    × HaveTurned old new above siblings
 
 -- the trees from a view on, as the nodes have them
 abbrev pub part_at : Slab Node → ℕ → Forest Row

@@ -15,7 +15,8 @@ with_holder (Some held) key = record { count = held.count + 1; sum = (held.sum +
 abbrev pub without_holder : Option Holders → ℕ → Option Holders
 without_holder None key = None
 without_holder (Some held) key =
-    if nat_lt 1 held.count then Some (record { count = held.count - 1; sum = (held.sum + (2 ^ 64 - key)) % 2 ^ 64 }) else None
+    if nat_lt 1 held.count then Some (record { count = held.count - 1; sum = (held.sum + (2 ^ 64 - key)) % 2 ^ 64 })
+    else None
 
 -- what a table has for an id that had these, once the view of this key has got an id; 0 names nothing
 abbrev pub noted : Option Holders → ℕ → ℕ → ℕ → Option Holders

@@ -40,4 +40,6 @@ running_below parent tree view = running (dir (is_rtl_at parent tree) view.facts
 -- the views at which a new direction of a view requests layout: itself, and each that runs another way from then on
 abbrev pub asked_by_direction : ℕ → Direction → Forest Row → List ℕ
 asked_by_direction view direction tree =
-    view ∷ map (λ (row : Row). row.key) (turned (λ (row : Row). row.view.facts) false (changed_at_key view (with_direction direction) tree))
+    view
+    ∷ map (λ (row : Row). row.key)
+    (turned (λ (row : Row). row.view.facts) false (changed_at_key view (with_direction direction) tree))

@@ -25,5 +25,7 @@ pub record Grafted (old : Views) (parent : Option ℕ) (sapling : Forest Seed) (
   pub first : first_key added ≡ Some key
   pub alone : later_siblings added ≡ Nothing
   pub gained : Gained old parent added new
-  pub plain : plain_of new ≡ grown_at (option_map (number_of old) parent) (directed (is_rtl_at parent old.tree) (numbered old.next sapling)) (plain_of old)
+  pub plain : plain_of new
+      ≡ grown_at (option_map (number_of old) parent) (directed (is_rtl_at parent old.tree) (numbered old.next sapling))
+      (plain_of old)
   pub next : new.next ≡ old.next + count_of sapling

@@ -1,5 +1,6 @@
 -- What is kept of relative layouts when a sapling is added, and which of their cycles are reported then.
-use Rattle.std.specs.Prelude.{◌≡◌, ℕ, suc, ◌==◌, ◌++◌, Bool, true, false, if◌then◌else◌, nat_eq, nat_lt, List, [], ◌∷◌, length, map, slice_index, Option, Some, None, Result, Ok, Err}
+use Rattle.std.specs.Prelude.{◌≡◌, ℕ, suc, ◌==◌, ◌++◌, Bool, true, false, if◌then◌else◌, nat_eq, nat_lt, List, [], ◌∷◌}
+use Rattle.std.specs.Prelude.{length, map, slice_index, Option, Some, None, Result, Ok, Err}
 use Rattle.std.specs.Option.{option_or}
 use Rattle.view_model.specs.Classes.{is_relative}
 use Rattle.view_model.specs.Cycles.{cycle_with, links_in, member_from, numbers_in}
@@ -33,7 +34,9 @@ abbrev pub following : {X : Type 0} → (ℕ → Sprout → X) → ℕ → ℕ �
 following f depth number [] = []
 following f depth number (sprout ∷ more) =
     if nat_lt depth sprout.depth
-    then (if sprout.depth == suc depth then f number sprout ∷ following f depth (suc number) more else following f depth (suc number) more)
+    then
+    (if sprout.depth == suc depth then f number sprout ∷ following f depth (suc number) more
+    else following f depth (suc number) more)
     else []
 
 abbrev pub links_following : ℕ → ℕ → List Sprout → List Link
@@ -46,7 +49,8 @@ numbers_following depth number sprouts = following (λ number sprout. number) de
 abbrev pub cycle_after : (ℕ → Member) → ℕ → Sprout → List Sprout → Option PlainRefusal
 cycle_after name number sprout more =
     if is_relative sprout.class
-    then cycle_of name (links_following sprout.depth (suc number) more) (numbers_following sprout.depth (suc number) more)
+    then cycle_of name (links_following sprout.depth (suc number) more)
+    (numbers_following sprout.depth (suc number) more)
     else None
 
 -- what is reported of views in preorder, the first of which has this number
@@ -68,13 +72,15 @@ IsOwnFor true number links numbers entries = IsEntryFor number links numbers ent
 -- an entry of a view of this number, which has these after it in preorder
 abbrev pub IsFollowing : ℕ → Sprout → List Sprout → List (ℕ × Group) → Type 0
 IsFollowing number sprout more entries =
-    IsOwnFor (is_relative sprout.class) number (links_following sprout.depth (suc number) more) (numbers_following sprout.depth (suc number) more) entries
+    IsOwnFor (is_relative sprout.class) number (links_following sprout.depth (suc number) more)
+    (numbers_following sprout.depth (suc number) more) entries
 
 -- entries of all relative layouts among views in preorder, the first of which has this number
 abbrev pub AreEntries : ℕ → List Sprout → List (ℕ × Group) → Type 0
 AreEntries number [] entries = entries ≡ []
 AreEntries number (sprout ∷ more) entries =
-    (own : List (ℕ × Group)) × (rest : List (ℕ × Group)) × (entries ≡ own ++ rest) × IsFollowing number sprout more own × AreEntries (suc number) more rest
+    (own : List (ℕ × Group)) × (rest : List (ℕ × Group)) × (entries ≡ own ++ rest) × IsFollowing number sprout more own
+    × AreEntries (suc number) more rest
 
 -- a value is made, or the reason against it is reported, unless memory runs out
 abbrev pub IsMadeUnless : {A : Type 0} → Option PlainRefusal → (A → Type 0) → Result A Fault → Type 0
@@ -84,7 +90,8 @@ IsMadeUnless reason Made (Err fault.NoMemory) = Unit {0}
 
 -- the result for children that are to be put in order
 abbrev pub IsGroupOrCycle : (ℕ → Member) → List Link → List ℕ → Result Group Fault → Type 0
-IsGroupOrCycle name links numbers result = IsMadeUnless (cycle_of name links numbers) (λ group. IsGroupFor links numbers (plain_group group)) result
+IsGroupOrCycle name links numbers result =
+    IsMadeUnless (cycle_of name links numbers) (λ group. IsGroupFor links numbers (plain_group group)) result
 
 -- some entries come after others
 pub record HasAdded (old new : List (ℕ × Group)) (Made : List (ℕ × Group) → Type 0) : Type 0 where
@@ -103,26 +110,32 @@ numbers_then views parent = numbers_in (views_of (children_of_first (part_from p
 abbrev pub parent_cycle : Views → Option ℕ → Sprout → Option PlainRefusal
 parent_cycle views None sprout = None
 parent_cycle views (Some parent) sprout =
-    if is_relative (class_of views parent) then cycle_of (member_from views.next) (links_then views parent (sprout_link sprout)) (numbers_then views parent) else None
+    if is_relative (class_of views parent) then cycle_of (member_from views.next)
+    (links_then views parent (sprout_link sprout)) (numbers_then views parent)
+    else None
 
 -- an entry of a parent below which a view is added, if it is a relative layout
 abbrev pub IsParentEntry : Views → Option ℕ → Sprout → List (ℕ × Group) → Type 0
 IsParentEntry views None sprout entries = entries ≡ []
 IsParentEntry views (Some parent) sprout entries =
-    IsOwnFor (is_relative (class_of views parent)) (number_of views parent) (links_then views parent (sprout_link sprout)) (numbers_then views parent) entries
+    IsOwnFor (is_relative (class_of views parent)) (number_of views parent)
+    (links_then views parent (sprout_link sprout)) (numbers_then views parent) entries
 
 -- what a table has under a number once entries are inserted one after another, if it had this before
 abbrev pub noted : List (ℕ × Group) → ℕ → Option PlainGroup → Option PlainGroup
 noted [] number before = before
-noted (entry ∷ entries) number before = noted entries number (if nat_eq entry.0 number then Some (plain_group entry.1) else before)
+noted (entry ∷ entries) number before =
+    noted entries number (if nat_eq entry.0 number then Some (plain_group entry.1) else before)
 
 -- what is reported if a sapling is added: of its parent, or else of its own views
 abbrev pub entries_cycle : Views → Option ℕ → List Sprout → Option PlainRefusal
 entries_cycle views parent [] = None
-entries_cycle views parent (sprout ∷ more) = option_or (parent_cycle views parent sprout) (cycle_in (member_from views.next) views.next (sprout ∷ more))
+entries_cycle views parent (sprout ∷ more) =
+    option_or (parent_cycle views parent sprout) (cycle_in (member_from views.next) views.next (sprout ∷ more))
 
 -- entries of the parent of a sapling and of the views of that
 abbrev pub AreGrafted : Views → Option ℕ → List Sprout → List (ℕ × Group) → Type 0
 AreGrafted views parent [] entries = ⊥
 AreGrafted views parent (sprout ∷ more) entries =
-    (own : List (ℕ × Group)) × IsParentEntry views parent sprout own × HasAdded own entries (AreEntries views.next (sprout ∷ more))
+    (own : List (ℕ × Group)) × IsParentEntry views parent sprout own
+    × HasAdded own entries (AreEntries views.next (sprout ∷ more))

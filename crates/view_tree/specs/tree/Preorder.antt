@@ -30,4 +30,6 @@ rows_following later key Nothing = later
 rows_following later key (Branch row kids siblings) =
     if row.key == key
     then rows siblings ++ later
-    else (if count_of_key key kids == 0 then rows_following later key siblings else rows_following (rows siblings ++ later) key kids)
+    else
+    (if count_of_key key kids == 0 then rows_following later key siblings
+    else rows_following (rows siblings ++ later) key kids)

@@ -13,7 +13,9 @@ pub record FitsBelow (views : Views) (key : ℕ) (sprouts : List Sprout) : Type 
   pub kids : Forest Seed
   pub preorder : preorder 2 kids ≡ sprouts
   pub childless : has_kids key views.tree ≡ false
-  pub taken : refusal_below (class_of views key) false (suc (length (ancestors key views.tree))) (count_of views.tree) 2 kids ≡ None
+  pub taken : refusal_below (class_of views key) false (suc (length (ancestors key views.tree))) (count_of views.tree) 2
+      kids
+      ≡ None
 
 -- views were added below one
 pub record GainedBelow (old : Views) (key : ℕ) (new : Views) : Type 0 where
