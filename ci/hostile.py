@@ -17,7 +17,7 @@ from vindaesk.common import toml
 from vindaesk.common.failures import Failure
 from vindaesk.layouts import compiler, documents, source_reader, source_writer
 from vindaesk.layouts.documents import ANDROID, End, Namespace, Node, Start
-from vindaesk.pictures import filters, png
+from vindaesk.pictures import chunks, png
 from vindaesk.scripts import names, resource_names, script
 from vindaesk.testing import configurations
 
@@ -119,10 +119,10 @@ def reads_large_pictures() -> str:
         why = quickly(lambda: "" if png.parsed(text).rows[-1] == row else "another picture")
         if why:
             return "filter %d: %s" % (kind, why)
-    head = filters.chunk(b"IHDR", struct.pack(">IIBBBBB", 5000, 5000, 8, 2, 0, 0, 0))
-    body = filters.chunk(b"IDAT", zlib.compress(bytes(5000 * 15001)))
+    head = chunks.chunk(b"IHDR", struct.pack(">IIBBBBB", 5000, 5000, 8, 2, 0, 0, 0))
+    body = chunks.chunk(b"IDAT", zlib.compress(bytes(5000 * 15001)))
     try:
-        png.parsed(filters.SIGNATURE + head + body + filters.chunk(b"IEND", b""))
+        png.parsed(chunks.SIGNATURE + head + body + chunks.chunk(b"IEND", b""))
     except ValueError as error:
         return "" if "more than 16777216" in str(error) else str(error)
     return "a picture of 25 million pixels is read"

@@ -18,7 +18,7 @@ import zlib
 from typing import Any, Dict, Iterable, Iterator, List, Optional, Sequence, Tuple, Union
 
 from running import PROGRAM, SECONDS, TOP, Checks, named
-from vindaesk.pictures import filters, png
+from vindaesk.pictures import chunks, filters, png
 
 # the status, what is written, and what is said
 Ended = Tuple[int, bytes, str]
@@ -422,14 +422,14 @@ def coded(form: int, rows: List[bytes], kinds: Sequence[int], extra: bytes = b""
         body += bytes([kind]) + bytes((a - b) & 255 for a, b in zip(row, guess))
         above = row
     head = struct.pack(">IIBBBBB", len(rows[0]) // step, len(rows), 8, form, 0, 0, 0)
-    ends = filters.chunk(b"IDAT", zlib.compress(body)) + filters.chunk(b"IEND", b"")
-    return filters.SIGNATURE + filters.chunk(b"IHDR", head) + extra + ends
+    ends = chunks.chunk(b"IDAT", zlib.compress(body)) + chunks.chunk(b"IEND", b"")
+    return chunks.SIGNATURE + chunks.chunk(b"IHDR", head) + extra + ends
 
 
 def reads_png() -> str:
     rows = [bytes((k * 7 + line * 90 + k * k) % 256 for k in range(12)) for line in range(5)]
     colours = [b"".join(bytes([it] * 3) for it in row) for row in rows]
-    palette = filters.chunk(b"PLTE", bytes(it for k in range(256) for it in (k, k, k)))
+    palette = chunks.chunk(b"PLTE", bytes(it for k in range(256) for it in (k, k, k)))
     opaque = [b"".join(bytes((it, 255)) for it in row) for row in rows]
     seen = [b"".join(row[k : k + 3] + b"\x80" for k in range(0, 12, 3)) for row in rows]
     half = [bytes((it * 128 + 127) // 255 for it in row) for row in rows]
@@ -445,11 +445,11 @@ def reads_png() -> str:
 def broken_files() -> Iterator[bytes]:
     """Files that are no whole picture."""
     good = png.written(png.Picture(2, 2, [b"\1\2\3\4\5\6"] * 2))
-    head = filters.chunk(b"IHDR", struct.pack(">IIBBBBB", 60000, 60000, 8, 2, 0, 0, 0))
+    head = chunks.chunk(b"IHDR", struct.pack(">IIBBBBB", 60000, 60000, 8, 2, 0, 0, 0))
     yield from (good[:size] for size in (0, 7, 8, 20, 33, len(good) - 12, len(good) - 1))
     yield good.replace(b"IDAT", b"IDAU")
-    yield filters.SIGNATURE + head + filters.chunk(b"IDAT", zlib.compress(bytes(1000))) + filters.chunk(b"IEND", b"")
-    yield filters.SIGNATURE + good[33:]
+    yield chunks.SIGNATURE + head + chunks.chunk(b"IDAT", zlib.compress(bytes(1000))) + chunks.chunk(b"IEND", b"")
+    yield chunks.SIGNATURE + good[33:]
     for form, rows, extra in ((3, [b"\1\2"], b""), (2, [b"\1\2\3"] * 2, b"")):
         yield coded(form, rows, (0,), extra)
 

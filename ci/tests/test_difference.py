@@ -2,8 +2,8 @@
 import random
 from typing import List, Set, Tuple
 
-from vindaesk.pictures import difference, png
-from vindaesk.pictures.bytewise import Lanes
+from vindaesk.pictures import difference, pillow, png
+from vindaesk.pictures.bytewise import Lanes, Wide
 from vindaesk.pictures.png import Picture
 from vindaesk.pictures.regions import Box
 
@@ -21,6 +21,8 @@ def test_lanes() -> None:
     assert lanes.row(lanes.distances(*numbers)) == bytes(abs(a - b) for a, b in pairs)
     assert lanes.row(lanes.lesser(*numbers)) == bytes(255 * (a < b) for a, b in pairs)
     assert lanes.row(lanes.greatest(*numbers)) == bytes(max(a, b) for a, b in pairs)
+    wide = Wide(65536)
+    assert wide.shares(one, wide.masks(other)) == bytes((a * b + 127) // 255 for a, b in pairs)
 
 
 def groups(points: Set[Point]) -> List[Set[Point]]:
@@ -43,7 +45,18 @@ def box_of(points: Set[Point]) -> Box:
 
 
 def test_pictures() -> None:
-    numbers = random.Random(2)
+    """By whole rows, and by Pillow where it is here."""
+    compares_pictures(2)
+    before, pillow.MANY = pillow.MANY, 0
+    try:
+        compares_pictures(4)
+    finally:
+        pillow.MANY = before
+
+
+def compares_pictures(seed: int) -> None:
+    """Compares pictures that are made at random."""
+    numbers = random.Random(seed)
     for count in range(150):
         width, height, tolerance = numbers.randint(1, 40), numbers.randint(1, 30), numbers.choice((0, 0, 1, 5, 254, 255))
         before = [bytes(numbers.choice((0, 1, 255, numbers.randrange(256))) for _ in range(3 * width)) for _ in range(height)]

@@ -7,7 +7,7 @@ import zlib
 from typing import Any, Iterator, List
 
 from running import Skipped
-from vindaesk.pictures import filters, png
+from vindaesk.pictures import filters, pillow as by_pillow, png
 
 
 def part(kind: bytes, body: bytes) -> bytes:
@@ -115,8 +115,8 @@ def test_both_ways_read_the_same() -> None:
         plain = b"".join(bytes([random_numbers.randrange(5)]) + line for line in lines)
         wanted = list(by_the_words(plain, size, step))
         assert (count, list(filters.one_by_one(plain, size, step))) == (count, wanted)
-        if filters.has_pillow():
-            assert (count, filters.by_pillow(plain, size, step)) == (count, wanted)
+        if by_pillow.is_here():
+            assert (count, by_pillow.rows(plain, size, step)) == (count, wanted)
 
 
 def by_the_words(plain: bytes, size: int, step: int) -> Iterator[bytes]:
@@ -134,11 +134,11 @@ def by_the_words(plain: bytes, size: int, step: int) -> Iterator[bytes]:
 
 
 def test_pillow_is_optional() -> None:
-    before = os.environ.get(filters.PLAIN)
-    os.environ[filters.PLAIN] = "1"
+    before = os.environ.get(by_pillow.PLAIN)
+    os.environ[by_pillow.PLAIN] = "1"
     try:
-        assert not filters.has_pillow()
+        assert not by_pillow.is_here()
     finally:
-        del os.environ[filters.PLAIN]
+        del os.environ[by_pillow.PLAIN]
         if before is not None:
-            os.environ[filters.PLAIN] = before
+            os.environ[by_pillow.PLAIN] = before

@@ -5,7 +5,7 @@ import struct
 import zlib
 from typing import Iterable, Iterator, List, NamedTuple, Optional, Tuple
 
-from ..pictures import filters, png
+from ..pictures import chunks, filters, png
 
 # the mean colour is that of this many pixels at the top: more would take a second
 MAX_PIXELS = 1 << 15
@@ -202,7 +202,7 @@ def of_webp(data: bytes) -> Optional[Bitmap]:
 def read(data: bytes, is_nine_patch_source: bool = False, has_colour: bool = True) -> Optional[Bitmap]:
     """The bitmap of a file, with its colour where that is asked for; nothing where it is of no known form, or broken."""
     try:
-        if data.startswith(filters.SIGNATURE):
+        if data.startswith(chunks.SIGNATURE):
             return of_nine_patch_source(data) if is_nine_patch_source else of_png(data, has_colour)
         if data.startswith(b"\xff\xd8"):
             return of_jpeg(data)

@@ -1,6 +1,6 @@
 """Sums, differences and choices of many bytes at once, each byte by itself: as whole numbers with all of the bytes in
 them, since Python takes a hundred times as long for one after the other."""
-from typing import Tuple
+from typing import List, Tuple
 
 
 class Lanes:
@@ -43,6 +43,39 @@ class Lanes:
         """The greater of each two bytes."""
         mask = self.lesser(one, other)
         return (one & ~mask) | (other & mask)
+
+
+class Wide:
+    """The same with two bytes of room for each."""
+
+    def __init__(self, count: int):
+        self.count = count
+        self.ones = int.from_bytes(b"\1\0" * count, "little")
+
+    def number(self, row: bytes) -> int:
+        """A row as a number."""
+        made = bytearray(2 * self.count)
+        made[::2] = row
+        return int.from_bytes(made, "little")
+
+    def row(self, number: int) -> bytes:
+        """The row of a number of which each part is below 256."""
+        return number.to_bytes(2 * self.count, "little")[::2]
+
+    def masks(self, row: bytes) -> List[int]:
+        """For each of the eight bits of bytes, from the lowest, all bits where it is set."""
+        number = self.number(row)
+        return [((number >> bit) & self.ones) * 0xFFFF for bit in range(8)]
+
+    def shares(self, row: bytes, masks: List[int]) -> bytes:
+        """Each byte times another one, by the masks of these, over 255, to the nearest."""
+        number = self.number(row)
+        product = 128 * self.ones
+        for bit, mask in enumerate(masks):
+            product += (number << bit) & mask
+        # x + 128 with its 256th added, over 256, is x over 255 to the nearest, where x is at most 255 * 255
+        quotient = (product + ((product >> 8) & (255 * self.ones))) >> 8
+        return self.row(quotient & (255 * self.ones))
 
 
 def stretched(row: bytes, step: int, times: int) -> bytes:

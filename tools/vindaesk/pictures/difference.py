@@ -1,6 +1,7 @@
 """Where two pictures differ."""
 from typing import List, NamedTuple, Tuple
 
+from . import pillow
 from .bytewise import Lanes, interleaved
 from .png import Picture
 from .regions import Box, Region, regions_in
@@ -22,6 +23,8 @@ class Difference(NamedTuple):
 
 def distances(before: bytes, after: bytes) -> bytes:
     """The greatest difference of a channel at each pixel of two pictures."""
+    if len(before) > pillow.MANY and pillow.is_here():
+        return pillow.distances(before, after)
     starts = range(0, len(before), AT_ONCE)
     return b"".join(distances_of(before[at : at + AT_ONCE], after[at : at + AT_ONCE]) for at in starts)
 
@@ -39,6 +42,8 @@ def distances_of(before: bytes, after: bytes) -> bytes:
 
 def dimmed(before: bytes, marks: bytes) -> bytes:
     """A picture at a quarter of its light, with a red pixel in the place of each that is marked."""
+    if len(before) > pillow.MANY and 1 in marks and pillow.is_here():
+        return pillow.dimmed(before, marks, QUARTER)
     plain = before.translate(QUARTER)
     if 1 not in marks:
         return plain
@@ -46,6 +51,11 @@ def dimmed(before: bytes, marks: bytes) -> bytes:
     mask = lanes.number(marks) * 255
     red, green, blue = (lanes.number(plain[place::3]) for place in range(3))
     return interleaved((lanes.row(red | mask), lanes.row(green & ~mask), lanes.row(blue & ~mask)))
+
+
+def greatest_of(most: bytes) -> int:
+    """The greatest of some bytes, each value looked for from the top: `max` takes ten times as long."""
+    return next((it for it in range(255, 0, -1) if it in most), 0)
 
 
 def rows_of(whole: bytes, width: int) -> List[bytes]:
@@ -67,7 +77,7 @@ def compared(before: Picture, after: Picture, tolerance: int = 0) -> Tuple[Diffe
         return Difference(0, 0, (0, 0, 0, 0)), picture
     boxes = list(zip(*(it.box for it in regions)))
     box = (min(boxes[0]), min(boxes[1]), max(boxes[2]), max(boxes[3]))
-    return Difference(sum(it.pixels for it in regions), max(most), box, regions), picture
+    return Difference(sum(it.pixels for it in regions), greatest_of(most), box, regions), picture
 
 
 def in_words(found: Difference) -> str:

@@ -3,27 +3,14 @@
 A row is stored as the differences to a guess: 0 none, 1 the pixel before, 2 the one above, 3 the mean of both, 4 that of
 both and of the one between them that is nearest to the plane through them. Both ways have the same rows.
 """
-import importlib
-import io
-import os
 import re
-import struct
 import zlib
-from typing import Iterator, List
+from typing import Iterator
 
+from . import pillow
 from .bytewise import Lanes
 
-# if this variable is set, Pillow is not used
-PLAIN = "VINDAESK_NO_PILLOW"
-SIGNATURE = b"\x89PNG\r\n\x1a\n"
 NOT_ZERO = re.compile(b"[^\0]")
-# how Pillow calls pixels of 1 to 4 bytes, and the colour type of such a file
-MODES = {1: ("L", 0), 2: ("LA", 4), 3: ("RGB", 2), 4: ("RGBA", 6)}
-
-
-def chunk(kind: bytes, body: bytes) -> bytes:
-    """A chunk of a file."""
-    return struct.pack(">I", len(body)) + kind + body + struct.pack(">I", zlib.crc32(body, zlib.crc32(kind)))
 
 
 def summed(line: bytes, step: int, lanes: Lanes) -> bytes:
@@ -102,30 +89,6 @@ def one_by_one(plain: bytes, size: int, step: int) -> Iterator[bytes]:
         yield above
 
 
-def has_pillow() -> bool:
-    """Whether Pillow is here and may be used."""
-    if os.environ.get(PLAIN):
-        return False
-    try:
-        return bool(importlib.import_module("PIL.PngImagePlugin"))
-    except ImportError:
-        return False
-
-
-def by_pillow(plain: bytes, size: int, step: int) -> List[bytes]:
-    """The same by Pillow, which is given the file anew, without anything that could change a byte of its pixels."""
-    from PIL import Image
-
-    mode, form = MODES[step]
-    head = struct.pack(">IIBBBBB", size // step, len(plain) // (size + 1), 8, form, 0, 0, 0)
-    file = SIGNATURE + chunk(b"IHDR", head) + chunk(b"IDAT", zlib.compress(plain, 0)) + chunk(b"IEND", b"")
-    with Image.open(io.BytesIO(file), formats=["PNG"]) as image:
-        if image.mode != mode:
-            raise ValueError("Pillow reads it as %s" % image.mode)
-        whole = image.tobytes()
-    return [whole[at : at + size] for at in range(0, len(whole), size)]
-
-
 def rows(packed: bytes, width: int, height: int, step: int) -> Iterator[bytes]:
     """The rows of a picture of which this is the data, packed. What is wrong with it is a `ValueError`."""
     size = width * step
@@ -137,6 +100,6 @@ def rows(packed: bytes, width: int, height: int, step: int) -> Iterator[bytes]:
     if max(kinds) > 4:
         raise ValueError("a row has an unknown filter")
     # those that are quick here are not worth the start of Pillow
-    if kinds & {1, 3, 4} and has_pillow():
-        return iter(by_pillow(plain, size, step))
+    if kinds & {1, 3, 4} and pillow.is_here():
+        return iter(pillow.rows(plain, size, step))
     return one_by_one(plain, size, step)

@@ -7,13 +7,15 @@ from typing import Iterator, List, NamedTuple, Tuple
 from ..common import progress
 from ..common.failures import Failure, NOT_RUN
 from . import filters
-from .bytewise import interleaved, stretched
-from .filters import SIGNATURE, chunk
+from .bytewise import Wide, interleaved, stretched
+from .chunks import SIGNATURE, chunk
 
 # how many bytes a pixel has, by the colour type: grey, colour, palette, grey and alpha, colour and alpha
 BYTES = {0: 1, 2: 3, 3: 1, 4: 2, 6: 4}
 # more than four times what any device shows
 MAX_PIXELS = 1 << 24
+# of how many rows it is tried whether they can be packed, and at which part of their size they are taken to be noise
+TRIED, NOISE = 16, 0.6
 
 
 class Picture(NamedTuple):
@@ -33,9 +35,16 @@ def scanlines(picture: Picture, scale: int) -> Iterator[bytes]:
             yield same
 
 
+def is_noise(picture: Picture) -> bool:
+    """Whether little of a picture repeats, so that looking for it would take long and save nothing."""
+    some = b"".join(picture.rows[:: picture.height // TRIED + 1])
+    return len(zlib.compress(some, 1)) > NOISE * len(some)
+
+
 def written(picture: Picture, scale: int = 1, level: int = 9) -> bytes:
     """A picture as a file, each of its pixels as a square of `scale` by `scale`; the level is that of zlib."""
-    packer = zlib.compressobj(level)
+    strategy = zlib.Z_HUFFMAN_ONLY if is_noise(picture) else zlib.Z_DEFAULT_STRATEGY
+    packer = zlib.compressobj(level, zlib.DEFLATED, zlib.MAX_WBITS, 8, strategy)
     body = b"".join(packer.compress(line) for line in scanlines(picture, scale)) + packer.flush()
     head = struct.pack(">IIBBBBB", picture.width * scale, picture.height * scale, 8, 2, 0, 0, 0)
     return SIGNATURE + chunk(b"IHDR", head) + chunk(b"IDAT", body) + chunk(b"IEND", b"")
@@ -60,7 +69,9 @@ def over_black(row: bytes, step: int) -> bytes:
     alphas = row[step - 1 :: step]
     parts = [row[k::step] for k in ((0, 0, 0) if step == 2 else (0, 1, 2))]
     if alphas != b"\xff" * len(alphas):
-        parts = [bytes((it * alpha + 127) // 255 for it, alpha in zip(part, alphas)) for part in parts]
+        wide = Wide(len(alphas))
+        masks = wide.masks(alphas)
+        parts = [wide.shares(part, masks) for part in parts]
     return interleaved((parts[0], parts[1], parts[2]))
 
 
