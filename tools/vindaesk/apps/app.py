@@ -1,5 +1,6 @@
 """An app: its layouts as the program takes them, each for a device, with what is reported of it."""
 import contextlib
+import os
 from dataclasses import dataclass, field
 from typing import Dict, FrozenSet, Iterator, List, NamedTuple, Optional, Sequence, Tuple
 
@@ -32,6 +33,8 @@ BASE_DENSITY = 160
 MAX_SIDE = 4096
 ANDROID = "android"
 FRAMEWORK = 1
+# the table of the framework that was read last, by its file
+FRAMEWORKS: Dict[Tuple[str, int, int, int], ResourceTable] = {}
 
 
 @dataclass(frozen=True)
@@ -207,7 +210,7 @@ def add_sources(files: AppFiles, parts: List[str], base: str) -> None:
     """Has the sources of a project in the place of their folders."""
     found = [it for it in parts if source_tree.is_source(it)]
     if found:
-        framework = Resources([table_of(files, base)], device())
+        framework = Resources([framework_of(files, base)], device())
         for it in found:
             files.sources[it] = SourceTree(it, framework)
 
@@ -220,6 +223,20 @@ def table_of(files: AppFiles, part: str) -> ResourceTable:
     if not files.has(TABLE, part):
         raise Failure("%s has no resources: there is no %s in it" % (printable(part), TABLE), NOT_RUN)
     return ResourceTable(files.read(TABLE, part, app_files.MAX_TABLE), part)
+
+
+def framework_of(files: AppFiles, base: str) -> ResourceTable:
+    """The table of the framework. It is read once, as long as its file stays: apps that are opened again share it."""
+    try:
+        found = os.stat(base)
+    except OSError:
+        return table_of(files, base)
+    key = (base, found.st_mtime_ns, found.st_size, found.st_ino)
+    if key not in FRAMEWORKS:
+        made = table_of(files, base)
+        FRAMEWORKS.clear()
+        FRAMEWORKS[key] = made
+    return FRAMEWORKS[key]
 
 
 def is_framework(table: ResourceTable) -> bool:
@@ -237,7 +254,7 @@ def opened(paths: Sequence[str], framework: Optional[str] = None) -> Iterator[Op
         add_sources(files, parts, base)
         with_table = [it for it in parts if files.is_source(it) or files.has(TABLE, it)]
         tables = [table_of(files, it) for it in with_table or parts]
-        own = [it for it in tables if is_framework(it)] or [table_of(files, base)]
+        own = [it for it in tables if is_framework(it)] or [framework_of(files, base)]
         yield OpenApp(files, [own[0], *[it for it in tables if it not in own]], parts)
 
 

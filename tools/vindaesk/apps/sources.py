@@ -30,6 +30,9 @@ class Describer:
         self.resources = resources
         self.lookup = Lookup(resources)
         self.words: Dict[str, Dict[str, int]] = {}
+        # what was written before: most elements of a layout have the style of their class
+        self.names: Dict[Tuple[int, str], str] = {}
+        self.of_styles: Dict[Tuple[str, Value, int], Attribute] = {}
 
     def words_of(self, key: str) -> Dict[str, int]:
         """The words that an attribute takes, with their numbers; none where its definition is not there."""
@@ -42,6 +45,12 @@ class Describer:
 
     def name(self, number: int, sign: str) -> str:
         """The name of a resource, or of an attribute of the theme, as a source has it."""
+        if (number, sign) not in self.names:
+            self.names[number, sign] = self.new_name(number, sign)
+        return self.names[number, sign]
+
+    def new_name(self, number: int, sign: str) -> str:
+        """The same of one that was not asked for before."""
         found = self.resources.name(number)
         if found is None:
             is_known = sign == "@" and number in ID_NAME_OF
@@ -95,7 +104,9 @@ class Describer:
     def add(self, found: Dict[str, Attribute], key: str, value: Value, where: Tuple[str, Attributes]) -> None:
         """Adds an attribute of a style, where no nearer one has it."""
         if key and key not in found and not value.is_unset:
-            made = self.attribute(key, value, None, where[1])
+            known_as = (key, value, id(where[1].theme))
+            made = self.of_styles.get(known_as) or self.attribute(key, value, None, where[1])
+            self.of_styles[known_as] = made
             found[key] = Attribute(made.written, made.resolved, made.resources, where[0])
 
     def add_appearance(self, found: Dict[str, Attribute], values: Attributes) -> None:

@@ -10,6 +10,8 @@ from .platform_names import NAME_OF, NUMBER_OF
 from ..resources.values import Value
 
 NULL = Value(0, 0)
+# the items of a style by the numbers of attributes
+Items = Mapping[int, Item]
 
 
 class Origin(Enum):
@@ -46,6 +48,7 @@ class Lookup:
         self.known: Dict[str, Optional[int]] = {}
         self.names: Dict[int, str] = {}
         self.themes: Dict[Tuple[int, ...], Theme] = {}
+        self.shared: Dict[Tuple[int, int, int], Shared] = {}
 
     def number(self, key: str) -> Optional[int]:
         """The number of an attribute by its key, where it has one."""
@@ -89,6 +92,34 @@ class Lookup:
             self.themes[key] = theme.applied(style)
         return self.themes[key]
 
+    def shared_by(self, style: Items, class_style: Items, theme: Theme) -> "Shared":
+        """What elements with these styles in this theme share."""
+        key = (id(style) if style else 0, id(class_style) if class_style else 0, id(theme))
+        if key not in self.shared:
+            self.shared[key] = Shared(style, class_style, theme)
+        return self.shared[key]
+
+
+class Shared:
+    """Which values attributes have that elements do not have themselves, in some styles and a theme. Most elements of a
+    layout share them, so each is looked for once."""
+
+    def __init__(self, style: Items, class_style: Items, theme: Theme):
+        self.style, self.class_style, self.theme = style, class_style, theme
+        self.given: Dict[str, Optional[Tuple[Value, Origin]]] = {}
+        self.found: Dict[str, Optional[Found]] = {}
+
+    def of(self, number: Optional[int]) -> Optional[Tuple[Value, Origin]]:
+        """The value of the attribute of a number, and where it is from."""
+        if number is None:
+            return None
+        for items, origin in ((self.style, Origin.STYLE), (self.class_style, Origin.CLASS)):
+            item = items.get(number)
+            if item is not None and not (item.value.type == 0 and item.value.data == 0):
+                return item.value, origin
+        item = self.theme.item(number)
+        return (item.value, Origin.THEME) if item is not None else None
+
 
 class Attributes:
     """The attributes of one element in a theme."""
@@ -100,6 +131,7 @@ class Attributes:
         # which of the attributes of the theme has the style of the class, and nothing where none has one
         self.class_key = ""
         self.class_style = self.first_of(class_styles)
+        self.shared = lookup.shared_by(self.style, self.class_style, theme)
 
     def items_of(self, value: Optional[Value]) -> Mapping[int, Item]:
         """The items of a style that a value names."""
@@ -128,19 +160,26 @@ class Attributes:
         value = self.own.get(key)
         if value is not None:
             return value, Origin.OWN
-        number = self.lookup.number(key)
-        if number is None:
-            return None
-        for items, origin in ((self.style, Origin.STYLE), (self.class_style, Origin.CLASS)):
-            item = items.get(number)
-            if item is not None and not (item.value.type == 0 and item.value.data == 0):
-                return item.value, origin
-        item = self.theme.item(number)
-        return (item.value, Origin.THEME) if item is not None else None
+        known = self.shared.given
+        if key not in known:
+            known[key] = self.shared.of(self.lookup.number(key))
+        return known[key]
 
     def find(self, key: str) -> Optional[Found]:
         """The value of an attribute through all references; nothing where it has none."""
-        given = self.given(key)
+        if key in self.own:
+            return self.followed(self.given(key))
+        known = self.shared.found
+        if key not in known:
+            broken = len(self.broken)
+            found = self.followed(self.given(key))
+            if len(self.broken) > broken:
+                return found
+            known[key] = found
+        return known[key]
+
+    def followed(self, given: Optional[Tuple[Value, Origin]]) -> Optional[Found]:
+        """A value that is given, through all references."""
         if given is None:
             return None
         value, origin = given

@@ -64,8 +64,8 @@ def too_deep(it: Seen, page: Page) -> Iterator[str]:
 @rule("too-many", Severity.WARNING, "TooManyViews")
 def too_many(it: Seen, page: Page) -> Iterator[str]:
     """A layout has at most 80 views."""
-    count = sum(is_own(at.view) for at in page.placed)
-    if it.view.parent is None and count > MOST_VIEWS:
+    count = sum(is_own(at.view) for at in page.placed) if it.view.parent is None else 0
+    if count > MOST_VIEWS:
         yield "the layout has %d views, more than %d" % (count, MOST_VIEWS)
 
 

@@ -80,10 +80,9 @@ class Group:
         """The numbers of the resources of a type by their names; the first of equal names (which are obfuscated)
         counts."""
         seen: Dict[int, str] = {}
-        for package, chunk in self.chunks(kind):
-            for index in chunk.indexes():
-                if index not in seen:
-                    seen[index] = package.key_name(package.key(chunk.place(index)))
+        for package in self.packages:
+            for index, name in package.entry_names(kind).items():
+                seen.setdefault(index, name)
         names: Dict[str, int] = {}
         for index in sorted(seen):
             names.setdefault(seen[index], index)

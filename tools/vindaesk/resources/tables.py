@@ -98,13 +98,17 @@ class TypeChunk:
 
     def indexes(self) -> Iterator[int]:
         """The numbers of the resources that are in this configuration."""
+        return (index for index, _ in self.pairs())
+
+    def pairs(self) -> Iterator[Tuple[int, int]]:
+        """The same, each with its offset from where resources begin."""
         data = self.source.data
         if self.flags & SPARSE:
             pairs = struct.iter_unpack("<HH", data[self.offsets : self.offsets + 4 * self.count])
-            return (index for index, _ in pairs)
-        width, none = ("H", NO_ENTRY16) if self.flags & OFFSET16 else ("I", NO_ENTRY)
+            return ((index, 4 * offset) for index, offset in pairs)
+        width, none, times = ("H", NO_ENTRY16, 4) if self.flags & OFFSET16 else ("I", NO_ENTRY, 1)
         offsets = struct.unpack_from("<%d%s" % (self.count, width), data, self.offsets)
-        return (index for index, offset in enumerate(offsets) if offset != none)
+        return ((index, times * offset) for index, offset in enumerate(offsets) if offset != none)
 
 
 class Package:
@@ -123,6 +127,7 @@ class Package:
         self.type_offset = source.u32(chunk.start + 284) if chunk.body - chunk.start >= 288 else 0
         self.type_chunks: Dict[int, List[Chunk]] = {}
         self.types: Dict[int, List[TypeChunk]] = {}
+        self.names: Dict[int, Dict[int, str]] = {}
         # the packages that this one refers to by ids of its own, and the ids in place of staged ones
         self.libraries: Dict[int, str] = {}
         self.aliases: Dict[int, int] = {}
@@ -180,6 +185,17 @@ class Package:
         """The name of a type by its id."""
         name = self.type_pool.get(kind - 1 - self.type_offset) if self.type_pool else None
         return name if name is not None else "type%02x" % kind
+
+    def entry_names(self, kind: int) -> Dict[int, str]:
+        """The names of the resources of a type by their numbers; of one that has several the first."""
+        if kind not in self.names:
+            found: Dict[int, str] = {}
+            for chunk in self.chunks(kind):
+                for index, offset in chunk.pairs():
+                    if index not in found:
+                        found[index] = self.key_name(self.key(chunk.checked(offset)))
+            self.names[kind] = found
+        return self.names[kind]
 
     def key_name(self, key: int) -> str:
         """The name of a resource by the number of its name."""
