@@ -203,8 +203,10 @@ def findings_are_those_of_lint() -> str:
 
 
 def places_are_those_of_the_source() -> str:
-    """A class that the program has not is at its element; a night without values has no empty place."""
+    """Of a source with a list of ids a class that the program has not is at its element; a night without values has no empty
+    place."""
     with place() as it:
+        it.put("ids.txt", "")
         it.put("a.xml", SOURCE.replace("<TextView", "<Button"))
         it.put("a.script", TOUCHED)
         with previewed(it, "a.xml") as page:
@@ -215,29 +217,71 @@ def places_are_those_of_the_source() -> str:
     return "" if is_right and night.startswith("night: ") else "it says %r and %r" % (said, night)
 
 
+def source_of(count: int, text: str = "item") -> str:
+    """The source of a layout of a number of views."""
+    items = "".join(
+        '    <TextView android:layout_width="match_parent" android:layout_height="wrap_content"\n'
+        '        android:text="%s %d" android:background="#%06x" />\n' % (text, number, number * 7919 % (1 << 24))
+        for number in range(2, count + 1))
+    return ('<LinearLayout xmlns:android="http://schemas.android.com/apk/res/android" android:orientation="vertical"\n'
+            '    android:layout_width="match_parent" android:layout_height="match_parent">\n%s</LinearLayout>\n' % items)
+
+
+def single_sources_are_those_of_app() -> str:
+    """A source in no project is made as the layout of an app: it has the picture of one in `res/layout`, the places of its
+    own file, and the findings of lint."""
+    text = SOURCE.replace("<TextView", "<Button").replace("8dp", "@dimen/none")
+    with place() as it:
+        os.makedirs(os.path.join(it.folder, "app", "res", "layout"))
+        it.put("Single-one.xml", text)
+        it.put("app/res/layout/one.xml", text)
+        found: List[Tuple[object, ...]] = []
+        for path in ("Single-one.xml", "app/res/layout/one.xml"):
+            with previewed(it, path) as page:
+                row = page.row(lambda row: row["picture"] or row["messages"], "phone")
+                view = page.state("phone")["views"][2]
+                found.append((row["messages"], row["picture"], view["element"]["file"], view["element"]["name"], view["element"]["line"]))
+                if path == "Single-one.xml":
+                    page.row(lambda row: row["findings"] is not None, "phone")
+                    rules = {one["rule"] for one in page.state("phone")["found"]}
+    picture = found[1][1]
+    wanted: List[Tuple[object, ...]] = [([], picture, name, "Button", 5) for name in ("Single-one.xml", "app/res/layout/one.xml")]
+    return "" if found == wanted and picture and "hard-coded-text" in rules else "%s, %s" % (found, rules)
+
+
 def changes_come_in_time() -> str:
-    """From a saved file to the picture of 200 views, of tries the quickest, since others use the machine too; and files are
-    looked at often enough for that."""
+    """From a saved file to the picture of 200 views, of a script and of a layout of an app; and files are looked at often
+    enough for that."""
     if watcher.PAUSE > MOST / 5:
         return "between two looks at the files there are %g s" % watcher.PAUSE
     with place() as it:
-        it.put("a.script", of_views(200))
-        with previewed(it, "a.script") as page:
-            old = page.row(lambda row: row["picture"] and row["findings"] is not None)["picture"]
-            times = []
-            for number in range(TRIES):
-                time.sleep(0.2)
-                text = of_views(200, "changed %d" % number)
-                alone = time_alone(text)
-                begun = time.monotonic()
-                it.put("a.script", text)
-                row = page.row(lambda row: row["picture"] not in (None, old) and not row["messages"])
-                page.read("picture/%s.png" % row["picture"])
-                times.append(time.monotonic() - begun)
-                old = row["picture"]
-                if times[-1] <= max(MOST, SHARE * alone):
-                    return ""
-    return "the quickest change took %d ms" % (1000 * min(times))
+        os.makedirs(os.path.join(it.folder, "res", "layout"))
+        for name, made in (("a.script", of_views), ("res/layout/a.xml", source_of)):
+            it.put(name, made(200))
+            with previewed(it, name) as page:
+                quickest = quickest_change(it, page, name, made)
+            if quickest:
+                return "%s: the quickest change took %d ms" % (name, 1000 * quickest)
+    return ""
+
+
+def quickest_change(it: Place, page: Page, name: str, made: Callable[[int, str], str]) -> float:
+    """Of some changes of a file the quickest, in seconds, since others use the machine too; 0 if it was in time."""
+    old = page.row(lambda row: row["picture"] and row["findings"] is not None)["picture"]
+    times = []
+    for number in range(TRIES):
+        time.sleep(0.2)
+        text = made(200, "changed %d" % number)
+        alone = time_alone(of_views(200, "changed %d" % number))
+        begun = time.monotonic()
+        it.put(name, text)
+        row = page.row(lambda row: row["picture"] not in (None, old) and not row["messages"], page.first)
+        page.read("picture/%s.png" % row["picture"])
+        times.append(time.monotonic() - begun)
+        old = row["picture"]
+        if times[-1] <= max(MOST, SHARE * alone):
+            return 0
+    return min(times)
 
 
 def time_alone(text: str) -> float:
@@ -319,10 +363,10 @@ def writes_back() -> str:
             ("a.script", TOUCHED, 4, "text", "Ö \\n b", TOUCHED.replace("text v4 Send", "text v4 Ö \\n b")),
             ("b.script", TOUCHED.replace("\n", "\r\n"), 4, "add", "TextView match 50",
              TOUCHED.replace("\n", "\r\n").replace("match 60", "match 50")),
-            ("c.xml", SOURCE, 2, "android:text", "\"'<&>", SOURCE.replace("A &amp; &lt;b&gt;", "&quot;'&lt;&amp;>")),
-            ("d.xml", SOURCE, 1, "android:layout_height", "wrap_content",
+            ("c.xml", SOURCE, 3, "android:text", "\"'<&>", SOURCE.replace("A &amp; &lt;b&gt;", "&quot;'&lt;&amp;>")),
+            ("d.xml", SOURCE, 2, "android:layout_height", "wrap_content",
              SOURCE.replace("='match_parent'", "='wrap_content'")),
-            ("e.xml", SOURCE.replace("\n", "\r\n"), 2, "android:padding", "9dp", SOURCE.replace("\n", "\r\n").replace("8dp", "9dp")),
+            ("e.xml", SOURCE.replace("\n", "\r\n"), 3, "android:padding", "9dp", SOURCE.replace("\n", "\r\n").replace("8dp", "9dp")),
             (home, app_text, 2, "android:layout_height", "300dp",
              app_text[: old_name.start(1)] + "300dp" + app_text[old_name.end(1) :]),
         ):
@@ -355,15 +399,15 @@ def refuses_to_write() -> str:
         it.put("a.script", TOUCHED)
         with previewed(it, "a.xml") as page:
             page.row(lambda row: row["picture"])
-            found = page.post("edit", {**value_of(page, 2, "android:padding"), "text": "9dp"})
+            found = page.post("edit", {**value_of(page, 3, "android:padding"), "text": "9dp"})
             if found != (409, {"error": "nothing is written without --write"}):
                 return "without --write: %s" % (found,)
         for name, view, key, text, said in (
-            ("a.xml", 2, "android:padding", "9dq", "android:padding: '9dq' does not fit"),
+            ("a.xml", 3, "android:padding", "9dq", "android:padding: '9dq' does not fit"),
             ("a.script", 4, "text", "a\nb", "a line of a script has no line feed"),
             ("a.script", 3, "orient", "verticl", "'verticl' does not fit; did you mean 'vertical'?"),
             ("a.script", 1, "bg", "@color/x", "@color/x has no id"),
-            ("a.xml", 2, "android:text", "\ud800", "half of a character"),
+            ("a.xml", 3, "android:text", "\ud800", "half of a character"),
         ):
             before = it.read(name)
             with previewed(it, name, "--write") as page:
@@ -373,7 +417,7 @@ def refuses_to_write() -> str:
                     return "%r: status %d, %s" % (text, status, answer)
         with previewed(it, "a.xml", "--write") as page:
             page.row(lambda row: row["picture"])
-            asked = value_of(page, 2, "android:padding")
+            asked = value_of(page, 3, "android:padding")
             other = page.post("edit", {**asked, "old": "7dp", "text": "9dp"})
             it.put("a.xml", SOURCE + "\n")
             found = page.post("edit", {**asked, "text": "9dp"})
@@ -629,6 +673,32 @@ def shows() -> str:
     return ""
 
 
+def says_why_there_is_no_picture() -> str:
+    """A script without a frame: the page and the tiles say why, and no button is for what is not there; then it comes."""
+    if not chromium.COMMAND:
+        raise Skipped("chromium")
+    why = "no frame came after the last window"
+    with place() as it, chromium.Browser(360, 800) as browser:
+        it.put("a.script", TOUCHED.replace("frame\n", ""))
+        with previewed(it, "a.script") as page:
+            browser.go(page.address)
+            browser.until("state !== null && summary.configurations.length === 7")
+            said = [browser.value("document.getElementById('size').textContent"), *texts(browser, "#configurations .wrong")]
+            wanted = ["There is no picture: " + why, *[why] * 5, "night: locale and night choose files of values, and there is no "
+                      "resources-night.lines", why]
+            buttons = browser.value("[...document.querySelectorAll('main button')].every(it => it.disabled)")
+            hidden = browser.value("getComputedStyle(document.getElementById('stage')).display")
+            found = texts(browser, "#found li")
+            if (said, buttons, hidden, found) != (wanted, True, "none", ["lint has not looked at it"]):
+                return "%s, buttons %s, the picture %s, findings %s" % (said, buttons, hidden, found)
+            it.put("a.script", TOUCHED)
+            browser.until("picture() && !document.getElementById('step').disabled")
+            it.put("a.script", TOUCHED.replace("frame\n", ""))
+            browser.until("summary.configurations[0].old")
+            old = texts(browser, "#configurations .wrong")[0]
+            return looks(browser, False) or ("" if old == "old: " + why else "of an old picture it says '%s'" % old)
+
+
 def looks(browser: chromium.Browser, is_dark: bool) -> str:
     """What is wrong with how the page fits its window."""
     if browser.value("document.documentElement.scrollWidth > innerWidth"):
@@ -644,7 +714,8 @@ def looks(browser: chromium.Browser, is_dark: bool) -> str:
 def checks() -> Checks:
     yield from named("the preview", (
         pictures_are_those_of_other_tools, configurations, findings_are_those_of_lint, places_are_those_of_the_source,
-        changes_come_in_time, broken_files_keep_the_picture,
+        single_sources_are_those_of_app, changes_come_in_time, broken_files_keep_the_picture,
         touches_are_answered, writes_back, refuses_to_write, hostile_requests, ends_cleanly, wrong_calls,
     ))
     yield "browser: shows a preview", shows
+    yield "browser: says why there is no picture", says_why_there_is_no_picture

@@ -4,10 +4,9 @@ import argparse
 import contextlib
 import difflib
 import os
-import re
 import tempfile
 from enum import Enum
-from typing import TYPE_CHECKING, Dict, Iterator, List, NamedTuple, Tuple, Union
+from typing import TYPE_CHECKING, Dict, Iterator, List, NamedTuple, Union
 
 from ..common import files
 from ..common.failures import NOT_RUN, Failure
@@ -25,7 +24,6 @@ MAX_SOURCE = 1 << 24
 # how many names of layouts a message has
 MOST_NAMES = 12
 RES = "res"
-UNSAYABLE = re.compile(r"[^a-z0-9_]")
 
 
 class Kind(Enum):
@@ -165,7 +163,7 @@ def of_app_layout(unit: Unit, given: argparse.Namespace, apps: Apps) -> Iterator
 
 def of_source(unit: Unit, given: argparse.Namespace, apps: Apps) -> Iterator[Subject]:
     """The source of a layout: in the project whose folder `res` it is in, or else by itself."""
-    from ..apps import app
+    from ..apps import app, single
     from ..lint.app_subjects import AppSubject
 
     folder, name = os.path.split(os.path.abspath(unit.path))
@@ -175,17 +173,7 @@ def of_source(unit: Unit, given: argparse.Namespace, apps: Apps) -> Iterator[Sub
         project = os.path.relpath(os.path.dirname(os.path.dirname(folder)))
         yield AppSubject(apps.open(project), stem, request_of(unit.qualifiers or qualifiers, given), project)
         return
-    with alone(unit.path, stem) as (project, plain), app.opened([project], given.framework) as opened:
-        yield AppSubject(opened, plain, request_of(unit.qualifiers, given), project, as_file=unit.path)
-
-
-@contextlib.contextmanager
-def alone(path: str, stem: str) -> Iterator[Tuple[str, str]]:
-    """A project that has a single layout, and the name of this there."""
-    plain = UNSAYABLE.sub("_", stem.lower())
-    plain = plain if plain[:1].isalpha() else "l" + plain
     with tempfile.TemporaryDirectory() as project:
-        folder = os.path.join(project, RES, "layout")
-        os.makedirs(folder)
-        files.replace(os.path.join(folder, plain + LAYOUT), files.read(path, MAX_SOURCE))
-        yield project, plain
+        plain = single.put(unit.path, files.read(unit.path, MAX_SOURCE), project)
+        with app.opened([project], given.framework) as opened:
+            yield AppSubject(opened, plain, request_of(unit.qualifiers, given), project, as_file=unit.path)

@@ -1,7 +1,8 @@
 """A page in the browser that follows a layout while its files are edited.
 
 PATH is a script, the source of a layout, a compiled one, or an app: an APK, or the folder of a project with the name of
-the layout. The source of a layout in a folder `res/layout` is shown as one of that project's app.
+the layout. The source of a layout in a folder `res/layout` is shown as one of that project's app, any other one as the
+only layout of an app; with --ids, or ids.txt or resources.lines beside it, as the program alone takes it.
 
 The page has the picture in several configurations, the views with their facts, what lint finds, and touches by the
 mouse. It is at 127.0.0.1 alone, at an address with a random key, which is printed. With --write a value that is edited in

@@ -78,6 +78,8 @@ class Preview:
         self.shown: Dict[str, Shown] = {}
         self.pictures: Dict[str, bytes] = {}
         self.version = 0
+        # how many times all configurations were begun to be drawn
+        self.draws = 0
         self.first = ""
         self.changed = threading.Condition()
         # what has to be carried out one after another: reading, and what the live program is asked
@@ -122,6 +124,7 @@ class Preview:
     def draw_all(self) -> None:
         """Draws all configurations, as long as no file changes again."""
         why = ""
+        self.draws += 1
         with self.reading:
             try:
                 self.subject.load()
@@ -186,7 +189,10 @@ class Preview:
         if shown is None or shown.layout is None or shown.findings is not None or not shown.drawn.is_good:
             return
         try:
-            found, why = findings.findings_of(shown.layout), []
+            begun = self.draws
+            found, why = findings.findings_of(shown.layout, lambda: self.draws != begun or self.stale.is_set()), []
+        except findings.GivenUp:
+            return
         except Exception as error:
             found, why = [], said(error).splitlines()
         with self.changed:

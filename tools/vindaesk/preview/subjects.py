@@ -4,10 +4,10 @@ import contextlib
 import os
 import re
 import tempfile
-from dataclasses import dataclass, field
+from dataclasses import dataclass, field, replace
 from typing import Dict, Iterator, List, Optional, Sequence, Tuple
 
-from ..apps import app, app_files, report, source_tree, writer
+from ..apps import app, app_files, report, single, source_tree, writer
 from ..apps.app import Request
 from ..common import files
 from ..common.failures import NOT_RUN, WRONG, Failure
@@ -36,6 +36,8 @@ AS_IT_IS = Configuration("as-it-is")
 COMPILED = source_reader.COMPILED
 # an element of a layout's source that the program refuses
 REFUSED_ELEMENT = re.compile(r"[^:]*: (.*?) in line ([0-9]+): (.*)", re.DOTALL)
+# in the sentence of a value that its attribute cannot have
+UNFIT = "does not fit"
 LAYOUT_FOLDER = re.compile(r"layout(-.+)?")
 
 
@@ -280,6 +282,34 @@ class AppSubject(Subject):
         return [*self.watched, *([self.framework] if self.framework else [])]
 
 
+class SourceSubject(AppSubject):
+    """The source of a layout that is in no project, as the only layout of one."""
+
+    def __init__(self, path: str, theme: str = "", framework: Optional[str] = None):
+        super().__init__([path], single.name_of(path), theme, framework)
+        self.project = os.path.join(self.kept.name, "project")
+        self.paths = [self.project]
+
+    def title(self) -> str:
+        return os.path.basename(self.path)
+
+    def load(self) -> None:
+        body = files.read(self.path, source_reader.MAX_BYTES)
+        # a value that does not fit has its place; what names a resource may be right
+        wrong = [it for it in source_reader.read(body, self.path, Names())[1] if UNFIT in it]
+        if wrong:
+            raise Failure("\n".join(wrong), WRONG)
+        single.put(self.path, body, self.project)
+        super().load()
+
+    def places_of(self, records: Sequence[report.Record]) -> Dict[int, Place]:
+        """The same of the file that the user knows."""
+        return {number: replace(it, file=self.path) for number, it in super().places_of(records).items()}
+
+    def files(self) -> List[str]:
+        return [self.path, *([self.framework] if self.framework else [])]
+
+
 def qualifiers_of(it: Configuration) -> str:
     """A configuration as Android names folders of resources."""
     width, height = it.window or PHONE
@@ -315,7 +345,16 @@ def subject(
     if names_of:
         raise Failure("%s is no app, so that no layout of it has the name '%s'" % (path, names_of[0]), NOT_RUN)
     if path.endswith(".xml"):
-        is_compiled = files.read(path).startswith(COMPILED)
-        project = None if is_compiled else project_of(path)
-        return AppSubject([project[0]], project[1], theme, framework) if project else LayoutSubject(path, ids)
+        return of_file(path, ids, theme, framework)
     return ScriptSubject(path, ids)
+
+
+def of_file(path: str, ids: Optional[str], theme: str, framework: Optional[str]) -> Subject:
+    """What the file of a layout means. A source with a list of ids, or with values beside it, is the program's own."""
+    is_compiled = files.read(path).startswith(COMPILED)
+    project = None if is_compiled else project_of(path)
+    if project:
+        return AppSubject([project[0]], project[1], theme, framework)
+    folder = os.path.dirname(path)
+    has_values = any(os.path.isfile(os.path.join(folder, it)) for it in (names.LIST, configurations.VALUES))
+    return LayoutSubject(path, ids) if is_compiled or ids or has_values else SourceSubject(path, theme, framework)
