@@ -6,9 +6,11 @@ import random
 import tempfile
 import time
 from typing import Callable, Iterator, List, Optional, Tuple
+from unittest import mock
 
-from running import PROGRAM, TOP, run
+from running import PROGRAM, TOP, Skipped, run
 from tools import place
+from vindaesk.program import in_process, native
 from vindaesk.session import Failure, LineRefused, NoAnswer, NoRoom, NotFound, OtherView, Session, Stack, Way, app
 from vindaesk.session.focus import walk
 
@@ -407,6 +409,22 @@ def test_focus() -> None:
         s.frame()
         assert s.focus("v2", "right", "right", "right", "down", "up", "left") == walk
         assert len(s._copy()) < 2000
+
+
+def test_focus_needs_no_process() -> None:
+    """Where the library is there, a walk starts no program, and asks no question twice; it is the same without it."""
+    with open(os.path.join(EXAMPLES, "focus.script"), "rb") as file:
+        copy = file.read()
+    keys = ("right", "right", "left", "right", "left")
+    with mock.patch.dict(os.environ, {"VINDAESK_LIBRARY": "no"}):
+        wanted = walk(copy, EXAMPLES, keys, "v2", 60)
+    assert wanted == ["v3", "v4", "v3", "v4", "v3"]
+    if native.path() is None:
+        raise Skipped("the library beside the program")
+    with mock.patch("subprocess.run", side_effect=AssertionError("a program is started")):
+        with mock.patch("vindaesk.program.in_process.answered", wraps=in_process.answered) as asked:
+            assert walk(copy, EXAMPLES, keys, "v2", 60) == wanted
+    assert asked.call_count == 3
 
 
 def test_focus_has_a_time_limit() -> None:

@@ -1,13 +1,18 @@
-"""Which lines of a script are refused: where, and why. Of a layout file, which element and attribute of it."""
-from typing import Iterator, NamedTuple
+"""Which lines of a script are refused: where, and why. Of a layout file, which element and attribute of it. What says why is
+loaded where a line is refused, since that takes half of a start."""
+from __future__ import annotations
+
+from typing import TYPE_CHECKING, Iterator, List, NamedTuple, Optional
 
 from ..common.messages import printable
-from ..layouts import faults
-from ..scripts import reasons, replies, script
+from ..scripts import replies, script
 from ..scripts.replies import Answer, Part, Refusal
 from ..scripts.script import Script
 from ..views.facts import Place
 from . import github
+
+if TYPE_CHECKING:
+    from ..layouts.faults import Files
 
 # how many lines are run together
 TOGETHER = 1024
@@ -30,10 +35,22 @@ class Checker:
 
     def __init__(self, made: Script):
         self.made = made
-        self.files = faults.Files(made.folder, made.ids.listed)
+        self.settings: List[bytes] = []
+        self._files: Optional[Files] = None
+
+    def files(self) -> Files:
+        """The layout files of the script, with the settings up to now."""
+        from ..layouts import faults
+
+        if self._files is None:
+            self._files = faults.Files(self.made.folder, self.made.ids.listed)
+        self._files.settings = self.settings
+        return self._files
 
     def finding(self, number: int, refusal: Refusal) -> Finding:
         """The refused line of a number."""
+        from ..scripts import reasons
+
         line, place = self.made.lines[number - 1], self.made.place(number)
         found = reasons.reason(line, refusal.number, refusal.text)
         expanded = self.made.expanded(number)
@@ -43,7 +60,7 @@ class Checker:
         words = script.words_of(line)
         why = found.why
         if words[:1] == [b"inflate"] and len(words) > 1:
-            why = self.files.detail(words[1].decode("utf-8", "replace"), refusal) or why
+            why = self.files().detail(words[1].decode("utf-8", "replace"), refusal) or why
         return Finding(place.file, place.number, expanded.written_column(found.column), found.title, why)
 
     def part(self, part: Part, found: Answer) -> Iterator[Finding]:
@@ -52,7 +69,7 @@ class Checker:
             if place in found.refusals:
                 yield self.finding(part.first + place, found.refusals[place])
             elif line.lstrip(b" ").startswith(SETTINGS):
-                self.files.settings.append(line)
+                self.settings.append(line)
 
 
 def findings(made: Script, form: str = "run") -> Iterator[Finding]:
