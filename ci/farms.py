@@ -101,6 +101,23 @@ def a_process_dies() -> str:
         return why or once(it, reported(it)) or ("" if (status, lines) == (0, ["8 passed, 0 failed"]) else said)
 
 
+def accepts_in_order() -> str:
+    """What is accepted is printed in the order of the cases, whichever ends first; also what ended before a signal."""
+    with farm() as it:
+        for number in range(8):
+            it.put("s%02d.answer" % number, "other\n")
+        slow = acting(it, "*'# 0') sleep 1;; *'# 7') sleep 30;;")
+        wanted = ["accepted: ./s%02d.script" % number for number in range(7)]
+        call = started(it, ".", "--accept", "--no-cache", "--jobs", "4", **slow)
+        end = time.monotonic() + SECONDS
+        while not all(it.read("s%02d.answer" % number) == ANSWER.encode() for number in range(7)) and time.monotonic() < end:
+            time.sleep(0.05)
+        time.sleep(0.5)
+        call.send_signal(signal.SIGTERM)
+        lines = call.communicate(timeout=SECONDS)[0].decode().splitlines()
+        return "" if lines[:-1] == wanted else "%s" % lines
+
+
 def waits(it: Place) -> Dict[str, str]:
     """A program that passes for the first scripts, and for the others only says that it has begun."""
     return acting(it, "*'# '[4-9]) echo $$ >> '%s/pids'; exec sleep 59;;" % it.folder)
@@ -234,7 +251,7 @@ def broken_cases() -> str:
         os.mkfifo(os.path.join(it.folder, "z.script"))
         status, lines, said = ended(it, ".", "--junit", "j.xml")
         wanted = [*BROKEN, "y.script", "z.script"]
-        if (status, said, lines[-1]) != (1, "", "2 passed, %d failed" % len(wanted)):
+        if (status, said, lines[-1:]) != (1, "", ["2 passed, %d failed" % len(wanted)]):
             return "status %d, %s%s" % (status, lines, said)
         found = dict(reported(it))
         if [found.get(name) for name in wanted] != ["error"] * len(wanted):
@@ -497,7 +514,7 @@ def fits_schemas() -> str:
 
 def checks() -> Checks:
     yield from named("farms", (
-        fits_schemas, a_process_dies, is_told_to_end, is_killed, goes_on_after_a_kill, few_files, breaks_of_cases,
+        fits_schemas, accepts_in_order, a_process_dies, is_told_to_end, is_killed, goes_on_after_a_kill, few_files, breaks_of_cases,
         broken_cases, full_disk, results_as_they_end, follows_links, shows_odd_names, parts_by_names, protocol_of_bazel,
         merges_parts,
         keeps_what_passed, keeps_no_failures, changes_meanwhile, several_at_once

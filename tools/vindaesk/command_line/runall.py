@@ -28,7 +28,7 @@ from ..testing.configurations import Configuration
 from ..testing.kept import Kept
 from ..testing.parts import Part
 from ..testing.suite import Suite
-from ..testing.trials import Task
+from ..testing.trials import Result, Task
 from . import arguments, matrix
 from .runall_output import Ending, text_of
 from .uses import Purpose, Use
@@ -162,17 +162,48 @@ def tasks_of(given: argparse.Namespace, mine: List[Case]) -> List[Task]:
     ]
 
 
+class Texts:
+    """Writes how cases went: as they end; where answers are accepted in the order of the cases, so that two calls print the
+    same."""
+
+    def __init__(self, whole: Suite, is_ordered: bool, line: progress.Line):
+        self.line = line
+        self.places = {task.case: place for place, task in enumerate(whole.tasks)} if is_ordered else {}
+        self.waiting: Dict[int, str] = {}
+        self.next = 0
+
+    def take(self, result: Result) -> None:
+        """Writes a result, or has it wait for those before it."""
+        if not self.places:
+            self.write(text_of(result))
+            return
+        self.waiting[self.places[result.case]] = text_of(result)
+        while self.next in self.waiting:
+            self.write(self.waiting.pop(self.next))
+            self.next += 1
+
+    def end(self) -> None:
+        """Writes those that wait still, since a run was ended."""
+        for place in sorted(self.waiting):
+            self.write(self.waiting[place])
+
+    def write(self, text: str) -> None:
+        """Writes a text in the place of the line of progress."""
+        if text:
+            self.line.clear()
+            print(text, end="", flush=True)
+
+
 def run(given: argparse.Namespace, whole: Suite) -> None:
     """Runs the cases, and writes how they go."""
     failed, line, count = 0, progress.Line(), len(whole.tasks)
+    texts = Texts(whole, given.accept is not None or given.accept_new, line)
     line.show(progress.bar(0, count))
-    with contextlib.closing(whole.run(given.jobs)) as results:
+    with contextlib.closing(whole.run(given.jobs)) as results, contextlib.ExitStack() as stack:
+        stack.callback(texts.end)
         for done, result in enumerate(results, 1):
             failed += bool(result.problem)
-            text = text_of(result)
-            if text:
-                line.clear()
-                print(text, end="", flush=True)
+            texts.take(result)
             line.show(progress.bar(done, count) + (", %d failed" % failed if failed else ""))
     line.clear()
 
