@@ -4,6 +4,7 @@
   is the end of the path of a file or a folder.
 - In every page a link leads to a file or a heading that is there, and a numbered list goes 1, 2, 3.
 - Each tool has a row in docs/TOOLS.md.
+- A figure that several pages have is the same on all of them.
 """
 import fnmatch
 import functools
@@ -29,6 +30,18 @@ UNREAD = (".md", ".png", ".apk", ".arsc", ".xml")
 # words of pages that are examples of names, and no names of the repository
 EXAMPLES = re.compile(r"\.\.|^cit.$|\bNAME\b|\bTOOL\b|m/f|FramePlan|frame_plan|_at_key|list-axioms")
 SHOWN = 12
+# figures that more than one page has, by what they are of; a page may break a line in them
+FIGURES = {
+    "the time of the tests": r"in at most (\S+ minutes)(?: on 4 cores)?\b",
+    "the time of the gate": r"(?:From|from) nothing,? (?:it takes )?([\w ]+?) on 4 cores",
+    "frames beside Android": r"of ([\d ]+) (?:random )?frames with edits between",
+    "frames as Android has them": r"([\d ]+) are as Android has them",
+    "questions for the focus": r"(?:Of|of) (\d+) (?:random )?questions",
+    "layouts of apps that are made": r"(?:of (\d+) layouts in|\d+ of (\d+); six)",
+    "views of apps": r"(?:of their (\d+) views|\d+ of (\d+) \(\d+ %\))",
+    "the share of exact views": r"(?:and (\d+) % of their|\((\d+) %\)\|)",
+    "the version of replies": r"(?:`replies (\d+)`|#versions-of-replies\) (\d+),)",
+}
 
 
 def text_of(path: str) -> str:
@@ -162,6 +175,41 @@ def tools_without_row() -> str:
     return "docs/TOOLS.md has no row of %s" % ", ".join(missing) if missing else ""
 
 
+def figures_in(texts: Dict[str, str], pattern: str) -> Dict[str, Set[str]]:
+    """What the pages have for a figure, each with the pages that have it."""
+    found: Dict[str, Set[str]] = {}
+    for page, text in texts.items():
+        for match in re.finditer(pattern, re.sub(r"\s+", " ", text)):
+            figure = next(group for group in match.groups() if group is not None)
+            found.setdefault(figure.strip(), set()).add(page)
+    return found
+
+
+def unequal(texts: Dict[str, str]) -> Iterator[str]:
+    """The figures for which pages have several numbers, or which less than two pages have."""
+    for what, pattern in FIGURES.items():
+        found = figures_in(texts, pattern)
+        if len(found) > 1:
+            yield "%s: %s" % (what, " and ".join("%s in %s" % (it, ", ".join(sorted(found[it]))) for it in sorted(found)))
+        elif len({page for pages_with in found.values() for page in pages_with}) < 2:
+            yield "%s: less than two pages have it" % what
+
+
+def figures_are_equal() -> str:
+    texts = {page: text_of(page) for page in pages() if page != "CHANGELOG.md"}
+    found = list(unequal(texts))
+    for what, pattern in FIGURES.items():
+        page, figure = next(((page, figure) for figure, with_it in figures_in(texts, pattern).items() for page in with_it), ("", ""))
+        flat = re.sub(r"\s+", " ", texts.get(page, ""))
+        match = re.search(pattern, flat)
+        if match and not found:
+            at = next(match.start(k) for k in range(1, len(match.groups()) + 1) if match[k] is not None)
+            changed = {**texts, page: flat[:at] + "9" + flat[at:]}
+            if not any(it.startswith(what) for it in unequal(changed)):
+                return "another figure for %s is not found (%s in %s)" % (what, figure, page)
+    return "; ".join(found)
+
+
 def finds_faults() -> str:
     """Each kind of fault, put into the text of a page, is found, and what is right there is not."""
     right = "# A page\n1. one\n   1. in it\n2. two\n\n[here](#a-page) `crates.txt` `text_of` `src/lib.rt` `*.md`\n"
@@ -178,3 +226,4 @@ def checks() -> Checks:
     for page in pages():
         yield "names of " + page, partial(problem, page)
     yield "names: each tool has its row in docs/TOOLS.md", tools_without_row
+    yield "names: figures of several pages are the same", figures_are_equal

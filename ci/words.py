@@ -175,7 +175,9 @@ def example() -> str:
 MOST, MOST_OF_REFERENCES, README_LINES = 3500, 5000, 150
 REFERENCES = ("docs/SCRIPT.md", "docs/LAYOUT.md", "docs/FORMATS.md")
 # the most words of all pages; it may only become lower
-MOST_OF_ALL = 52500
+MOST_OF_ALL = 46300
+# the most columns of a line of prose, 200 but for one line; a row of a table can't be broken
+WIDEST = 231
 
 
 def too_long(lengths: Dict[str, int]) -> str:
@@ -184,6 +186,22 @@ def too_long(lengths: Dict[str, int]) -> str:
              if count > (MOST_OF_REFERENCES if path in REFERENCES else MOST)]
     whole = sum(lengths.values())
     return "; ".join([*found, *(["all pages have %d words, more than %d" % (whole, MOST_OF_ALL)] if whole > MOST_OF_ALL else [])])
+
+
+def too_wide(path: str, text: str) -> List[str]:
+    """The lines of prose of a page that are wider than they may be."""
+    return ["%s:%d has %d columns" % (path, number, len(line)) for number, line in prose(text)
+            if len(line) > WIDEST and not line.lstrip().startswith("|")]
+
+
+def pages_are_narrow() -> str:
+    if too_wide("a", "a" * WIDEST + "\n|" + "a" * WIDEST) or not too_wide("a", "a" * (WIDEST + 1)):
+        return "too wide a line is not found"
+    found: List[str] = []
+    for path in ["README.md", "CONTRIBUTING.md", *below("docs", ".md")]:
+        with open(os.path.join(TOP, path), encoding="utf-8") as file:
+            found += too_wide(path, file.read())
+    return "; ".join(found)
 
 
 def pages_are_short() -> str:
@@ -203,6 +221,7 @@ def pages_are_short() -> str:
 def checks() -> Checks:
     yield "words: the patterns themselves", example
     yield "words: no page is too long", pages_are_short
+    yield "words: no line of a page is too wide", pages_are_narrow
     for name in sorted(os.listdir(os.path.join(TOP, "crates"))):
         yield "words of crates/" + name, partial(problem, list(below("crates/" + name, tuple(MARKS))))
     yield "words of the pages", partial(problem, ["README.md", "CHANGELOG.md", *below("docs", ".md"), *below("ci", ".md")])
