@@ -34,13 +34,14 @@ impl<'a> PackedShelf<'a> {
 }
 
 impl Shelf for PackedShelf<'_> {
-    ghost use Rattle.std.specs.Prelude.{None, Some};
+    ghost use Rattle.std.specs.Prelude.{Some};
+    ghost use Rattle.tool_io.specs.Fetches.{Unseen};
 
     ghost files = { λ s. Some s };
 
     ghost faults = { λ _. 0 };
 
-    ghost fetches = { λ _. None };
+    ghost fetches = { λ _. Unseen };
 
     fn fetch(&mut self, name: &str, into: &mut Vec<u8>, limit: usize) -> Result<Found, ShelfFault>
         ensures stays { self.new ≡ self.old }

@@ -11,6 +11,7 @@ use Rattle.text_lines.specs.BufferedText.{BufferedText as BufferedText}
 use Rattle.text_lines.specs.Prefix.{AppendsPrefix}
 use Rattle.text_lines.proofs.Prefixes.{appends_both, prefix_of_first}
 use Rattle.tool_io.specs.Fetched.{Files}
+use Rattle.tool_io.specs.Fetches.{Fetch, Fetches, with_fetch, with_fetches}
 use Rattle.whole_tool.specs.Carried.{Carried, LineReply, Done, Refused, asked_by_bytes, reply_to_bytes}
 use Rattle.whole_tool.specs.Carrier.{IsWatching, WritesLine, carried_of}
 use Rattle.whole_tool.specs.declared.carrier.Carrier.{Carrier}
@@ -21,14 +22,14 @@ use Rattle.whole_tool.specs.Refusals.{refused_line}
 use Rattle.whole_tool.specs.Run.{HasCarriedOut, HasReadUpTo, HasTallied, StopsIn, WithFiles}
 use Rattle.whole_tool.specs.Tally.{Tally, carried_in, tally_from, with_cost}
 use Rattle.whole_tool.specs.Transcript.{Asks, MayWant, ScriptProgress, after_asked, after_line, after_from, after_reply, asked_by_line, at_start, line_text, reply_text, reply_to_line}
-use Rattle.whole_tool.specs.Works.{HasFetched, Trace, Works, WorksBefore, WorksToFetch, WorksToWrite, raised_by}
+use Rattle.whole_tool.specs.Works.{HasFetched, Trace, Works, WorksBefore, WorksToFetch, WorksToWrite}
 use Rattle.tool_io.specs.Counts.{raised}
 use Rattle.tool_io.specs.SinkState.{SinkState}
 use Rattle.view_model.specs.declared.refusal.Refusal.{Refusal}
 use Rattle.view_model.specs.Refusals.{PlainRefusal, plain_refusal}
 use Rattle.view_world.specs.declared.fault.StepFault.{StepFault}
 use Rattle.view_world.specs.declared.fault.StepFault.TheVariants as step
-use Rattle.view_world.specs.world.Carried.{IsDone, fetches_after}
+use Rattle.view_world.specs.world.Carried.{IsDone, fetches_after, layout_fetch}
 use Rattle.view_world.specs.frames.Watched.{IsWorth}
 use Rattle.whole_tool.proofs.CarrierLaws.{watching_same}
 use Rattle.whole_tool.proofs.SumLaws.{worth_same}
@@ -115,27 +116,26 @@ stops_further start files first now lines more all stop.Shelf e s =
 stops_further start files first now lines more all stop.NoMemory e s =
     record { done = s.done; line = s.line; left = s.left ++ more; all = parts_further s.done (s.line ∷ s.left) lines more all s.all e; wants = s.wants; gone = s.gone; worth = s.worth; fetched = s.fetched }
 
--- how often the shelf was asked
+-- what the shelf was asked for
 
-raised_more : (asked : ℕ) (name : Option (List ℕ)) (calls : Option ℕ) → fetches_after name (raised_by asked calls) ≡ raised_by (after_asked asked name) calls
-unfolding raised_by
-raised_more asked None calls = refl
-raised_more asked (Some name) calls = refl
+asked_more : (asked : List Fetch) (name : Option (List ℕ)) (seen : Fetches) → fetches_after name (with_fetches seen asked) ≡ with_fetches seen (after_asked asked name)
+asked_more asked None seen = refl
+asked_more asked (Some name) seen = sym (fold-append with_fetch seen asked (layout_fetch name ∷ []))
 
 -- once a line was carried out, by what the code has
 fetched_at : (files : Files) (first mid now : Trace) (runner : LineRunner) (progress : ScriptProgress) (tally : Tally) (line : Line) → HasCarriedOut first mid runner progress tally
-    → now.fetches ≡ fetches_after (asked_by_line (carried_of runner.carrier) line) mid.fetches → now.fetches ≡ raised_by (after_line files progress line).asked first.fetches
+    → now.fetches ≡ fetches_after (asked_by_line (carried_of runner.carrier) line) mid.fetches → now.fetches ≡ with_fetches first.fetches (after_line files progress line).asked
 fetched_at files first mid now runner progress tally line at fetched =
     fetched
     ∙ ap (λ (c : Carried). fetches_after (asked_by_line c line) mid.fetches) at.carried
     ∙ ap (fetches_after (asked_by_line progress.carried line)) at.fetched
-    ∙ raised_more progress.asked (asked_by_line progress.carried line) first.fetches
+    ∙ asked_more progress.asked (asked_by_line progress.carried line) first.fetches
 
 fetched_in : (start : Carried) (files : Files) (first mid now : Trace) (runner : LineRunner) (lines : List Line) (line : Line) → HasCarriedOut first mid runner (after_from start files lines) (tally_from start files lines)
     → now.fetches ≡ fetches_after (asked_by_line (carried_of runner.carrier) line) mid.fetches → HasFetched start files (lines ++ line ∷ []) first now
 fetched_in start files first mid now runner lines line at fetched =
     fetched_at files first mid now runner (after_from start files lines) (tally_from start files lines) line at fetched
-    ∙ ap (λ (p : ScriptProgress). raised_by p.asked first.fetches) (sym (after_from-push start files lines line))
+    ∙ ap (λ (p : ScriptProgress). with_fetches first.fetches p.asked) (sym (after_from-push start files lines line))
 
 -- a line that is passed over
 passed_asked : (carried : Carried) (line : Line) → is_idle line ≡ true → asked_by_line carried line ≡ None

@@ -7,6 +7,7 @@ use Rattle.arsc_reader.specs.Lines.{value_line, value_lines}
 use Rattle.arsc_reader.specs.Table.{table_of}
 use Rattle.axml_chunks.specs.declared.fault.Fault.{Fault}
 use Rattle.tool_io.specs.Fetched.{Files, file_of}
+use Rattle.tool_io.specs.Fetches.{Fetch}
 use Rattle.whole_tool.specs.Dump.{fault_text, refused_file_text}
 use Rattle.whole_tool.specs.Numbers.{long_file, missing_file}
 use Rattle.whole_tool.specs.Usage.{resource_id}
@@ -14,6 +15,10 @@ use Rattle.whole_tool.specs.Usage.{resource_id}
 -- the most bytes that a table may have
 abbrev pub max_table : ℕ
 max_table = 16777216
+
+-- a table is asked for with this limit
+abbrev pub table_fetch : List ℕ → Fetch
+table_fetch name = record { name = name; limit = max_table }
 
 -- the line of the resource whose id a word is
 abbrev pub word_line : Contents → String Global → List ℕ

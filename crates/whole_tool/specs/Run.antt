@@ -6,6 +6,7 @@ use Rattle.script_lines.specs.cutting.LineBuffer.{IsAfter}
 use Rattle.script_lines.specs.cutting.Lines.{Line, Text, LongLine, cut_of, max_line}
 use Rattle.tool_io.specs.Counts.{raised}
 use Rattle.tool_io.specs.Fetched.{Files}
+use Rattle.tool_io.specs.Fetches.{with_fetches}
 use Rattle.view_model.specs.declared.work.Work.{Work}
 use Rattle.whole_tool.specs.Carried.{Carried, Alone}
 use Rattle.whole_tool.specs.Carrier.{IsWatching, carried_of}
@@ -16,7 +17,7 @@ use Rattle.whole_tool.specs.declared.run.Stop.{Stop}
 use Rattle.whole_tool.specs.declared.run.Stop.TheVariants as stop
 use Rattle.whole_tool.specs.Tally.{Tally, tally_from}
 use Rattle.whole_tool.specs.Transcript.{Asks, MayWant, ScriptProgress, after_from}
-use Rattle.whole_tool.specs.Works.{Trace, raised_by, WorksBefore, WorksToFetch, WorksToWrite}
+use Rattle.whole_tool.specs.Works.{Trace, WorksBefore, WorksToFetch, WorksToWrite}
 use Rattle.view_world.specs.frames.Watched.{IsWorth}
 use Rattle.view_world.specs.world.World.{empty_world}
 
@@ -40,7 +41,7 @@ pub record HasTallied (first now : Work) (carrier : Carrier) (tally : Tally) : T
   pub worth : IsWorth tally.costs first now
 
 -- the state of a run so far: since its start its text was written, what was counted is worth what its lines cost, and
--- the shelf was asked as often as its lines ask
+-- the shelf was asked for what its lines ask for
 pub record HasCarriedOut (first now : Trace) (runner : LineRunner) (progress : ScriptProgress) (tally : Tally) : Type 0 where
   pub lines : runner.lines ≡ progress.lines
   pub carried : carried_of runner.carrier ≡ progress.carried
@@ -48,7 +49,7 @@ pub record HasCarriedOut (first now : Trace) (runner : LineRunner) (progress : S
   pub few : progress.refused ≤ progress.lines
   pub gone : Appends first.gone now.gone progress.text
   pub tallied : HasTallied first.work now.work runner.carrier tally
-  pub fetched : now.fetches ≡ raised_by progress.asked first.fetches
+  pub fetched : now.fetches ≡ with_fetches first.fetches progress.asked
 
 -- what holds with the files of a shelf, if it makes them visible
 abbrev pub WithFiles : Option Files → (Files → Type 0) → Type 0

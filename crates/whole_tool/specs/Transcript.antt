@@ -1,12 +1,14 @@
 -- What the tool writes for a script: the texts of its lines, one after another, from the empty world or from no window.
-use Rattle.std.specs.Prelude.{◌≢◌, ℕ, suc, ◌+◌, Bool, nat_lt, if◌then◌else◌, length, List, [], ◌++◌, Option, Some, None, fold, take}
+use Rattle.std.specs.Prelude.{◌≢◌, ℕ, ◌+◌, Bool, nat_lt, if◌then◌else◌, length, List, [], ◌∷◌, ◌++◌, Option, Some, None, fold, take}
 use Rattle.script_lines.specs.cutting.Lines.{Line, Text, LongLine, cut_of, is_passed_over, lines_of}
 use Rattle.stack_worlds.specs.PlainStack.{empty_stack}
 use Rattle.tool_io.specs.Fetched.{Files}
+use Rattle.tool_io.specs.Fetches.{Fetch}
 use Rattle.view_model.specs.Refusals.{refusal_numbered}
 use Rattle.whole_tool.specs.Carried.{Carried, Alone, Stacked, LineReply, Done, Refused, BytesWant, asked_by_bytes, reply_to_bytes}
 use Rattle.whole_tool.specs.Numbers.{long_line}
 use Rattle.whole_tool.specs.Refusals.{refused_line}
+use Rattle.view_world.specs.world.Carried.{layout_fetch}
 use Rattle.view_world.specs.world.World.{empty_world}
 
 -- what a line does: too long a line is refused whatever it begins with, and one that is passed over does nothing
@@ -23,17 +25,17 @@ asked_by_line carried (Text bytes) = if is_passed_over bytes then None else aske
 abbrev pub Asks : Carried → Line → Type 0
 Asks carried line = asked_by_line carried line ≢ None
 
--- the lines so far: how many they are, what they made, what was written for them, how many were refused, and how many
--- asked the shelf for a file
+-- the lines so far: how many they are, what they made, what was written for them, how many were refused, and what they
+-- asked of the shelf
 pub record ScriptProgress : Type 0 where
   pub lines : ℕ
   pub carried : Carried
   pub text : List ℕ
   pub refused : ℕ
-  pub asked : ℕ
+  pub asked : List Fetch
 
 abbrev pub at_start : Carried → ScriptProgress
-at_start start = record { lines = 0; carried = start; text = []; refused = 0; asked = 0 }
+at_start start = record { lines = 0; carried = start; text = []; refused = 0; asked = [] }
 
 -- a refused line leaves everything as it was
 abbrev pub after_reply : ScriptProgress → LineReply → ScriptProgress
@@ -41,10 +43,10 @@ after_reply progress (Done carried text) = record progress { lines = progress.li
 after_reply progress (Refused refusal) =
     record progress { lines = progress.lines + 1; text = progress.text ++ refused_line (progress.lines + 1) refusal; refused = progress.refused + 1 }
 
--- a line that asks for a file asks once, whatever comes of it
-abbrev pub after_asked : ℕ → Option (List ℕ) → ℕ
+-- a line that asks for a file asks once, with the limit of a layout file, whatever comes of it
+abbrev pub after_asked : List Fetch → Option (List ℕ) → List Fetch
 after_asked asked None = asked
-after_asked asked (Some name) = suc asked
+after_asked asked (Some name) = asked ++ layout_fetch name ∷ []
 
 -- the text of a reply to the next line
 abbrev pub reply_text : ScriptProgress → LineReply → List ℕ

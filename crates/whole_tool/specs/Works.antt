@@ -1,11 +1,11 @@
--- What was counted while lines were carried out, besides the texts that were written: the work, and how often the shelf
--- was asked.
-use Rattle.std.specs.Prelude.{◌≡◌, ℕ, zero, suc, List, [], ◌∷◌, ◌++◌, Option}
+-- What was counted while lines were carried out, besides the texts that were written: the work, and what the shelf was
+-- asked for.
+use Rattle.std.specs.Prelude.{◌≡◌, ℕ, List, [], ◌∷◌, ◌++◌, Option}
 use Rattle.std.specs.Io.KnownBytes.{Appends}
 use Rattle.script_lines.specs.cutting.Lines.{Line}
 use Rattle.text_lines.specs.Prefix.{AppendsPrefix}
-use Rattle.tool_io.specs.Counts.{one_more}
 use Rattle.tool_io.specs.Fetched.{Files}
+use Rattle.tool_io.specs.Fetches.{Fetch, Fetches, with_fetches}
 use Rattle.tool_io.specs.SinkState.{SinkState}
 use Rattle.view_model.specs.declared.work.Work.{Work}
 use Rattle.whole_tool.specs.Carried.{Carried, Alone}
@@ -15,27 +15,23 @@ use Rattle.view_world.specs.frames.Watched.{IsWorth}
 use Rattle.view_world.specs.world.World.{empty_world}
 
 -- what is known of a run at a moment: the bytes that were written, if the sink makes them visible, what was counted, and
--- how often the shelf was asked, if it counts that
+-- what the shelf shows of the calls on it
 pub record Trace : Type 0 where
   pub gone : Option (List ℕ)
   pub work : Work
-  pub fetches : Option ℕ
+  pub fetches : Fetches
 
-abbrev pub trace : SinkState → Work → Option ℕ → Trace
+abbrev pub trace : SinkState → Work → Fetches → Trace
 trace state work fetches = record { gone = state.gone; work = work; fetches = fetches }
 
--- a count of calls after some more
-unfoldable pub raised_by : ℕ → Option ℕ → Option ℕ
-raised_by zero calls = calls
-raised_by (suc more) calls = one_more (raised_by more calls)
-
--- how many of these lines ask the shelf for a file
-abbrev pub fetches_from : Carried → Files → List Line → ℕ
+-- what these lines ask of the shelf, in their order
+abbrev pub fetches_from : Carried → Files → List Line → List Fetch
 fetches_from start files lines = (after_from start files lines).asked
 
--- the shelf was asked once for each of these lines that asks for a file, and not for any other
+-- the shelf was asked once for each of these lines that asks for a file, by its name and with the limit of a layout
+-- file, in their order, and not for any other
 abbrev pub HasFetched : Carried → Files → List Line → Trace → Trace → Type 0
-HasFetched start files lines first now = now.fetches ≡ raised_by (fetches_from start files lines) first.fetches
+HasFetched start files lines first now = now.fetches ≡ with_fetches first.fetches (fetches_from start files lines)
 
 -- lines were carried out between two moments: their texts were written, and what was counted is worth what they cost
 pub record Works (start : Carried) (files : Files) (first now : Trace) (lines : List Line) : Type 0 where

@@ -2,8 +2,10 @@
 
 ghost use Rattle.std.specs.Prelude.{◌≡◌, ◌≢◌, ◌≤◌, ◌⊎◌, ◌==◌, ℕ, List, [], ◌∷◌, Some, Result, if◌then◌else◌};
 ghost use Rattle.axml_reader.specs.Decoding.{decoded};
-ghost use Rattle.tool_io.specs.Counts.{one_more, raised};
+ghost use Rattle.tool_io.specs.Counts.{raised};
 ghost use Rattle.tool_io.specs.Fetched.{Fetched, Files};
+ghost use Rattle.tool_io.specs.Fetches.{with_fetch};
+ghost use Rattle.view_world.specs.world.Carried.{layout_fetch};
 ghost use Rattle.whole_tool.specs.Dump.{Dumps, decoded_text, dump_page, is_fault, refuses_file, status_of_text};
 ghost use Rattle.whole_tool.specs.Numbers.{max_file};
 ghost use Rattle.whole_tool.specs.Tool.{IsOneOf};
@@ -30,7 +32,7 @@ pub fn dump<K: Sink, F: Shelf>(alloc: Global, name: &str, shelf: &mut F, sink: &
         → F.faults shelf.new ≡ (if result == 6 then raised (F.faults shelf.old) else F.faults shelf.old) }
     ensures shelf_later { F.faults shelf.old ≤ F.faults shelf.new }
     ensures files_stay { F.files shelf.new ≡ F.files shelf.old }
-    ensures fetched { F.fetches shelf.new ≡ one_more (F.fetches shelf.old) }
+    ensures fetched { F.fetches shelf.new ≡ with_fetch (F.fetches shelf.old) (layout_fetch name.now) }
 {
     let mut bytes = Vec::new(alloc);
     match shelf.fetch(name, &mut bytes, MAX_FILE) {

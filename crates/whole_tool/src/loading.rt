@@ -1,6 +1,6 @@
 //! The load, run in a world of its own.
 
-ghost use Rattle.std.specs.Prelude.{◌≡◌, ◌≢◌, ◌≤◌, ◌^◌, ◌==◌, min, false, ◌-◌, [], ◌∷◌, None, Some, IfOk, IfErr, IfSome, Option, length, if◌then◌else◌};
+ghost use Rattle.std.specs.Prelude.{◌≡◌, ◌≢◌, ◌≤◌, ◌^◌, ◌==◌, min, false, ◌-◌, [], ◌∷◌, Some, IfOk, IfErr, IfSome, Option, length, if◌then◌else◌};
 ghost use Rattle.hex.specs.Hex.{encode_lower};
 ghost use Rattle.load_maker.specs.Load.{load};
 ghost use Rattle.script_lines.specs.cutting.Lines.{lines_of};
@@ -9,6 +9,7 @@ ghost use Rattle.text_lines.specs.BufferedText.{Sends};
 ghost use Rattle.text_lines.specs.Delivered.{Delivered};
 ghost use Rattle.tool_io.specs.Counts.{raised};
 ghost use Rattle.tool_io.specs.Fetched.{Files};
+ghost use Rattle.tool_io.specs.Fetches.{Unseen};
 ghost use Rattle.whole_tool.specs.Carried.{Alone};
 ghost use Rattle.whole_tool.specs.Carrier.{carried_of, next_of};
 ghost use Rattle.whole_tool.specs.Dump.{Dumps};
@@ -95,8 +96,8 @@ fn carried_out(
     requires short { length script.now ≤ max_script }
     ensures stopped { IfErr result (λ stop. WorksPart [] work.old work.new (lines_of script.now)) }
     ensures runs { IfOk result (λ outcome. (runner : LineRunner)
-        × HasCarriedOut (record { gone = Some page.old.gone; work = work.old; fetches = None })
-        (record { gone = Some page.new.gone; work = work.new; fetches = None }) runner
+        × HasCarriedOut (record { gone = Some page.old.gone; work = work.old; fetches = Unseen })
+        (record { gone = Some page.new.gone; work = work.new; fetches = Unseen }) runner
         (after_lines [] (lines_of script.now)) (tally_from (Alone empty_world) [] (lines_of script.now))
         × (outcome ≡ record { lines = runner.lines; refused = runner.refused; digest = sha256 page.new.gone })) }
     ensures painted { work.old.painted ≤ work.new.painted }
@@ -121,8 +122,8 @@ fn carry_out(
     requires numbers { next_of run.old.runner.carrier ≡ 1 }
     ensures stopped { IfErr result (λ stop. WorksPart [] work.old work.new (lines_of script.now)) }
     ensures runs { IfOk result (λ outcome.
-        HasCarriedOut (record { gone = Some page.old.gone; work = work.old; fetches = None })
-        (record { gone = Some page.new.gone; work = work.new; fetches = None }) run.new.runner
+        HasCarriedOut (record { gone = Some page.old.gone; work = work.old; fetches = Unseen })
+        (record { gone = Some page.new.gone; work = work.new; fetches = Unseen }) run.new.runner
         (after_lines [] (lines_of script.now)) (tally_from (Alone empty_world) [] (lines_of script.now))) }
     ensures outcome { IfOk result (λ outcome. outcome ≡ record {
       lines = run.new.runner.lines;

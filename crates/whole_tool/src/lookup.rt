@@ -5,10 +5,11 @@ ghost use Rattle.arsc_reader.specs.Lines.{value_lines};
 ghost use Rattle.arsc_reader.specs.Table.{table_of};
 ghost use Rattle.text_lines.specs.BufferedText.{Sends};
 ghost use Rattle.text_lines.specs.Delivered.{Delivered};
-ghost use Rattle.tool_io.specs.Counts.{one_more, raised};
+ghost use Rattle.tool_io.specs.Counts.{raised};
 ghost use Rattle.tool_io.specs.Fetched.{Fetched, Files};
+ghost use Rattle.tool_io.specs.Fetches.{with_fetch};
 ghost use Rattle.whole_tool.specs.Dump.{Dumps};
-ghost use Rattle.whole_tool.specs.Lookup.{is_broken, lookup_page, looked_up, max_table, refuses_table};
+ghost use Rattle.whole_tool.specs.Lookup.{is_broken, lookup_page, looked_up, max_table, refuses_table, table_fetch};
 ghost use Rattle.whole_tool.specs.Tool.{IsOneOf};
 ghost use Rattle.whole_tool.specs.Usage.{resource_ids};
 
@@ -46,7 +47,7 @@ pub fn lookup<K: Sink, F: Shelf>(
         → F.faults shelf.new ≡ (if result == 6 then raised (F.faults shelf.old) else F.faults shelf.old) }
     ensures shelf_later { F.faults shelf.old ≤ F.faults shelf.new }
     ensures files_stay { F.files shelf.new ≡ F.files shelf.old }
-    ensures fetched { F.fetches shelf.new ≡ one_more (F.fetches shelf.old) }
+    ensures fetched { F.fetches shelf.new ≡ with_fetch (F.fetches shelf.old) (table_fetch name.now) }
 {
     let mut bytes = Vec::new(alloc);
     match shelf.fetch(name, &mut bytes, MAX_TABLE) {

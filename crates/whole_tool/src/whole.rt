@@ -8,20 +8,22 @@ ghost use Rattle.std.specs.Io.KnownBytes.{Appends, Consumes, IsAtEnd};
 ghost use Rattle.load_maker.specs.Load.{load};
 ghost use Rattle.script_lines.specs.cutting.Lines.{lines_of};
 ghost use Rattle.stack_worlds.specs.PlainStack.{empty_stack};
-ghost use Rattle.tool_io.specs.Counts.{Rose, one_more, raised};
+ghost use Rattle.tool_io.specs.Counts.{Rose, raised};
 ghost use Rattle.tool_io.specs.Fetched.{Files};
+ghost use Rattle.tool_io.specs.Fetches.{with_fetch, with_fetches};
 ghost use Rattle.whole_tool.specs.Carried.{Alone, Stacked};
 ghost use Rattle.whole_tool.specs.Dump.{dump_page, refuses_file};
 ghost use Rattle.whole_tool.specs.Focus.{AsksWith, IsFocusOf, focus_page, refuses_focus};
 ghost use Rattle.whole_tool.specs.Gen.{gen_page};
-ghost use Rattle.whole_tool.specs.Lookup.{lookup_page, refuses_table};
+ghost use Rattle.whole_tool.specs.Lookup.{lookup_page, refuses_table, table_fetch};
 ghost use Rattle.whole_tool.specs.Outside.{EndsWith, outside};
 ghost use Rattle.whole_tool.specs.Run.{StopsAtFetch, StopsBefore};
 ghost use Rattle.whole_tool.specs.StackPage.{IsPageIsolated};
 ghost use Rattle.whole_tool.specs.Tally.{costs_of_script, costs_of_stack};
-ghost use Rattle.whole_tool.specs.Works.{WorksPart, fetches_from, raised_by, trace};
+ghost use Rattle.whole_tool.specs.Works.{WorksPart, fetches_from, trace};
 ghost use Rattle.whole_tool.specs.WorksWith.{WorksWith, WorksWithFrom};
 ghost use Rattle.view_world.specs.frames.Watched.{IsWorth};
+ghost use Rattle.view_world.specs.world.Carried.{layout_fetch};
 ghost use Rattle.view_world.specs.world.World.{empty_world};
 ghost use Rattle.whole_tool.specs.Script.{WritesTaken};
 ghost use Rattle.whole_tool.specs.Tool.{IsComplete, IsDumpOf, IsLookupOf, IsOneOf, IsRunOf, IsStackOf, RunsWith, Writes};
@@ -292,26 +294,27 @@ pub fn tool<S: Source, K: Sink, F: Shelf>(
         → (Rose (F.faults shelf.old) (F.faults shelf.new) → ⊥)
         → IsComplete result ⊎ (result ≡ 5) }
 
-    // How often the shelf is asked, if it counts that: by a run once for each line that is carried out and asks for a
-    // file, whatever comes of it, by a print or a look-up once, and by a load not at all. Of a run that stopped `works`
-    // says it, and of the others `focus_ends` and `stack_works`: the line in which it stopped has asked too, if it
-    // asks.
+    // What the shelf is asked for, each call by its name and its limit, in the order of the calls, if the shelf shows
+    // that: by a run once for each line that is carried out and asks for a file, whatever comes of it, by a print or a
+    // look-up once, and by a load not at all. A layout file is asked for with the limit of its bytes, a table with that
+    // of a table. Of a run that stopped `works` says it, and of the others `focus_ends` and `stack_works`: the line in
+    // which it stopped has asked too, if it asks.
     ensures fetched { (script : List ℕ) (files : Files)
         → IsRunOf (usage words.now) (S.left source.old) (F.files shelf.old) script files
         → IsComplete result
-        → F.fetches shelf.new ≡ raised_by
-        (fetches_from (Alone empty_world) files (lines_of script)) (F.fetches shelf.old) }
+        → F.fetches shelf.new ≡ with_fetches (F.fetches shelf.old)
+        (fetches_from (Alone empty_world) files (lines_of script)) }
     ensures stack_fetched { (script : List ℕ) (files : Files)
         → IsStackOf (usage words.now) (S.left source.old) (F.files shelf.old) script files
         → IsComplete result
-        → F.fetches shelf.new ≡ raised_by
-        (fetches_from (Stacked empty_stack) files (lines_of script)) (F.fetches shelf.old) }
+        → F.fetches shelf.new ≡ with_fetches (F.fetches shelf.old)
+        (fetches_from (Stacked empty_stack) files (lines_of script)) }
     ensures dump_fetched { (name : List ℕ)
         → usage words.now ≡ Dump name
-        → F.fetches shelf.new ≡ one_more (F.fetches shelf.old) }
+        → F.fetches shelf.new ≡ with_fetch (F.fetches shelf.old) (layout_fetch name) }
     ensures lookup_fetched { (name ids : List ℕ)
         → usage words.now ≡ Lookup name ids
-        → F.fetches shelf.new ≡ one_more (F.fetches shelf.old) }
+        → F.fetches shelf.new ≡ with_fetch (F.fetches shelf.old) (table_fetch name) }
 {
     match form_of(words) {
         Some(Form::Run) => run(alloc, shelf, source, sink, work),

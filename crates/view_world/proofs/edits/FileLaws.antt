@@ -5,6 +5,7 @@ use Rattle.script_lines.specs.commands.PlainCommands.{PlainCommand}
 use Rattle.script_lines.specs.commands.PlainCommands as command
 use Rattle.script_lines.specs.declared.words.naming.Name.{Name}
 use Rattle.tool_io.specs.Fetched.{Files}
+use Rattle.tool_io.specs.Fetches.{Fetches}
 use Rattle.view_world.specs.world.World.{World}
 use Rattle.view_world.specs.world.Carried.{AsksShelf, CountsShelf}
 use Rattle.view_world.specs.editing.Inflating.{inflation_of}
@@ -70,7 +71,7 @@ counts_nothing before (Err fault.Sink) never = refl
 counts_nothing before (Err fault.Shelf) never = absurd (never refl)
 
 -- and one that asks for no file leaves the shelf
-pub asks_none : {S A : Type 0} (files : S → Option Files) (fetches : S → Option ℕ) (faults : S → ℕ) (result : Result A StepFault) (shelf : S) → result ≢ Err fault.Shelf
+pub asks_none : {S A : Type 0} (files : S → Option Files) (fetches : S → Fetches) (faults : S → ℕ) (result : Result A StepFault) (shelf : S) → result ≢ Err fault.Shelf
     → AsksShelf files fetches faults None result shelf shelf
 asks_none files fetches faults result shelf never = record {
   files_stay = refl;
@@ -90,7 +91,7 @@ pub counts_failed : (A : Type 0) {B : Type 0} (before now : ℕ) (line_fault : S
 counts_failed A {B = B} before now line_fault result e counts = subst (λ (r : Result B StepFault). CountsShelf before now r) (sym e) (counts_fault A B before now line_fault counts)
 
 -- a line that fails as a step of it has asked the shelf as that step
-pub asks_failed : {S A B : Type 0} (files : S → Option Files) (fetches : S → Option ℕ) (faults : S → ℕ) (name : Option (List ℕ)) (line_fault : StepFault) (result : Result B StepFault) (old new : S)
+pub asks_failed : {S A B : Type 0} (files : S → Option Files) (fetches : S → Fetches) (faults : S → ℕ) (name : Option (List ℕ)) (line_fault : StepFault) (result : Result B StepFault) (old new : S)
     → result ≡ Err line_fault → AsksShelf {A = A} files fetches faults name (Err line_fault) old new → AsksShelf files fetches faults name result old new
 asks_failed {A = A} files fetches faults name line_fault result old new e asks = record {
   files_stay = asks.files_stay;

@@ -6,6 +6,7 @@ use Rattle.std.specs.Option.{option_map}
 use Rattle.inflater.specs.Inflating.{Plan}
 use Rattle.script_lines.specs.declared.words.naming.Name.{Name}
 use Rattle.tool_io.specs.Fetched.{Files, file_of}
+use Rattle.tool_io.specs.Fetches.{Fetches}
 use Rattle.view_model.specs.Directed.{directed, rtl_at}
 use Rattle.view_model.specs.Forest.{Forest}
 use Rattle.view_model.specs.Geometry.{Laid}
@@ -87,7 +88,7 @@ reported_counts before now (Err fault.NoMemory) done same = absurd done
 reported_counts before now (Err fault.Sink) done same = same
 reported_counts before now (Err fault.Shelf) done same = absurd done
 
-pub asks_reported : {S A : Type 0} (files : S → Option Files) (fetches : S → Option ℕ) (faults : S → ℕ) (name : Option (List ℕ)) (value : A) (result : Result (Unit {0}) StepFault) (old new : S)
+pub asks_reported : {S A : Type 0} (files : S → Option Files) (fetches : S → Fetches) (faults : S → ℕ) (name : Option (List ℕ)) (value : A) (result : Result (Unit {0}) StepFault) (old new : S)
     → IsDone result → AsksShelf files fetches faults name (Ok value) old new → AsksShelf files fetches faults name result old new
 asks_reported files fetches faults name value result old new done asks = record {
   files_stay = asks.files_stay;

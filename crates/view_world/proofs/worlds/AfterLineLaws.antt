@@ -3,8 +3,8 @@ use Rattle.std.proofs.Common.{◌≡◌, ◌≢◌, ℕ, List, refl, sym, ap, su
 use Rattle.std.specs.Prelude.{◌⊎◌, Option, None, Some, Result, Ok, Err}
 use Rattle.geom_core.specs.declared.geometry.Rect.{Rect}
 use Rattle.script_lines.specs.declared.words.naming.Name.{Name}
-use Rattle.tool_io.specs.Counts.{one_more}
 use Rattle.tool_io.specs.Fetched.{Files}
+use Rattle.tool_io.specs.Fetches.{Fetches, with_fetch}
 use Rattle.tool_io.specs.SinkState.{SinkState}
 use Rattle.view_model.specs.Forest.{Forest}
 use Rattle.view_model.specs.PlainTree.{PlainView}
@@ -14,7 +14,7 @@ use Rattle.view_world.specs.declared.fault.StepFault.{StepFault}
 use Rattle.view_world.specs.declared.fault.StepFault.TheVariants as fault
 use Rattle.view_world.specs.declared.replying.response.Response.{Response}
 use Rattle.view_world.specs.world.AfterLine.{IsAsBefore, Reports}
-use Rattle.view_world.specs.world.Carried.{AsksShelf, CountsShelf, IsDone, WritesReply, fetches_after}
+use Rattle.view_world.specs.world.Carried.{AsksShelf, CountsShelf, IsDone, WritesReply, fetches_after, layout_fetch}
 use Rattle.view_world.specs.screen.Changed.{CarriesOut, Gives, IsPlace}
 use Rattle.view_world.specs.editing.Inflating.{asked_at, asked_for, place_in}
 use Rattle.view_world.specs.screen.KeyedScreen.{KeyedScreen, world_of}
@@ -84,8 +84,8 @@ file_unplaced views tree name into fault.Sink gives memory shelf = absurd gives
 file_unplaced views tree name into fault.Shelf gives memory shelf = absurd (shelf refl)
 
 -- and so its file is fetched once, or nothing is
-pub asks_placed : {S A : Type 0} (files : S → Option Files) (fetches : S → Option ℕ) (faults : S → ℕ) (tree : Forest PlainView) (name : List ℕ) (into : Option Name) (place : Option ℕ) (result : Result A StepFault) (old new : S)
-    → place_in tree into ≡ Ok place → files new ≡ files old → CountsShelf (faults old) (faults new) result → fetches new ≡ one_more (fetches old)
+pub asks_placed : {S A : Type 0} (files : S → Option Files) (fetches : S → Fetches) (faults : S → ℕ) (tree : Forest PlainView) (name : List ℕ) (into : Option Name) (place : Option ℕ) (result : Result A StepFault) (old new : S)
+    → place_in tree into ≡ Ok place → files new ≡ files old → CountsShelf (faults old) (faults new) result → fetches new ≡ with_fetch (fetches old) (layout_fetch name)
     → AsksShelf files fetches faults (asked_for tree (Some (name, into))) result old new
 asks_placed files fetches faults tree name into place result old new e stay counts once =
     let is = file_placed tree name into place e in
@@ -97,7 +97,7 @@ asks_placed files fetches faults tree name into place result old new e stay coun
       asked = λ failed none. absurd (cc (is, none));
     }
 
-pub asks_unplaced : {S A : Type 0} (files : S → Option Files) (fetches : S → Option ℕ) (faults : S → ℕ) (views : Views) (tree : Forest PlainView) (name : List ℕ) (into : Option Name) (line_fault : StepFault)
+pub asks_unplaced : {S A : Type 0} (files : S → Option Files) (fetches : S → Fetches) (faults : S → ℕ) (views : Views) (tree : Forest PlainView) (name : List ℕ) (into : Option Name) (line_fault : StepFault)
     (result : Result A StepFault) (shelf : S) → result ≡ Err line_fault → Gives (IsPlace views) (place_in tree into) (Err line_fault) → line_fault ≢ fault.NoMemory → line_fault ≢ fault.Shelf
     → AsksShelf files fetches faults (asked_for tree (Some (name, into))) result shelf shelf
 asks_unplaced files fetches faults views tree name into line_fault result shelf e gives no_memory no_shelf =

@@ -4,10 +4,12 @@ use Rattle.std.specs.Io.KnownBytes.{Appends}
 use Rattle.script_lines.specs.commands.PlainCommands.{PlainCommand}
 use Rattle.script_lines.specs.commands.PlainCommands as command
 use Rattle.text_lines.specs.Prefix.{AppendsPrefix}
-use Rattle.tool_io.specs.Counts.{one_more, raised}
+use Rattle.tool_io.specs.Counts.{raised}
 use Rattle.tool_io.specs.Fetched.{Files}
+use Rattle.tool_io.specs.Fetches.{Fetch, Fetches, with_fetch}
 use Rattle.tool_io.specs.SinkState.{SinkState}
 use Rattle.tree_edits.specs.Editing.{names_views}
+use Rattle.view_model.specs.declared.limits.TheConstants.{MAX_FILE}
 use Rattle.view_model.specs.Refusals.{plain_refusal}
 use Rattle.view_world.specs.world.World.{World}
 use Rattle.view_world.specs.declared.fault.StepFault.{StepFault}
@@ -78,14 +80,19 @@ CountsShelf before now (Err fault.NoMemory) = before ≤ now
 CountsShelf before now (Err fault.Sink) = now ≡ before
 CountsShelf before now (Err fault.Shelf) = now ≡ raised before
 
--- a shelf's count of calls after a command: one more if a file is asked for, and otherwise the same
-abbrev pub fetches_after : Option (List ℕ) → Option ℕ → Option ℕ
-fetches_after None fetches = fetches
-fetches_after (Some name) fetches = one_more fetches
+-- a layout file is asked for with the limit of its bytes
+abbrev pub layout_fetch : List ℕ → Fetch
+layout_fetch name = record { name = name; limit = MAX_FILE }
 
--- What a line does to a shelf, if it asks for this file or for none. The shelf is asked once for a file, and otherwise
--- it stays; its files stay, and a fetch that failed was one that was asked for.
-pub record AsksShelf {S A : Type 0} (files : S → Option Files) (fetches : S → Option ℕ) (faults : S → ℕ) (name : Option (List ℕ)) (result : Result A StepFault) (old new : S) : Type 0 where
+-- what a shelf shows of the calls on it after a command: one more if a file is asked for, and otherwise the same
+abbrev pub fetches_after : Option (List ℕ) → Fetches → Fetches
+fetches_after None fetches = fetches
+fetches_after (Some name) fetches = with_fetch fetches (layout_fetch name)
+
+-- What a line does to a shelf, if it asks for this file or for none. The shelf is asked once for a file, by its name and
+-- with the limit of a layout file, and otherwise it stays; its files stay, and a fetch that failed was one that was asked
+-- for.
+pub record AsksShelf {S A : Type 0} (files : S → Option Files) (fetches : S → Fetches) (faults : S → ℕ) (name : Option (List ℕ)) (result : Result A StepFault) (old new : S) : Type 0 where
   pub files_stay : files new ≡ files old
   pub unasked : name ≡ None → new ≡ old
   pub fetched : fetches new ≡ fetches_after name (fetches old)

@@ -8,10 +8,10 @@ ghost use Rattle.std.specs.Prelude.{◌≡◌, ◌≢◌, Some, Err};
 ghost use Rattle.std.specs.Option.{option_map};
 ghost use Rattle.inflater.specs.Answers.{IsGrown};
 ghost use Rattle.script_lines.specs.commands.PlainCommands.{plain_command};
-ghost use Rattle.tool_io.specs.Counts.{one_more};
 ghost use Rattle.tool_io.specs.Fetched.{Files, file_of};
+ghost use Rattle.tool_io.specs.Fetches.{with_fetch};
 ghost use Rattle.view_model.specs.Refusals.{plain_refusal};
-ghost use Rattle.view_world.specs.world.Carried.{CountsShelf};
+ghost use Rattle.view_world.specs.world.Carried.{CountsShelf, layout_fetch};
 ghost use Rattle.view_world.specs.screen.Changed.{Gives, HasBytes};
 ghost use Rattle.view_world.specs.editing.Inflating.{bytes_in, fault_refusal, inflation_of, views_in};
 
@@ -56,14 +56,14 @@ pub fn inflation_of<'a>(command: &Command<'a>) -> Option<(&'a str, Option<Name>)
     }
 }
 
-/// The bytes of the file of this name.
+/// The bytes of the file of this name, which is asked for once and with the limit of a layout file.
 pub fn fetch<F: Shelf>(alloc: Global, shelf: &mut F, name: &str) -> Result<Vec<u8>, StepFault>
     ensures bytes { (files : Files)
         → F.files shelf.old ≡ Some files
         → Gives HasBytes (bytes_in (file_of files name.now)) result }
     ensures files_stay { F.files shelf.new ≡ F.files shelf.old }
     ensures shelf_failed { CountsShelf (F.faults shelf.old) (F.faults shelf.new) result }
-    ensures fetched { F.fetches shelf.new ≡ one_more (F.fetches shelf.old) }
+    ensures fetched { F.fetches shelf.new ≡ with_fetch (F.fetches shelf.old) (layout_fetch name.now) }
     ensures no_sink { result ≢ Err StepFault.Sink }
 {
     let mut bytes = Vec::new(alloc);

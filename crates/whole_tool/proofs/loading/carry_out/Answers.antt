@@ -1,9 +1,10 @@
 use Rattle.std.proofs.Common.{◌≡◌, ◌<◌, ◌^◌, [], length, ap, sym, subst, ◌∙◌, arith}
-use Rattle.std.specs.Prelude.{Err, None, Option, Some}
+use Rattle.std.specs.Prelude.{Err, Option, Some}
 use Rattle.std.proofs.lemmas.List.{append-nil}
 use Rattle.std.proofs.lemmas.Result.{err_from_is_err_and}
 use Rattle.script_lines.specs.cutting.Lines.{cut_of, lines_of}
 use Rattle.tool_io.specs.Fetched.{Files}
+use Rattle.tool_io.specs.Fetches.{Unseen}
 use Rattle.tool_io.specs.Files.{named_files}
 use Rattle.whole_tool.specs.Carried.{Alone}
 use Rattle.whole_tool.specs.Run.{HasReadUpTo}
@@ -16,8 +17,8 @@ use Rattle.whole_tool.proofs.loading.carry_out.Goals as goal
 pub returns-clause-runs : goal.returns-clause-runs
 returns-clause-runs c =
     let script = c.args.script.now in
-    let first : Trace = record { gone = Some c.args.page.now.gone; work = c.args.work.now; fetches = None } in
-    let mid : Trace = record { gone = Some c.piece.new.sink.gone; work = c.piece.new.work; fetches = None } in
+    let first : Trace = record { gone = Some c.args.page.now.gone; work = c.args.work.now; fetches = Unseen } in
+    let mid : Trace = record { gone = Some c.piece.new.sink.gone; work = c.piece.new.work; fetches = Unseen } in
     let short : length script < 2 ^ 63 = omega (arith, c.requires.short) in
     let none : c.new-shelf.result ≡ [] = c.new-shelf.ensures ∙ ap named_files c.new.ensures.items in
     let begun = rw c.requires.start at c.requires.following in
@@ -30,8 +31,8 @@ returns-in_err-piece-clause-stopped c =
     let p = err_from_is_err_and c.from_residual.result c.from_residual.ensures.1 in
     let e : c.from_residual.result ≡ Err c.in_err-piece.field-0.0 = cc (p.1, p.2) in
     let script = c.args.script.now in
-    let first : Trace = record { gone = Some c.args.page.now.gone; work = c.args.work.now; fetches = None } in
-    let mid : Trace = record { gone = Some c.piece.new.sink.gone; work = c.piece.new.work; fetches = None } in
+    let first : Trace = record { gone = Some c.args.page.now.gone; work = c.args.work.now; fetches = Unseen } in
+    let mid : Trace = record { gone = Some c.piece.new.sink.gone; work = c.piece.new.work; fetches = Unseen } in
     let short : length script < 2 ^ 63 = omega (arith, c.requires.short) in
     let none : c.new-shelf.result ≡ [] = c.new-shelf.ensures ∙ ap named_files c.new.ensures.items in
     let begun = rw c.requires.start at c.requires.following in
@@ -44,9 +45,9 @@ returns-in_err-finish-clause-stopped c =
     let p = err_from_is_err_and c.from_residual-in_err-finish.result c.from_residual-in_err-finish.ensures.1 in
     let e : c.from_residual-in_err-finish.result ≡ Err c.in_err-finish.field-0.0 = cc (p.1, p.2) in
     let script = c.args.script.now in
-    let first : Trace = record { gone = Some c.args.page.now.gone; work = c.args.work.now; fetches = None } in
-    let mid : Trace = record { gone = Some c.piece.new.sink.gone; work = c.piece.new.work; fetches = None } in
-    let last : Trace = record { gone = Some c.finish.new.sink.gone; work = c.finish.new.work; fetches = None } in
+    let first : Trace = record { gone = Some c.args.page.now.gone; work = c.args.work.now; fetches = Unseen } in
+    let mid : Trace = record { gone = Some c.piece.new.sink.gone; work = c.piece.new.work; fetches = Unseen } in
+    let last : Trace = record { gone = Some c.finish.new.sink.gone; work = c.finish.new.work; fetches = Unseen } in
     let short : length script < 2 ^ 63 = omega (arith, c.requires.short) in
     let none : c.new-shelf.result ≡ [] = c.new-shelf.ensures ∙ ap named_files c.new.ensures.items in
     let begun = rw c.requires.start at c.requires.following in

@@ -2,13 +2,12 @@ use Rattle.std.proofs.Common.{refl, arith}
 use Rattle.text_lines.proofs.Prefixes.{appends_none}
 use Rattle.whole_tool.specs.Tally.{tally_from}
 use Rattle.whole_tool.specs.Transcript.{after_from}
-use Rattle.whole_tool.specs.Works.{raised_by}
 use Rattle.whole_tool.proofs.CarrierLaws.{first_next, first_watching}
 use Rattle.whole_tool.proofs.SumLaws.{worth_none}
 use Rattle.whole_tool.proofs.run.Run.new.Goals as goal
 
 pub returns-clause-following : goal.returns-clause-following
-unfolding after_from tally_from raised_by
+unfolding after_from tally_from
 returns-clause-following c shelf first = record {
   held = c.new.ensures.reached;
   runner = λ files reported. record {
