@@ -4,7 +4,7 @@ use Rattle.std.specs.Prelude.{codes, false, Result, Ok, Err, string_bytes}
 use Rattle.std.specs.declared.alloc.Global.{Global}
 use Rattle.std.specs.declared.string.String.{String}
 use Rattle.std.proofs.lemmas.List.Folds.{flat_map-map}
-use Rattle.arsc_reader.specs.Answers.{RepresentsFault}
+use Rattle.arsc_reader.specs.Answers.{RepresentsTable}
 use Rattle.arsc_reader.specs.Contents.{Contents}
 use Rattle.arsc_reader.specs.Lines.{held_text, value_line, value_lines}
 use Rattle.arsc_reader.specs.Table.{value_of}
@@ -53,7 +53,7 @@ dumps_lines page old new (Err _) sent = record {
 }
 
 -- the lines of a table that represents what was read were delivered, or a front part of them
-pub dumps_values : {E : Type 0} (table : Contents) (read : Result Contents Fault) (ids : List ℕ) (old new : SinkState) (outcome : Result (Unit {0}) E) → RepresentsFault table read
+pub dumps_values : {E : Type 0} (table : Contents) (read : Result Contents Fault) (ids : List ℕ) (old new : SinkState) (outcome : Result (Unit {0}) E) → RepresentsTable table read
     → Delivered old new outcome (value_lines table ids) → Dumps (looked_up ids read) (is_broken read) old new (status_of_text 0 outcome)
 dumps_values table read ids old new outcome reached sent =
     rw reached.whole_is (dumps_lines (value_lines reached.whole ids) old new outcome
