@@ -136,7 +136,8 @@ def takes_apps() -> str:
         starts = [re.match(r".*/res/layout/settings\.xml:\d+:\d+: warning", line) for line in of_source]
         if not all(starts) or len(of_source) != len(lines) or len(of_file) != len(lines):
             return "of a source: %s; of a file: %s" % (of_source, of_file)
-        return unlike(it.call("lint", trips, "--layout", "setting"), 2, b"", "did you mean 'settings'?")
+        why = unlike(it.call("lint", trips, "--layout", "setting"), 2, b"", "did you mean 'settings'?")
+        return why or unlike(it.call("lint", trips, "--config", "night-de"), 2, b"", "in Android's order it is 'de-night'")
 
 
 BROKEN = '''<LinearLayout xmlns:android="http://schemas.android.com/apk/res/android"

@@ -13,6 +13,15 @@ from results import Outcome, Report, Result, tried
 from running import Check
 
 
+# the checks by their names, which copies of this process have too: functions in functions cannot be sent to them
+CHECKS: Dict[str, Check] = {}
+
+
+def tried_by_name(name: str) -> Result:
+    """The end of a check."""
+    return tried(name, CHECKS[name])
+
+
 def one_after_the_other(checks: Dict[str, Check]) -> Iterator[Result]:
     """The ends of the checks, in this process."""
     for name, check in checks.items():
@@ -22,8 +31,9 @@ def one_after_the_other(checks: Dict[str, Check]) -> Iterator[Result]:
 def side_by_side(checks: Dict[str, Check], jobs: int) -> Iterator[Result]:
     """The ends of the checks, as they come, in this number of processes: copies of this one, so that they have the
     checks already."""
+    CHECKS.update(checks)
     with ProcessPoolExecutor(jobs, multiprocessing.get_context("fork")) as pool:
-        started = {pool.submit(tried, name, checks[name]): name for name in collection.slowest_first(list(checks))}
+        started = {pool.submit(tried_by_name, name): name for name in collection.slowest_first(list(checks))}
         try:
             for ended in as_completed(started):
                 try:

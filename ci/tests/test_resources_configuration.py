@@ -94,10 +94,18 @@ def test_devices() -> None:
     assert (land.width, land.height, land.smallest_width, land.orientation) == (640, 360, 360, Orientation.LAND)
     tablet = device("sw800dp")
     assert (tablet.width, tablet.height, tablet.size) == (800, 1422, Size.XLARGE)
-    assert device("night-ar").direction == Direction.RTL and device("de").region == ""
+    assert device("ar-night").direction == Direction.RTL and device("de").region == ""
     assert device("w1280dp-h800dp").orientation == Orientation.LAND
     with pytest.raises(Failure):
         device("nodpi")
+    for text, right in (("night-de", "in Android's order it is 'de-night'"), ("de-fr", "one thing is said twice")):
+        with pytest.raises(Failure, match=right):
+            device(text)
+    # of two texts each has the order for itself
+    both = device("de-night", more="land")
+    assert (both.language, both.orientation, both.night) == ("de", Orientation.LAND, Night.YES)
+    with pytest.raises(Failure, match="in Android's order it is 'land-v30'"):
+        device("night", more="v30-land")
 
 
 def test_the_example_of_androids_documentation() -> None:

@@ -18,9 +18,7 @@ from ..apps.app import OpenApp, Request, Screen
 from ..apps.expansion import Options
 from ..common import failures, files, messages, progress
 from ..common.failures import Failure
-from ..resources.configuration import Configuration
 from ..resources.devices import device
-from ..resources.qualifiers import parse_qualifiers, write_qualifiers
 from . import app_views, arguments
 from .uses import Purpose, Use
 
@@ -75,24 +73,11 @@ def parts_of(given: argparse.Namespace) -> Tuple[List[str], List[str]]:
     return [given.app, *parts], [it for it in given.names if it not in parts]
 
 
-def device_of(qualifiers: str) -> Configuration:
-    """The device of qualifiers in Android's order; Failure for others."""
-    wanted = device(qualifiers)
-    try:
-        parse_qualifiers(qualifiers)
-    except Failure as failure:
-        right = write_qualifiers(parse_qualifiers(qualifiers, is_ordered=False))
-        is_other = sorted(right.lower().split("-")) == sorted(qualifiers.lower().split("-"))
-        hint = "in Android's order it is '%s'" % right if is_other else "one thing is said twice"
-        raise Failure("%s; %s" % (failure, hint))
-    return wanted
-
-
 def request_of(given: argparse.Namespace) -> Request:
     """How the layouts are made."""
     options = Options(given.design, given.inflate_stubs, given.items)
     try:
-        wanted = device_of(given.config)
+        wanted = device(given.config)
     except Failure as failure:
         raise Failure(str(failure), failures.NOT_RUN)
     return Request(

@@ -6,7 +6,7 @@ from ..common.failures import Failure
 from .configuration import (ANYDPI, DEFAULT, NODPI, Configuration, Direction, Hdr, Keyboard, KeysHidden, Long,
                             Navigation, NavHidden, Night, Orientation, Round, Size, Touch, UiType, WideGamut)
 from .locales import is_right_to_left
-from .qualifiers import parse_qualifiers
+from .qualifiers import check_order, parse_qualifiers
 
 MEDIUM = 160
 # what says a locale
@@ -70,12 +70,16 @@ HARDWARE = Configuration(
 PHONE = derived(replace(HARDWARE, language="en", region="US", width=360, height=640, density=480), DEFAULT)
 
 
-def device(qualifiers: str = "", base: Configuration = PHONE) -> Configuration:
+def device(qualifiers: str = "", base: Configuration = PHONE, more: str = "") -> Configuration:
     """A device: the base (a phone of 360 by 640 dp at 480 dpi, in US English, with API 23) with what qualifiers as
-    `de-rDE-land-night` say. Failure where they are wrong, or say a density that no screen has."""
-    wanted = parse_qualifiers(qualifiers, is_ordered=False)
+    `de-rDE-land-night` say, and further ones, which a user has beside them. Failure where they are wrong, in another order
+    than Android's, or say a density that no screen has."""
+    whole = "-".join(filter(None, (qualifiers, more)))
+    wanted = parse_qualifiers(whole, is_ordered=False)
     if wanted.density in (ANYDPI, NODPI):
-        raise Failure("'%s' has a density of drawables, not of a screen" % qualifiers)
+        raise Failure("'%s' has a density of drawables, not of a screen" % whole)
+    for it in (qualifiers, more):
+        check_order(it)
     said = {name: value for name, value in vars(wanted).items() if value}
     if wanted.language:
         said.update({name: getattr(wanted, name) for name in LOCALE})

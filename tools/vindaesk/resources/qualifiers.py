@@ -174,3 +174,14 @@ def write_qualifiers(it: Configuration) -> str:
     if it.sdk or it.minor:
         parts.append("v%d" % it.sdk + (".%d" % it.minor if it.minor else ""))
     return "-".join(parts)
+
+
+def check_order(text: str) -> None:
+    """Qualifiers that users write are in Android's order, as names of folders have to be; Failure says that order."""
+    try:
+        parse_qualifiers(text)
+    except Failure as failure:
+        right = write_qualifiers(parse_qualifiers(text, is_ordered=False))
+        is_other = sorted(right.lower().split("-")) == sorted(text.lower().split("-"))
+        hint = "in Android's order it is '%s'" % right if is_other else "one thing is said twice"
+        raise Failure("%s; %s" % (failure, hint))

@@ -53,12 +53,12 @@ class AppSession(Session):
         return report.lines_of(self.screen.records)
 
 
-def qualifiers_of(locale: str, night: bool, land: bool, density: int, more: str) -> str:
+def qualifiers_of(locale: str, night: bool, land: bool, density: int) -> str:
     """The qualifiers of a device; a locale is `de` or `de-DE`, and the density a number of dots an inch."""
     language, _, region = locale.partition("-")
     parts = [language, region and "r" + region, "land" if land else "", "night" if night else ""]
     parts.append("%ddpi" % density if density else "")
-    return "-".join([it for it in parts if it] + ([more] if more else []))
+    return "-".join(it for it in parts if it)
 
 
 @contextlib.contextmanager
@@ -80,9 +80,8 @@ def app(
     seconds: float = SECONDS,
 ) -> Iterator[AppSession]:
     """A session over a layout of an app, for as long as it is used: an APK, several split ones, or a folder.
-    `config` has further qualifiers of the device, as `v30`, which come after the others in the order of Android's
-    folders; `states` are names, as "pressed,checked" or a list. What is wrong with the app or the layout is a Failure."""
-    wanted = device(qualifiers_of(locale, night, land, density, config))
+    `config` has further qualifiers of the device, as `v30`, in the order of Android's folders; `states` are names, as "pressed,checked" or a list. What is wrong with the app or the layout is a Failure."""
+    wanted = device(qualifiers_of(locale, night, land, density), more=config)
     request = Request(wanted, theme, named(states), options, maps, in_pixels=pixels)
     with apps.opened([path] if isinstance(path, str) else list(path), framework) as opened:
         screen = opened.screen(layout, request)

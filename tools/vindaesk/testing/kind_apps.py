@@ -110,22 +110,21 @@ def read(path: str) -> Given:
     return given_in(path, (found.st_mtime_ns, found.st_size))
 
 
-def qualifiers_of(it: Configuration, more: str) -> str:
+def qualifiers_of(it: Configuration) -> str:
     """The qualifiers of the device of a configuration."""
     if it.values:
         raise it.failure("values are those of the app's own resources; there is no key `values` here")
     language, _, region = it.locale.partition("-")
     parts = [language, region and "r" + region.lstrip("r"), "ldrtl" if it.direction == "rtl" else ""]
     parts += ["w%ddp-h%ddp" % it.window] if it.window else []
-    parts += ["night" if it.night else "", "%ddpi" % it.dpi if it.dpi else "", more]
+    parts += ["night" if it.night else "", "%ddpi" % it.dpi if it.dpi else ""]
     return "-".join(part for part in parts if part)
 
 
 def request_of(given: Given, it: Configuration) -> Request:
     """How the layouts of a configuration are made."""
-    qualifiers = qualifiers_of(it, given.config)
     try:
-        return Request(device(qualifiers), given.theme)
+        return Request(device(qualifiers_of(it), more=given.config), given.theme)
     except Failure as failure:
         raise it.failure(str(failure))
 
