@@ -67,9 +67,11 @@ IsWatching (carrier.Stacked stack) (WatchedWindows watched) = IsWatchedStack sta
 
 -- how a line was carried out, as `WritesReply` says it of a command
 abbrev pub WritesLine : LineReply → Carried → SinkState → SinkState → Result (Unit {0}) StepFault → Type 0
-WritesLine reply new before after (Ok _) = (text : List ℕ) × (reply ≡ Done new text) × Appends before.gone after.gone text × (after.faults ≡ before.faults)
+WritesLine reply new before after (Ok _) =
+    (text : List ℕ) × (reply ≡ Done new text) × Appends before.gone after.gone text × (after.faults ≡ before.faults)
 WritesLine reply new before after (Err (fault.Refused refusal)) = reply ≡ Refused (plain_refusal refusal)
 WritesLine reply new before after (Err fault.NoMemory) = Unit {0}
 WritesLine reply new before after (Err fault.Sink) =
-    (text : List ℕ) × (reply ≡ Done new text) × AppendsPrefix before.gone after.gone text × (after.faults ≡ raised before.faults)
+    (text : List ℕ) × (reply ≡ Done new text) × AppendsPrefix before.gone after.gone text
+    × (after.faults ≡ raised before.faults)
 WritesLine reply new before after (Err fault.Shelf) = Unit {0}

@@ -1,5 +1,6 @@
 -- What the tool writes of a file: the text of its document, or why it is refused.
-use Rattle.std.specs.Prelude.{◌≡◌, ℕ, nat_lt, Bool, true, false, if◌then◌else◌, List, length, Option, Some, None, Result, Ok, Err, codes, decimal}
+use Rattle.std.specs.Prelude.{◌≡◌, ℕ, nat_lt, Bool, true, false, if◌then◌else◌, List, length, Option, Some, None}
+use Rattle.std.specs.Prelude.{Result, Ok, Err, codes, decimal}
 use Rattle.axml_chunks.specs.Causes.{cause_number}
 use Rattle.axml_chunks.specs.declared.fault.Fault.{Fault}
 use Rattle.axml_reader.specs.Decoding.{decoded}
@@ -18,7 +19,8 @@ refused_file_text number = codes "file: " ⧺ refused_text number ⧺ codes "\n"
 
 -- what is wrong with a file, and at which place
 unfoldable pub fault_text : Fault → List ℕ
-fault_text fault = codes "file: " ⧺ refused_text (cause_number fault.cause) ⧺ (codes " at " ⧺ decimal fault.at) ⧺ codes "\n"
+fault_text fault =
+    codes "file: " ⧺ refused_text (cause_number fault.cause) ⧺ (codes " at " ⧺ decimal fault.at) ⧺ codes "\n"
 
 -- the text of what was read
 abbrev pub decoded_text : Result Document Fault → List ℕ
@@ -32,7 +34,8 @@ is_fault (Err fault) = true
 -- the text of a file, if there is one
 abbrev pub file_text : Option (List ℕ) → List ℕ
 file_text None = refused_file_text missing_file
-file_text (Some bytes) = if nat_lt max_file (length bytes) then refused_file_text long_file else decoded_text (decoded bytes)
+file_text (Some bytes) =
+    if nat_lt max_file (length bytes) then refused_file_text long_file else decoded_text (decoded bytes)
 
 abbrev pub is_refused_file : Option (List ℕ) → Bool
 is_refused_file None = true

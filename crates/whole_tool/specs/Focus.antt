@@ -1,6 +1,7 @@
 -- What the tool writes of a script with a question after it: the texts of the lines, and then which view gets the focus
 -- next, or why the question is refused.
-use Rattle.std.specs.Prelude.{◌≡◌, ◌⊎◌, ℕ, ◌+◌, ◌<◌, ◌≤◌, Bool, ◌||◌, if◌then◌else◌, List, [], ◌++◌, length, Option, Some, None, Result, Ok, Err, IfOk, is_err, codes, decimal}
+use Rattle.std.specs.Prelude.{◌≡◌, ◌⊎◌, ℕ, ◌+◌, ◌<◌, ◌≤◌, Bool, ◌||◌, if◌then◌else◌, List, [], ◌++◌, length, Option}
+use Rattle.std.specs.Prelude.{Some, None, Result, Ok, Err, IfOk, is_err, codes, decimal}
 use Rattle.std.specs.Io.KnownBytes.{Appends, Consumes, IsAtEnd}
 use Rattle.focus_finder.specs.Focus.{next_focus}
 use Rattle.focus_finder.specs.declared.side.Side.{Side}
@@ -34,10 +35,11 @@ next_in world side None number = None
 next_in world side (Some window) None = None
 next_in world side (Some window) (Some number) = next_focus world.tree world.geometry window number side
 
--- the view that gets the focus next, if there is one, or else the number of the refusal of the question, by what a `bounds`
--- line of the same view is replied
+-- the view that gets the focus next, if there is one, or else the number of the refusal of the question, by what a
+-- `bounds` line of the same view is replied
 abbrev pub answer_by : World → Question → Reply → Result (Option ℕ) ℕ
-answer_by world question (Done after text) = Ok (next_in world question.side world.window (named world.tree question.view))
+answer_by world question (Done after text) =
+    Ok (next_in world question.side world.window (named world.tree question.view))
 answer_by world question (Refused refusal) = Err refusal.number
 
 abbrev pub answer_of : World → Question → Result (Option ℕ) ℕ
@@ -72,7 +74,8 @@ abbrev pub refuses_focus : List ℕ → Files → Question → Bool
 refuses_focus script files question = has_refusal script files || is_err (script_answer script files question)
 
 -- a run of this script with these files and then this question
-pub record IsFocusOf (usage : Usage) (left : Option (List ℕ)) (held : Option Files) (script : List ℕ) (files : Files) (question : Question) : Type 0 where
+pub record IsFocusOf (usage : Usage) (left : Option (List ℕ)) (held : Option Files) (script : List ℕ) (files : Files)
+    (question : Question) : Type 0 where
   pub words : usage ≡ Focus question
   pub source : left ≡ Some script
   pub shelf : held ≡ Some files
@@ -94,31 +97,39 @@ pub record CutsAnswer (files : Files) (script : List ℕ) (question : Question) 
   pub worth : IsWorth (costs_of_script script files) first.work last.work
   pub fetched : HasFetched (Alone empty_world) files (lines_of script) first last
 
--- how the run of a script with a question after it ended: with the answer, as the run alone would, or by a failed write of
--- the answer
+-- how the run of a script with a question after it ended: with the answer, as the run alone would, or by a failed write
+-- of the answer
 abbrev pub AsksTo : Files → List ℕ → Question → Option (List ℕ) → Trace → Trace → Result Bool End → Type 0
 AsksTo files script question left first last (Ok refused) =
     Answers files script question first last × (refused ≡ refuses_focus script files question)
 AsksTo files script question left first last (Err end) =
-    RunsTo (Alone empty_world) files script left first last (Err end) ⊎ ((end ≡ ends.Stopped stop.Sink) × CutsAnswer files script question first last)
+    RunsTo (Alone empty_world) files script left first last (Err end) ⊎
+    ((end ≡ ends.Stopped stop.Sink) × CutsAnswer files script question first last)
 
 -- the same of a source, from its first bytes to its end
-pub record AsksFrom (shelf : Option Files) (question : Question) (before after : Option (List ℕ)) (first last : Trace) (outcome : Result Bool End) : Type 0 where
-  pub asks : (files : Files) (script : List ℕ) → shelf ≡ Some files → before ≡ Some script → AsksTo files script question after first last outcome
+pub record AsksFrom (shelf : Option Files) (question : Question) (before after : Option (List ℕ)) (first last : Trace)
+    (outcome : Result Bool End) : Type 0 where
+  pub asks : (files : Files) (script : List ℕ) → shelf ≡ Some files → before ≡ Some script
+      → AsksTo files script question after first last outcome
   pub end : IfOk outcome (λ _. IsAtEnd after)
   pub taken : List ℕ
   pub consumed : Consumes before after taken
   pub most : length taken ≤ max_script + 1
 
 -- how the run of a script with a question after it ended with a status, what was written, and what was counted
-pub record AsksWith (files : Files) (script : List ℕ) (question : Question) (left : Option (List ℕ)) (first last : Trace) (status : ℕ) : Type 0 where
+pub record AsksWith (files : Files) (script : List ℕ) (question : Question) (left : Option (List ℕ))
+    (first last : Trace) (status : ℕ) : Type 0 where
   pub writes : length script ≤ max_script → Writes status first.gone last.gone (focus_page script files question)
   -- where the script is too long, no question is answered
   pub cut : max_script < length script → AppendsPrefix first.gone last.gone (cut_transcript script files)
   pub part : WorksPart files first.work last.work (carried_lines script)
-  pub ended : IsComplete status → Answers files script question first last × (status ≡ (if refuses_focus script files question then 1 else 0))
+  pub ended : IsComplete status
+      → Answers files script question first last × (status ≡ (if refuses_focus script files question then 1 else 0))
   pub taken : status ≡ 3 → WorksTaken (Alone empty_world) files script left first last
-  pub failed_write : status ≡ 4 → WorksToWrite (Alone empty_world) files first last (carried_lines script) ⊎ CutsAnswer files script question first last
+  pub failed_write : status ≡ 4
+      → WorksToWrite (Alone empty_world) files first last (carried_lines script) ⊎ CutsAnswer files script question
+      first last
   pub no_memory : status ≡ 5 → WorksBefore (Alone empty_world) files first last (carried_lines script)
   pub failed_fetch : status ≡ 6 → WorksToFetch (Alone empty_world) files first last (carried_lines script)
-  pub long : status ≡ 7 → (max_script < length script) × Works (Alone empty_world) files first last (carried_lines script)
+  pub long : status ≡ 7
+      → (max_script < length script) × Works (Alone empty_world) files first last (carried_lines script)

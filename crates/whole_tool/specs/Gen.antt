@@ -18,7 +18,8 @@ gen_outcome n = outcome_after (after_lines [] (lines_of (load n)))
 
 unfoldable pub outcome_text : Outcome → List ℕ
 outcome_text outcome =
-    codes "lines " ⧺ decimal outcome.lines ⧺ codes "\nrefused " ⧺ decimal outcome.refused ⧺ codes "\npage " ⧺ encode_lower outcome.digest ⧺ codes "\n"
+    codes "lines " ⧺ decimal outcome.lines ⧺ codes "\nrefused " ⧺ decimal outcome.refused ⧺ codes "\npage " ⧺
+    encode_lower outcome.digest ⧺ codes "\n"
 
 -- what is written of the load of a size
 abbrev pub gen_page : ℕ → List ℕ

@@ -1,5 +1,6 @@
 -- What the tool writes of resources in a table: one line each, or why the file is refused.
-use Rattle.std.specs.Prelude.{ℕ, nat_lt, Bool, true, false, if◌then◌else◌, List, length, Option, Some, None, Result, Ok, Err, string_bytes}
+use Rattle.std.specs.Prelude.{ℕ, nat_lt, Bool, true, false, if◌then◌else◌, List, length, Option, Some, None, Result, Ok}
+use Rattle.std.specs.Prelude.{Err, string_bytes}
 use Rattle.std.specs.declared.alloc.Global.{Global}
 use Rattle.std.specs.declared.string.String.{String}
 use Rattle.arsc_reader.specs.Contents.{Contents}
@@ -36,7 +37,8 @@ is_broken (Err fault) = true
 -- the same of a file, if there is one
 abbrev pub table_text : List ℕ → Option (List ℕ) → List ℕ
 table_text ids None = refused_file_text missing_file
-table_text ids (Some bytes) = if nat_lt max_table (length bytes) then refused_file_text long_file else looked_up ids (table_of bytes)
+table_text ids (Some bytes) =
+    if nat_lt max_table (length bytes) then refused_file_text long_file else looked_up ids (table_of bytes)
 
 abbrev pub is_refused_table : Option (List ℕ) → Bool
 is_refused_table None = true

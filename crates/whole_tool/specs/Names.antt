@@ -5,8 +5,10 @@ use Rattle.std.specs.Prelude.{ℕ, List, [], ◌∷◌, codes, slice_get, unwrap
 unfoldable pub refusal_names : List (List ℕ)
 refusal_names =
     codes "Truncated" ∷ codes "BadChunk" ∷ codes "BadPool" ∷ codes "BadString" ∷ codes "NotXml" ∷ codes "BadRef"
-    ∷ codes "Unbalanced" ∷ codes "NoElement" ∷ codes "TwoRoots" ∷ codes "SecondPool" ∷ codes "TooBig" ∷ codes "Unresolved"
-    ∷ codes "ThemeRef" ∷ codes "BadValue" ∷ codes "Full" ∷ codes "Duplicate" ∷ codes "NoSize" ∷ codes "Cycle" ∷ codes "Views"
+    ∷ codes "Unbalanced" ∷ codes "NoElement" ∷ codes "TwoRoots" ∷ codes "SecondPool" ∷ codes "TooBig"
+    ∷ codes "Unresolved"
+    ∷ codes "ThemeRef" ∷ codes "BadValue" ∷ codes "Full" ∷ codes "Duplicate" ∷ codes "NoSize" ∷ codes "Cycle"
+    ∷ codes "Views"
     ∷ codes "Depth" ∷ codes "NotGroup" ∷ codes "ScrollFull" ∷ codes "UnknownClass" ∷ codes "Hooks" ∷ codes "HookEdit"
     ∷ codes "BadState" ∷ codes "StateClass" ∷ codes "NoView" ∷ codes "WrongClass" ∷ codes "Range" ∷ codes "Syntax"
     ∷ codes "LongLine" ∷ codes "NoWindow" ∷ codes "NoRoot" ∷ codes "HasRoot" ∷ codes "Unsettled" ∷ codes "NoFrame"

@@ -1,5 +1,6 @@
 -- What is outside of the run of a script, and how the run leaves it.
-use Rattle.std.specs.Prelude.{◌≡◌, ◌≢◌, ◌⊎◌, ℕ, ◌+◌, ◌-◌, ◌^◌, ◌≤◌, ◌==◌, if◌then◌else◌, List, [], ◌∷◌, length, min, Option}
+use Rattle.std.specs.Prelude.{◌≡◌, ◌≢◌, ◌⊎◌, ℕ, ◌+◌, ◌-◌, ◌^◌, ◌≤◌, ◌==◌, if◌then◌else◌, List, [], ◌∷◌, length, min}
+use Rattle.std.specs.Prelude.{Option}
 use Rattle.std.specs.Io.KnownBytes.{Consumes, IsAtEnd}
 use Rattle.tool_io.specs.Counts.{raised}
 use Rattle.tool_io.specs.Fetched.{Files}
@@ -18,7 +19,8 @@ pub record Surroundings : Type 0 where
   pub work : Work
 
 abbrev pub outside : Option (List ℕ) → ℕ → SinkState → ℕ → Option Files → Work → Surroundings
-outside left reads sink fetches files work = record { left = left; reads = reads; writes = sink.faults; fetches = fetches; files = files; work = work }
+outside left reads sink fetches files work =
+    record { left = left; reads = reads; writes = sink.faults; fetches = fetches; files = files; work = work }
 
 -- a run ended with a status, with a question after it or without one
 pub record EndsWith (before after : Surroundings) (status : ℕ) : Type 0 where

@@ -27,4 +27,5 @@ reason_text (Cycle down members) = axis_text down ⧺ texts_of member_text membe
 
 -- the line that reports a refusal, by the number of the refused line, counted from 1
 unfoldable pub refused_line : ℕ → PlainRefusal → List ℕ
-refused_line line refusal = codes "line " ⧺ decimal line ⧺ codes ": " ⧺ refused_text refusal.number ⧺ reason_text refusal.reason ⧺ codes "\n"
+refused_line line refusal =
+    codes "line " ⧺ decimal line ⧺ codes ": " ⧺ refused_text refusal.number ⧺ reason_text refusal.reason ⧺ codes "\n"

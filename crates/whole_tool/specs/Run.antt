@@ -42,41 +42,47 @@ pub record HasTallied (first now : Work) (carrier : Carrier) (tally : Tally) : T
 
 -- the state of a run so far: since its start its text was written, what was counted is worth what its lines cost, and
 -- the shelf was asked for what its lines ask for
-pub record HasCarriedOut (first now : Trace) (runner : LineRunner) (progress : ScriptProgress) (tally : Tally) : Type 0 where
-  pub lines : runner.lines ≡ progress.lines
-  pub carried : carried_of runner.carrier ≡ progress.carried
-  pub refused : runner.refused ≡ progress.refused
-  pub few : progress.refused ≤ progress.lines
-  pub gone : Appends first.gone now.gone progress.text
-  pub tallied : HasTallied first.work now.work runner.carrier tally
-  pub fetched : now.fetches ≡ with_fetches first.fetches progress.asked
+pub record HasCarriedOut (first now : Trace) (runner : LineRunner) (progress : ScriptProgress) (tally : Tally) : Type 0
+  where
+    pub lines : runner.lines ≡ progress.lines
+    pub carried : carried_of runner.carrier ≡ progress.carried
+    pub refused : runner.refused ≡ progress.refused
+    pub few : progress.refused ≤ progress.lines
+    pub gone : Appends first.gone now.gone progress.text
+    pub tallied : HasTallied first.work now.work runner.carrier tally
+    pub fetched : now.fetches ≡ with_fetches first.fetches progress.asked
 
 -- what holds with the files of a shelf, if it makes them visible
 abbrev pub WithFiles : Option Files → (Files → Type 0) → Type 0
 WithFiles shelf P = (files : Files) → shelf ≡ Some files → P files
 
 -- a run has carried out the lines whose line feed is among these bytes, and holds what comes after them
-pub record HasReadUpTo (start : Carried) (shelf : Option Files) (first now : Trace) (run : Run) (bytes : List ℕ) : Type 0 where
+pub record HasReadUpTo (start : Carried) (shelf : Option Files) (first now : Trace) (run : Run) (bytes : List ℕ) : Type
+    0 where
   pub held : IsAfter run.lines bytes
-  pub runner : WithFiles shelf (λ files. HasCarriedOut first now run.runner (after_from start files (cut_of bytes).lines) (tally_from start files (cut_of bytes).lines))
+  pub runner : WithFiles shelf
+      (λ files. HasCarriedOut first now run.runner (after_from start files (cut_of bytes).lines)
+      (tally_from start files (cut_of bytes).lines))
 
 -- the texts of the lines before one of these, which may run out of memory, were written
-pub record StopsBeforeFrom (start : Carried) (files : Files) (first now : Option (List ℕ)) (lines : List Line) : Type 0 where
-  pub done : List Line
-  pub line : Line
-  pub left : List Line
-  pub all : done ++ line ∷ left ≡ lines
-  pub wants : MayWant (after_from start files done).carried line
-  pub gone : Appends first now (after_from start files done).text
+pub record StopsBeforeFrom (start : Carried) (files : Files) (first now : Option (List ℕ)) (lines : List Line) : Type 0
+  where
+    pub done : List Line
+    pub line : Line
+    pub left : List Line
+    pub all : done ++ line ∷ left ≡ lines
+    pub wants : MayWant (after_from start files done).carried line
+    pub gone : Appends first now (after_from start files done).text
 
 -- the texts of the lines before one of these, which asks the shelf for a file, were written
-pub record StopsAtFetchFrom (start : Carried) (files : Files) (first now : Option (List ℕ)) (lines : List Line) : Type 0 where
-  pub done : List Line
-  pub line : Line
-  pub left : List Line
-  pub all : done ++ line ∷ left ≡ lines
-  pub asks : Asks (after_from start files done).carried line
-  pub gone : Appends first now (after_from start files done).text
+pub record StopsAtFetchFrom (start : Carried) (files : Files) (first now : Option (List ℕ)) (lines : List Line) : Type 0
+  where
+    pub done : List Line
+    pub line : Line
+    pub left : List Line
+    pub all : done ++ line ∷ left ≡ lines
+    pub asks : Asks (after_from start files done).carried line
+    pub gone : Appends first now (after_from start files done).text
 
 -- the same of a run that began with the empty world
 

@@ -1,5 +1,6 @@
 -- A script that is read in pieces while it is carried out.
-use Rattle.std.specs.Prelude.{◌≡◌, ℕ, ◌+◌, ◌<◌, ◌≤◌, nat_lt, Bool, List, ◌++◌, length, Option, Some, Result, Ok, Err, IfOk}
+use Rattle.std.specs.Prelude.{◌≡◌, ℕ, ◌+◌, ◌<◌, ◌≤◌, nat_lt, Bool, List, ◌++◌, length, Option, Some, Result, Ok, Err}
+use Rattle.std.specs.Prelude.{IfOk}
 use Rattle.std.specs.Io.KnownBytes.{Appends, Consumes, IsAtEnd}
 use Rattle.script_lines.specs.cutting.Lines.{cut_of, lines_of}
 use Rattle.tool_io.specs.Counts.{raised}
@@ -19,18 +20,20 @@ pub record Takes (script : List ℕ) (now : Option (List ℕ)) (taken : List ℕ
   pub left : now ≡ Some rest
 
 -- what was written is the transcript of the lines whose line feed was taken
-pub record WritesTakenFrom (start : Carried) (files : Files) (script : List ℕ) (left old new : Option (List ℕ)) : Type 0 where
-  pub taken : List ℕ
-  pub takes : Takes script left taken
-  pub within : length taken ≤ max_script
-  pub text : Appends old new (after_from start files (cut_of taken).lines).text
+pub record WritesTakenFrom (start : Carried) (files : Files) (script : List ℕ) (left old new : Option (List ℕ)) : Type 0
+  where
+    pub taken : List ℕ
+    pub takes : Takes script left taken
+    pub within : length taken ≤ max_script
+    pub text : Appends old new (after_from start files (cut_of taken).lines).text
 
 -- the same of a run that began with the empty world
 abbrev pub WritesTaken : Files → List ℕ → Option (List ℕ) → Option (List ℕ) → Option (List ℕ) → Type 0
 WritesTaken files script left old new = WritesTakenFrom (Alone empty_world) files script left old new
 
 -- the lines whose line feed was taken were carried out
-pub record WorksTaken (start : Carried) (files : Files) (script : List ℕ) (left : Option (List ℕ)) (first now : Trace) : Type 0 where
+pub record WorksTaken (start : Carried) (files : Files) (script : List ℕ) (left : Option (List ℕ)) (first now : Trace) :
+    Type 0 where
   pub taken : List ℕ
   pub takes : Takes script left taken
   pub within : length taken ≤ max_script
@@ -39,14 +42,19 @@ pub record WorksTaken (start : Carried) (files : Files) (script : List ℕ) (lef
 -- How the run of a script got to its end, if it went from the first moment to the last, and this is left of the script.
 abbrev pub RunsTo : Carried → Files → List ℕ → Option (List ℕ) → Trace → Trace → Result Bool End → Type 0
 RunsTo start files script left first last (Ok refused) =
-    (length script ≤ max_script) × Works start files first last (lines_of script) × (refused ≡ nat_lt 0 (after_from start files (lines_of script)).refused)
+    (length script ≤ max_script) × Works start files first last (lines_of script)
+    × (refused ≡ nat_lt 0 (after_from start files (lines_of script)).refused)
 RunsTo start files script left first last (Err ends.Source) = WorksTaken start files script left first last
-RunsTo start files script left first last (Err ends.Long) = (max_script < length script) × Works start files first last (carried_lines script)
-RunsTo start files script left first last (Err (ends.Stopped stop)) = StopsIn start files first last (carried_lines script) stop
+RunsTo start files script left first last (Err ends.Long) =
+    (max_script < length script) × Works start files first last (carried_lines script)
+RunsTo start files script left first last (Err (ends.Stopped stop)) =
+    StopsIn start files first last (carried_lines script) stop
 
 -- the run of a source from its first bytes to its end
-pub record RunsFrom (start : Carried) (shelf : Option Files) (before after : Option (List ℕ)) (first last : Trace) (outcome : Result Bool End) : Type 0 where
-  pub runs : (files : Files) (script : List ℕ) → shelf ≡ Some files → before ≡ Some script → RunsTo start files script after first last outcome
+pub record RunsFrom (start : Carried) (shelf : Option Files) (before after : Option (List ℕ)) (first last : Trace)
+    (outcome : Result Bool End) : Type 0 where
+  pub runs : (files : Files) (script : List ℕ) → shelf ≡ Some files → before ≡ Some script
+      → RunsTo start files script after first last outcome
   pub end : IfOk outcome (λ _. IsAtEnd after)
   pub taken : List ℕ
   pub consumed : Consumes before after taken

@@ -43,4 +43,5 @@ pub record HasRun (files : Files) (script : List ℕ) (session : Session) : Type
 pub record IsAnswered (files : Files) (script line : List ℕ) (old new : Option (List ℕ)) (refuses : Bool) : Type 0 where
   pub gone : Appends old new (answer_to files script line)
   pub whole : transcript (with_line script line) files ≡ transcript script files ++ answer_to files script line
-  pub refused : (after_script files (with_line script line)).refused ≡ (after_script files script).refused + (if refuses then 1 else 0)
+  pub refused : (after_script files (with_line script line)).refused
+      ≡ (after_script files script).refused + (if refuses then 1 else 0)

@@ -1,5 +1,6 @@
 -- What a call of the tool is and how it ends.
-use Rattle.std.specs.Prelude.{◌≡◌, ◌⊎◌, ℕ, ◌<◌, ◌≤◌, nat_lt, Bool, true, ◌==◌, if◌then◌else◌, List, length, Option, Some, Result, Ok, Err}
+use Rattle.std.specs.Prelude.{◌≡◌, ◌⊎◌, ℕ, ◌<◌, ◌≤◌, nat_lt, Bool, true, ◌==◌, if◌then◌else◌, List, length, Option}
+use Rattle.std.specs.Prelude.{Some, Result, Ok, Err}
 use Rattle.std.specs.List.{list_any}
 use Rattle.std.specs.Io.KnownBytes.{Appends}
 use Rattle.script_lines.specs.cutting.Lines.{lines_of}
@@ -16,13 +17,15 @@ use Rattle.whole_tool.specs.Usage.{Usage, Run, Stack, Dump, Lookup}
 
 -- a run of this script with these files: the words are those of a run, the source has these bytes left, and the shelf
 -- holds these files
-pub record IsRunOf (usage : Usage) (left : Option (List ℕ)) (held : Option Files) (script : List ℕ) (files : Files) : Type 0 where
+pub record IsRunOf (usage : Usage) (left : Option (List ℕ)) (held : Option Files) (script : List ℕ) (files : Files) :
+    Type 0 where
   pub words : usage ≡ Run
   pub source : left ≡ Some script
   pub shelf : held ≡ Some files
 
 -- a run of this script for a stack of windows with these files
-pub record IsStackOf (usage : Usage) (left : Option (List ℕ)) (held : Option Files) (script : List ℕ) (files : Files) : Type 0 where
+pub record IsStackOf (usage : Usage) (left : Option (List ℕ)) (held : Option Files) (script : List ℕ) (files : Files) :
+    Type 0 where
   pub words : usage ≡ Stack
   pub source : left ≡ Some script
   pub shelf : held ≡ Some files
@@ -60,10 +63,14 @@ pub record Writes (status : ℕ) (old new : Option (List ℕ)) (text : List ℕ)
   pub part : AppendsPrefix old new text
 
 -- how a run of a script ended with a status
-pub record RunsWith (start : Carried) (files : Files) (script : List ℕ) (left first last : Option (List ℕ)) (status : ℕ) : Type 0 where
+pub record RunsWith (start : Carried) (files : Files) (script : List ℕ) (left first last : Option (List ℕ)) (status : ℕ)
+    : Type 0 where
   pub writes : Writes status first last (after_from start files (carried_lines script)).text
-  pub ended : IsComplete status → (length script ≤ max_script) × (status ≡ (if nat_lt 0 (after_from start files (lines_of script)).refused then 1 else 0))
+  pub ended : IsComplete status
+      → (length script ≤ max_script)
+      × (status ≡ (if nat_lt 0 (after_from start files (lines_of script)).refused then 1 else 0))
   pub taken : status ≡ 3 → WritesTakenFrom start files script left first last
   pub no_memory : status ≡ 5 → StopsBeforeFrom start files first last (carried_lines script)
   pub failed_fetch : status ≡ 6 → StopsAtFetchFrom start files first last (carried_lines script)
-  pub long : status ≡ 7 → (max_script < length script) × Appends first last (after_from start files (carried_lines script)).text
+  pub long : status ≡ 7
+      → (max_script < length script) × Appends first last (after_from start files (carried_lines script)).text

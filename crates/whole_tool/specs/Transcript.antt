@@ -1,11 +1,13 @@
 -- What the tool writes for a script: the texts of its lines, one after another, from the empty world or from no window.
-use Rattle.std.specs.Prelude.{◌≢◌, ℕ, ◌+◌, Bool, nat_lt, if◌then◌else◌, length, List, [], ◌∷◌, ◌++◌, Option, Some, None, fold, take}
+use Rattle.std.specs.Prelude.{◌≢◌, ℕ, ◌+◌, Bool, nat_lt, if◌then◌else◌, length, List, [], ◌∷◌, ◌++◌, Option, Some, None}
+use Rattle.std.specs.Prelude.{fold, take}
 use Rattle.script_lines.specs.cutting.Lines.{Line, Text, LongLine, cut_of, is_passed_over, lines_of}
 use Rattle.stack_worlds.specs.PlainStack.{empty_stack}
 use Rattle.tool_io.specs.Fetched.{Files}
 use Rattle.tool_io.specs.Fetches.{Fetch}
 use Rattle.view_model.specs.Refusals.{refusal_numbered}
-use Rattle.whole_tool.specs.Carried.{Carried, Alone, Stacked, LineReply, Done, Refused, BytesWant, asked_by_bytes, reply_to_bytes}
+use Rattle.whole_tool.specs.Carried.{Carried, Alone, Stacked, LineReply, Done, Refused, BytesWant, asked_by_bytes}
+use Rattle.whole_tool.specs.Carried.{reply_to_bytes}
 use Rattle.whole_tool.specs.Numbers.{long_line}
 use Rattle.whole_tool.specs.Refusals.{refused_line}
 use Rattle.view_world.specs.world.Carried.{layout_fetch}
@@ -14,7 +16,8 @@ use Rattle.view_world.specs.world.World.{empty_world}
 -- what a line does: too long a line is refused whatever it begins with, and one that is passed over does nothing
 unfoldable pub reply_to_line : Files → Carried → Line → LineReply
 reply_to_line files carried LongLine = Refused (refusal_numbered long_line)
-reply_to_line files carried (Text bytes) = if is_passed_over bytes then Done carried [] else reply_to_bytes files carried bytes
+reply_to_line files carried (Text bytes) =
+    if is_passed_over bytes then Done carried [] else reply_to_bytes files carried bytes
 
 -- the name of the file that a line asks the shelf for, unless it is refused before
 unfoldable pub asked_by_line : Carried → Line → Option (List ℕ)
@@ -39,9 +42,14 @@ at_start start = record { lines = 0; carried = start; text = []; refused = 0; as
 
 -- a refused line leaves everything as it was
 abbrev pub after_reply : ScriptProgress → LineReply → ScriptProgress
-after_reply progress (Done carried text) = record progress { lines = progress.lines + 1; carried = carried; text = progress.text ++ text }
+after_reply progress (Done carried text) =
+    record progress { lines = progress.lines + 1; carried = carried; text = progress.text ++ text }
 after_reply progress (Refused refusal) =
-    record progress { lines = progress.lines + 1; text = progress.text ++ refused_line (progress.lines + 1) refusal; refused = progress.refused + 1 }
+    record progress {
+      lines = progress.lines + 1;
+      text = progress.text ++ refused_line (progress.lines + 1) refusal;
+      refused = progress.refused + 1;
+    }
 
 -- a line that asks for a file asks once, with the limit of a layout file, whatever comes of it
 abbrev pub after_asked : List Fetch → Option (List ℕ) → List Fetch
@@ -92,7 +100,8 @@ max_script = 16777216
 
 -- the lines of a script that are carried out: all, or if it is too long those whose line feed is among the first bytes
 unfoldable pub carried_lines : List ℕ → List Line
-carried_lines script = if nat_lt max_script (length script) then (cut_of (take max_script script)).lines else lines_of script
+carried_lines script =
+    if nat_lt max_script (length script) then (cut_of (take max_script script)).lines else lines_of script
 
 -- the transcript of these lines of a script that is too long
 abbrev pub cut_transcript : List ℕ → Files → List ℕ

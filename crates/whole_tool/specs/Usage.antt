@@ -1,5 +1,6 @@
 -- The forms that the tool's words may have.
-use Rattle.std.specs.Prelude.{ℕ, ◌≤◌, ◌==◌, ◌&&◌, nat_le, Bool, if◌then◌else◌, List, [], ◌∷◌, length, map, Option, Some, None, is_some, unwrap_or, codes, string_bytes}
+use Rattle.std.specs.Prelude.{ℕ, ◌≤◌, ◌==◌, ◌&&◌, nat_le, Bool, if◌then◌else◌, List, [], ◌∷◌, length, map, Option, Some}
+use Rattle.std.specs.Prelude.{None, is_some, unwrap_or, codes, string_bytes}
 use Rattle.std.specs.List.{list_all}
 use Rattle.std.specs.Result.{result_ok}
 use Rattle.std.specs.Str.{bytes_eq}
@@ -58,7 +59,9 @@ resource_ids words = map (λ word. resource_id (string_bytes word)) words
 
 abbrev pub lookup_usage : List ℕ → List ℕ → List (String Global) → Usage
 lookup_usage word name ids =
-    if bytes_eq word (codes "lookup") && is_file_name name && nat_le (length ids) max_ids && are_ids ids then Lookup name (resource_ids ids) else Unknown
+    if bytes_eq word (codes "lookup") && is_file_name name && nat_le (length ids) max_ids && are_ids ids
+    then Lookup name (resource_ids ids)
+    else Unknown
 
 abbrev pub side_of : List ℕ → Option Side
 side_of word =

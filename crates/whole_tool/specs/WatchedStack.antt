@@ -23,7 +23,8 @@ pub record WatchedStack : Type 0 where
   pub worlds : List (Option Watched)
 
 abbrev pub plain_stack : WatchedStack → PlainStack
-plain_stack stack = record { panes = stack.panes; worlds = map (option_map (λ (watched : Watched). watched.world)) stack.worlds }
+plain_stack stack =
+    record { panes = stack.panes; worlds = map (option_map (λ (watched : Watched). watched.world)) stack.worlds }
 
 -- a stack of which nothing is known
 abbrev pub stack_first : PlainStack → WatchedStack
@@ -43,7 +44,8 @@ after_said files worlds k said (Some watched) = after_accepted worlds k watched 
 
 -- an empty world where a window is opened, and none where one is closed
 abbrev pub after_own : WatchedStack → Own → List (Option Watched)
-after_own stack (own.At k x y) = if is_open stack.panes k then stack.worlds else slice_set stack.worlds k (Some (watched_first empty_world))
+after_own stack (own.At k x y) =
+    if is_open stack.panes k then stack.worlds else slice_set stack.worlds k (Some (watched_first empty_world))
 after_own stack (own.Raise k) = stack.worlds
 after_own stack (own.Close k) = slice_set stack.worlds k None
 after_own stack (own.Compose x y w h) = stack.worlds

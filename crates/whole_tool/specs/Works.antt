@@ -14,8 +14,8 @@ use Rattle.whole_tool.specs.Transcript.{Asks, MayWant, after_from, line_text}
 use Rattle.view_world.specs.frames.Watched.{IsWorth}
 use Rattle.view_world.specs.world.World.{empty_world}
 
--- what is known of a run at a moment: the bytes that were written, if the sink makes them visible, what was counted, and
--- what the shelf shows of the calls on it
+-- what is known of a run at a moment: the bytes that were written, if the sink makes them visible, what was counted,
+-- and what the shelf shows of the calls on it
 pub record Trace : Type 0 where
   pub gone : Option (List ℕ)
   pub work : Work

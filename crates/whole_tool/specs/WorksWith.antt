@@ -10,7 +10,8 @@ use Rattle.whole_tool.specs.Works.{Trace, Works, WorksBefore, WorksPartFrom, Wor
 use Rattle.view_world.specs.world.World.{empty_world}
 
 -- what the carried out lines cost, besides the texts that were written: the first lines in any case
-pub record WorksWithFrom (start : Carried) (files : Files) (script : List ℕ) (left : Option (List ℕ)) (first last : Trace) (status : ℕ) : Type 0 where
+pub record WorksWithFrom (start : Carried) (files : Files) (script : List ℕ) (left : Option (List ℕ))
+    (first last : Trace) (status : ℕ) : Type 0 where
   pub part : WorksPartFrom start files first.work last.work (carried_lines script)
   pub ended : IsComplete status → Works start files first last (lines_of script)
   pub taken : status ≡ 3 → WorksTaken start files script left first last

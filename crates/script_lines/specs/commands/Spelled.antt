@@ -1,5 +1,7 @@
 -- The text of a command: one way to write it, of those that the grammar reads.
-use Rattle.std.specs.Prelude.{◌≡◌, ℕ, zero, suc, ◌<◌, ◌^◌, ◌/◌, ◌%◌, ◌==◌, not, ◌&&◌, ◌||◌, Bool, true, false, IsTrue, if◌then◌else◌, ℤ, pos, negsuc, ◌⊎◌, List, [], ◌∷◌, ◌++◌, codes, Option, Some, None, IfSome, slice_index_or, length, map, nat_lt}
+use Rattle.std.specs.Prelude.{◌≡◌, ℕ, zero, suc, ◌<◌, ◌^◌, ◌/◌, ◌%◌, ◌==◌, not, ◌&&◌, ◌||◌, Bool, true, false, IsTrue}
+use Rattle.std.specs.Prelude.{if◌then◌else◌, ℤ, pos, negsuc, ◌⊎◌, List, [], ◌∷◌, ◌++◌, codes, Option, Some, None}
+use Rattle.std.specs.Prelude.{IfSome, slice_index_or, length, map, nat_lt}
 use Rattle.std.specs.Fmt.{decimal, signed_decimal, digits, digit_glyph}
 use Rattle.std.specs.List.{All, join_with_byte}
 use Rattle.std.specs.Str.{is_utf8}
@@ -58,7 +60,8 @@ extent_text (negsuc zero) = codes "match"
 extent_text (negsuc (suc n)) = codes "wrap"
 
 abbrev pub insets_words : Insets → List (List ℕ)
-insets_words sides = signed_decimal sides.left ∷ signed_decimal sides.top ∷ signed_decimal sides.right ∷ signed_decimal sides.bottom ∷ []
+insets_words sides =
+    signed_decimal sides.left ∷ signed_decimal sides.top ∷ signed_decimal sides.right ∷ signed_decimal sides.bottom ∷ []
 
 abbrev pub across_text : Across → List ℕ
 across_text across.Unset = []
@@ -236,7 +239,8 @@ command_words (plain.Dpi dpi) = codes "dpi" ∷ decimal dpi ∷ []
 command_words (plain.Res id value) = codes "res" ∷ name_text (Id id) ∷ given_words value
 command_words (plain.Inflate name None) = codes "inflate" ∷ name ∷ []
 command_words (plain.Inflate name (Some view)) = codes "inflate" ∷ name ∷ codes "into" ∷ name_text view ∷ []
-command_words (plain.Add parent class width height) = codes "add" ∷ parent_text parent ∷ class_text class ∷ extent_text width ∷ extent_text height ∷ []
+command_words (plain.Add parent class width height) =
+    codes "add" ∷ parent_text parent ∷ class_text class ∷ extent_text width ∷ extent_text height ∷ []
 command_words (plain.Remove view) = codes "remove" ∷ name_text view ∷ []
 command_words (plain.Act view act) = act_head act ∷ name_text view ∷ act_words act
 command_words (plain.SetText view text) = codes "text" ∷ name_text view ∷ text ∷ []
@@ -249,7 +253,8 @@ command_words plain.Cancel = codes "cancel" ∷ []
 command_words plain.Frame = codes "frame" ∷ []
 command_words (plain.Bounds None) = codes "bounds" ∷ []
 command_words (plain.Bounds (Some view)) = codes "bounds" ∷ name_text view ∷ []
-command_words (plain.Pixels x y w h) = codes "pixels" ∷ signed_decimal x ∷ signed_decimal y ∷ signed_decimal w ∷ signed_decimal h ∷ []
+command_words (plain.Pixels x y w h) =
+    codes "pixels" ∷ signed_decimal x ∷ signed_decimal y ∷ signed_decimal w ∷ signed_decimal h ∷ []
 command_words plain.Digest = codes "digest" ∷ []
 command_words plain.Save = codes "save" ∷ []
 command_words (plain.Restore None) = codes "restore" ∷ []
@@ -266,7 +271,9 @@ HasText (Id id) = id < 2 ^ 32
 
 -- a gravity that a word can give: none, or one that is set on an axis
 abbrev pub HasWord : Gravity → Type 0
-HasWord gravity = (gravity ≡ no_gravity) ⊎ ((gravity.given ≡ true) × IsTrue (is_set_across gravity.across || is_set_down gravity.down))
+HasWord gravity =
+    (gravity ≡ no_gravity) ⊎
+    ((gravity.given ≡ true) × IsTrue (is_set_across gravity.across || is_set_down gravity.down))
 
 -- a change that a line can make
 abbrev pub ChangeHasLine : Change → Type 0

@@ -1,5 +1,7 @@
 -- The lines that give a command: what their words are, and that there are no others.
-use Rattle.std.specs.Prelude.{◌≡◌, ◌≢◌, ℕ, ◌-◌, ◌<◌, ◌≤◌, ◌^◌, ◌/◌, ◌%◌, if◌then◌else◌, Bool, true, false, ◌⊎◌, List, [], ◌∷◌, length, drop, fold, filter, map, codes, bit_or, slice_get, slice_index_or, Option, Some, None}
+use Rattle.std.specs.Prelude.{◌≡◌, ◌≢◌, ℕ, ◌-◌, ◌<◌, ◌≤◌, ◌^◌, ◌/◌, ◌%◌, if◌then◌else◌, Bool, true, false, ◌⊎◌, List}
+use Rattle.std.specs.Prelude.{[], ◌∷◌, length, drop, fold, filter, map, codes, bit_or, slice_get, slice_index_or}
+use Rattle.std.specs.Prelude.{Option, Some, None}
 use Rattle.std.specs.Char.{is_ascii_hexdigit}
 use Rattle.std.specs.Fmt.{decimal, signed_decimal}
 use Rattle.std.specs.List.{All, list_all, slice_split}
@@ -23,7 +25,9 @@ use Rattle.script_lines.specs.words.Names.{hex_value}
 use Rattle.script_lines.specs.commands.PlainCommands.{PlainCommand, PlainGiven}
 use Rattle.script_lines.specs.commands.PlainCommands as plain
 use Rattle.script_lines.specs.reading.Rules.{names_sibling}
-use Rattle.script_lines.specs.commands.Spelled.{act_words, action_words, answer_text, change_head, change_words, class_text, command_words, extent_text, name_text, on_text, unit_text, verb_text, weight_words}
+use Rattle.script_lines.specs.commands.Spelled.{act_words, action_words, answer_text, change_head, change_words}
+use Rattle.script_lines.specs.commands.Spelled.{class_text, command_words, extent_text, name_text, on_text, unit_text}
+use Rattle.script_lines.specs.commands.Spelled.{verb_text, weight_words}
 use Rattle.script_lines.specs.words.Words.{after_word, first_word, words}
 use Rattle.script_lines.specs.declared.commands.Asked.{Asked}
 use Rattle.script_lines.specs.declared.words.naming.Name.{Name}
@@ -83,13 +87,16 @@ pub record ArePlaces (gravity : Gravity) (ws : List (List ℕ)) : Type 0 where
   pub places : List PlaceWord
   pub known : All IsPlaceWord places
   pub are : ws ≡ map (λ (place : PlaceWord). place.word) places
-  pub across : filter is_set_across (map (λ (place : PlaceWord). place.across) places) ≡ filter is_set_across (gravity.across ∷ [])
-  pub down : filter is_set_down (map (λ (place : PlaceWord). place.down) places) ≡ filter is_set_down (gravity.down ∷ [])
+  pub across : filter is_set_across (map (λ (place : PlaceWord). place.across) places)
+      ≡ filter is_set_across (gravity.across ∷ [])
+  pub down : filter is_set_down (map (λ (place : PlaceWord). place.down) places)
+      ≡ filter is_set_down (gravity.down ∷ [])
 
 -- `none`, or words of gravities with bars between them
 abbrev pub IsGravityWord : Gravity → List ℕ → Type 0
 IsGravityWord gravity word =
-    ((word ≡ codes "none") × (gravity ≡ no_gravity)) ⊎ ((gravity.given ≡ true) × ArePlaces gravity (slice_split is_bar word))
+    ((word ≡ codes "none") × (gravity ≡ no_gravity)) ⊎
+    ((gravity.given ≡ true) × ArePlaces gravity (slice_split is_bar word))
 
 -- whole ones and 256ths; the latter may be left out if they are none
 abbrev pub AreWeightWords : ℕ → List (List ℕ) → Type 0
@@ -139,8 +146,8 @@ pub record AreEditWords (asked : Asked) (ws : List (List ℕ)) : Type 0 where
   pub name : IsNameWord asked.view view
   pub change : AreChangeWords asked.change rest
 
--- words that begin with that of a line, of which no hook makes an edit: with another word than that of an edit, or after
--- the greatest number of edits
+-- words that begin with that of a line, of which no hook makes an edit: with another word than that of an edit, or
+-- after the greatest number of edits
 pub record AreUnmadeWords (left : ℕ) (ws : List (List ℕ)) : Type 0 where
   pub place : ℕ
   pub head : List ℕ
@@ -153,35 +160,45 @@ pub record AreUnmadeWords (left : ℕ) (ws : List (List ℕ)) : Type 0 where
 abbrev pub AreEdits : ℕ → List Asked → Bool → List (List (List ℕ)) → Type 0
 AreEdits left edits bad [] = (edits ≡ []) × (bad ≡ false)
 AreEdits left edits bad (part ∷ parts) =
-    ((asked : Asked) × (more : List Asked) × (edits ≡ asked ∷ more) × (0 < left) × AreEditWords asked part × AreEdits (left - 1) more bad parts)
+    ((asked : Asked) × (more : List Asked) × (edits ≡ asked ∷ more) × (0 < left) × AreEditWords asked part
+    × AreEdits (left - 1) more bad parts)
     ⊎ ((others : Bool) × (bad ≡ true) × AreUnmadeWords left part × AreEdits (left - 1) edits others parts)
 
 -- the words after the first one, of a line in which no spaces count
 abbrev pub AreArguments : PlainCommand → List (List ℕ) → Type 0
-AreArguments (plain.Inflate name (Some view)) ws = (word : List ℕ) × (ws ≡ name ∷ codes "into" ∷ word ∷ []) × IsNameWord view word
+AreArguments (plain.Inflate name (Some view)) ws =
+    (word : List ℕ) × (ws ≡ name ∷ codes "into" ∷ word ∷ []) × IsNameWord view word
 AreArguments (plain.Add parent class width height) ws =
-    (word : List ℕ) × (ws ≡ word ∷ class_text class ∷ extent_text width ∷ extent_text height ∷ []) × IsParentWord parent word
+    (word : List ℕ) × (ws ≡ word ∷ class_text class ∷ extent_text width ∷ extent_text height ∷ [])
+    × IsParentWord parent word
 AreArguments (plain.Remove view) ws = (word : List ℕ) × (ws ≡ word ∷ []) × IsNameWord view word
 AreArguments (plain.Act view act) ws =
     (word : List ℕ) × (rest : List (List ℕ)) × (ws ≡ word ∷ rest) × IsNameWord view word × AreActWords act rest
 AreArguments (plain.Disallow view on) ws = (word : List ℕ) × (ws ≡ word ∷ on_text on ∷ []) × IsNameWord view word
 AreArguments (plain.Hook view edits bad) ws =
-    (word : List ℕ) × (rest : List (List ℕ)) × (ws ≡ word ∷ rest) × IsNameWord view word × AreEdits max_edits edits bad (slice_split parts_edits rest)
+    (word : List ℕ) × (rest : List (List ℕ)) × (ws ≡ word ∷ rest) × IsNameWord view word
+    × AreEdits max_edits edits bad (slice_split parts_edits rest)
 AreArguments (plain.Bounds (Some view)) ws = (word : List ℕ) × (ws ≡ word ∷ []) × IsNameWord view word
 AreArguments command ws = ws ≡ drop 1 (command_words command)
 
 -- what comes after the id of a resource: the kind of its value, and the value; a text is all that comes after one space
 abbrev pub IsGivenBy : PlainGiven → List ℕ → Type 0
-IsGivenBy (plain.Color color) bytes = (word : List ℕ) × (words bytes ≡ codes "color" ∷ word ∷ []) × IsColorWord color word
-IsGivenBy (plain.Dimen word) bytes = words bytes ≡ codes "dimen" ∷ signed_decimal (mantissa word) ∷ unit_text (word % 256) ∷ []
-IsGivenBy (plain.Text text) bytes = (first_word bytes ≡ codes "text") × (after_word bytes ≡ 32 ∷ text) × (is_utf8 text ≡ true)
+IsGivenBy (plain.Color color) bytes =
+    (word : List ℕ) × (words bytes ≡ codes "color" ∷ word ∷ []) × IsColorWord color word
+IsGivenBy (plain.Dimen word) bytes =
+    words bytes ≡ codes "dimen" ∷ signed_decimal (mantissa word) ∷ unit_text (word % 256) ∷ []
+IsGivenBy (plain.Text text) bytes =
+    (first_word bytes ≡ codes "text") × (after_word bytes ≡ 32 ∷ text) × (is_utf8 text ≡ true)
 
 -- a line that gives this command
 abbrev pub IsWritten : PlainCommand → List ℕ → Type 0
 IsWritten (plain.Res id value) line =
-    (first_word line ≡ codes "res") × IsHexWord 64 id (first_word (after_word line)) × IsGivenBy value (after_word (after_word line))
+    (first_word line ≡ codes "res") × IsHexWord 64 id (first_word (after_word line))
+    × IsGivenBy value (after_word (after_word line))
 IsWritten (plain.SetText view text) line =
-    (first_word line ≡ codes "text") × IsNameWord view (first_word (after_word line)) × (after_word (after_word line) ≡ 32 ∷ text)
+    (first_word line ≡ codes "text") × IsNameWord view (first_word (after_word line))
+    × (after_word (after_word line) ≡ 32 ∷ text)
     × (is_utf8 text ≡ true)
 IsWritten command line =
-    (arguments : List (List ℕ)) × (words line ≡ slice_index_or (command_words command) 0 [] ∷ arguments) × AreArguments command arguments
+    (arguments : List (List ℕ)) × (words line ≡ slice_index_or (command_words command) 0 [] ∷ arguments)
+    × AreArguments command arguments

@@ -1,5 +1,6 @@
 -- The lines of a script.
-use Rattle.std.specs.Prelude.{◌≡◌, ℕ, ◌-◌, ◌==◌, nat_lt, Bool, true, false, not, ◌&&◌, ◌||◌, List, [], ◌∷◌, ◌++◌, if◌then◌else◌, length, take, fold, slice_index}
+use Rattle.std.specs.Prelude.{◌≡◌, ℕ, ◌-◌, ◌==◌, nat_lt, Bool, true, false, not, ◌&&◌, ◌||◌, List, [], ◌∷◌, ◌++◌}
+use Rattle.std.specs.Prelude.{if◌then◌else◌, length, take, fold, slice_index}
 use Rattle.std.specs.List.{list_all, position_or_len}
 
 -- a line as it was read
@@ -16,7 +17,9 @@ is_line_feed b = b == 10
 
 -- the bytes without one carriage return at their end
 unfoldable pub without_return : List ℕ → List ℕ
-without_return bytes = if nat_lt 0 (length bytes) && slice_index bytes (length bytes - 1) == 13 then take (length bytes - 1) bytes else bytes
+without_return bytes =
+    if nat_lt 0 (length bytes) && slice_index bytes (length bytes - 1) == 13 then take (length bytes - 1) bytes
+    else bytes
 
 -- the line of the bytes before a line feed: a carriage return counts for its length, and is then dropped
 unfoldable pub line_of : List ℕ → Line
@@ -33,7 +36,8 @@ pub record Cut : Type 0 where
 
 abbrev pub cut_step : Cut → ℕ → Cut
 cut_step cut b =
-    if is_line_feed b then record { lines = cut.lines ++ line_of cut.rest ∷ []; rest = [] } else record { lines = cut.lines; rest = cut.rest ++ b ∷ [] }
+    if is_line_feed b then record { lines = cut.lines ++ line_of cut.rest ∷ []; rest = [] }
+    else record { lines = cut.lines; rest = cut.rest ++ b ∷ [] }
 
 abbrev pub cut_of : List ℕ → Cut
 cut_of bytes = fold cut_step (record { lines = []; rest = [] }) bytes

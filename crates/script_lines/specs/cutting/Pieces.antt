@@ -11,7 +11,10 @@ pub record Feed : Type 0 where
 
 -- they were taken as `Lines::next_line` and `Lines::feed` define
 abbrev pub IsFeed : LineBuffer → Feed → Type 0
-IsFeed old taken = (before : List ℕ) → IsAfter old before → ((cut_of (before ++ taken.bytes)).lines ≡ (cut_of before).lines ++ taken.lines) × IsAfter taken.held (before ++ taken.bytes)
+IsFeed old taken =
+    (before : List ℕ) → IsAfter old before
+    → ((cut_of (before ++ taken.bytes)).lines ≡ (cut_of before).lines ++ taken.lines)
+    × IsAfter taken.held (before ++ taken.bytes)
 
 -- bytes that were taken one after another, from one state to another
 abbrev pub FeedSequence : LineBuffer → List Feed → LineBuffer → Type 0

@@ -1,5 +1,6 @@
 -- What a line sets of a view, after the view's name.
-use Rattle.std.specs.Prelude.{ℕ, ◌≤◌, ◌<◌, if◌then◌else◌, Bool, true, false, ℤ, pos, List, [], ◌∷◌, codes, Result, Ok, Err}
+use Rattle.std.specs.Prelude.{ℕ, ◌≤◌, ◌<◌, if◌then◌else◌, Bool, true, false, ℤ, pos, List, [], ◌∷◌, codes, Result, Ok}
+use Rattle.std.specs.Prelude.{Err}
 use Rattle.std.specs.List.{list_any}
 use Rattle.std.specs.Str.{bytes_eq}
 use Rattle.geom_core.specs.declared.geometry.Insets.{Insets}
@@ -210,7 +211,8 @@ intercept_of words = map_ok act.Intercept (actions_of words)
 -- the words with which lines begin that set something of a view which no hook can set
 abbrev pub act_words : List (List ℕ)
 act_words =
-    codes "visible" ∷ codes "id" ∷ codes "weightsum" ∷ codes "orient" ∷ codes "flag" ∷ codes "direction" ∷ codes "scroll"
+    codes "visible" ∷ codes "id" ∷ codes "weightsum" ∷ codes "orient" ∷ codes "flag" ∷ codes "direction"
+    ∷ codes "scroll"
     ∷ codes "rule" ∷ codes "ink" ∷ codes "answer" ∷ codes "intercept" ∷ []
 
 -- whether such a line begins with this word
@@ -234,7 +236,9 @@ act_of head words =
     map_ok act.Change (change_of head words)))))))))))
 
 abbrev pub AreWithin : ℤ → ℤ → Insets → Type 0
-AreWithin low high sides = IsWithin low high sides.left × IsWithin low high sides.top × IsWithin low high sides.right × IsWithin low high sides.bottom
+AreWithin low high sides =
+    IsWithin low high sides.left × IsWithin low high sides.top × IsWithin low high sides.right
+    × IsWithin low high sides.bottom
 
 -- the numbers of a change are within their bounds
 abbrev pub IsChangeInBounds : Change → Type 0

@@ -1,5 +1,6 @@
 -- The grammar of a line, over its words. All words are read before a number's bounds are looked at.
-use Rattle.std.specs.Prelude.{ℕ, ◌<◌, ◌≤◌, IsTrue, if◌then◌else◌, pos, List, [], ◌∷◌, length, codes, Option, Some, None, Result, Ok, Err}
+use Rattle.std.specs.Prelude.{ℕ, ◌<◌, ◌≤◌, IsTrue, if◌then◌else◌, pos, List, [], ◌∷◌, length, codes, Option, Some, None}
+use Rattle.std.specs.Prelude.{Result, Ok, Err}
 use Rattle.std.specs.List.{All}
 use Rattle.std.specs.Str.{bytes_eq, is_utf8}
 use Rattle.view_model.specs.declared.kinds.Class.{Class}
@@ -14,7 +15,9 @@ use Rattle.script_lines.specs.words.Names.{name_in, parent_in}
 use Rattle.script_lines.specs.declared.words.naming.Name.{Name}
 use Rattle.script_lines.specs.words.Numbers.{IsWithin, integer_in, natural_within, pair_of}
 use Rattle.script_lines.specs.reading.Pixels.{IsPart, pixels_of}
-use Rattle.script_lines.specs.commands.PlainCommands.{PlainCommand, Window, Dpi, Res, Inflate, Add, Remove, Act, SetText, Disallow, Hook, Down, Move, Up, Cancel, Frame, Bounds, Pixels, Digest, Save, Restore}
+use Rattle.script_lines.specs.commands.PlainCommands.{PlainCommand, Window, Dpi, Res, Inflate, Add, Remove, Act}
+use Rattle.script_lines.specs.commands.PlainCommands.{SetText, Disallow, Hook, Down, Move, Up, Cancel, Frame, Bounds}
+use Rattle.script_lines.specs.commands.PlainCommands.{Pixels, Digest, Save, Restore}
 use Rattle.script_lines.specs.reading.Resources.{IsGivenInBounds, res_of}
 use Rattle.script_lines.specs.reading.States.{is_state_text, restore_of, save_of}
 use Rattle.script_lines.specs.reading.Touches.{IsTouchInBounds, cancel_of, down_of, move_of, up_of}
@@ -153,7 +156,8 @@ command_in head rest =
 
 -- the command of a line; bytes that are not valid UTF-8 give none
 unfoldable pub command_of : List ℕ → Result PlainCommand LineFault
-command_of line = if is_utf8 line then (word_in (words line) >>= λ head. command_in head.0 (after_word line)) else Err Syntax
+command_of line =
+    if is_utf8 line then (word_in (words line) >>= λ head. command_in head.0 (after_word line)) else Err Syntax
 
 -- the numbers of a command are within their bounds, and its texts are as a line may have them
 abbrev pub IsInBounds : PlainCommand → Type 0

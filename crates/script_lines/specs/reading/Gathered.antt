@@ -14,7 +14,8 @@ reading_of left edit = if nat_lt 0 left then edit_of edit else unmade_of edit
 
 -- what a hook asks for: what its first edits do, whether one of those can't be made, whether a number in them is
 -- outside its bounds, and how its other edits are read
-unfoldable pub joined_after : List Asked → Bool → Bool → List (Result (Option Asked) LineFault) → Result (List Asked × Bool) LineFault
+unfoldable pub joined_after : List Asked → Bool → Bool → List (Result (Option Asked) LineFault)
+    → Result (List Asked × Bool) LineFault
 joined_after asked bad range readings =
     if list_any is_syntax readings then Err Syntax else (
     if range || list_any is_range readings then Err Range else
@@ -22,7 +23,8 @@ joined_after asked bad range readings =
 
 -- what a hook asks for that goes on with these edits
 abbrev pub edits_after : Gathered → List (List (List ℕ)) → Result (List Asked × Bool) LineFault
-edits_after gathered edits = joined_after gathered.edits.items gathered.bad gathered.range (readings_of gathered.left edits)
+edits_after gathered edits =
+    joined_after gathered.edits.items gathered.bad gathered.range (readings_of gathered.left edits)
 
 -- a reading after another: the first fault counts
 abbrev pub following : {A B : Type 0} → Result A LineFault → Result B LineFault → Result B LineFault

@@ -1,5 +1,6 @@
 -- The hook of a view: edits that are made once the view has another size.
-use Rattle.std.specs.Prelude.{ℕ, Bool, true, false, if◌then◌else◌, List, [], ◌∷◌, ◌++◌, map, take, drop, codes, Option, Some, None, Result, Ok, Err}
+use Rattle.std.specs.Prelude.{ℕ, Bool, true, false, if◌then◌else◌, List, [], ◌∷◌, ◌++◌, map, take, drop, codes, Option}
+use Rattle.std.specs.Prelude.{Some, None, Result, Ok, Err}
 use Rattle.std.specs.List.{filter_map, list_any, slice_split}
 use Rattle.std.specs.Str.{bytes_eq}
 use Rattle.view_model.specs.Numbers.{max_edits}
@@ -27,7 +28,8 @@ line_words =
 
 -- the words with which edits begin that a hook can make
 abbrev pub edit_words : List (List ℕ)
-edit_words = codes "size" ∷ codes "min" ∷ codes "margins" ∷ codes "padding" ∷ codes "weight" ∷ codes "gravity" ∷ codes "bg" ∷ []
+edit_words =
+    codes "size" ∷ codes "min" ∷ codes "margins" ∷ codes "padding" ∷ codes "weight" ∷ codes "gravity" ∷ codes "bg" ∷ []
 
 -- whether a line of the script begins with this word
 unfoldable pub begins_line : List ℕ → Bool

@@ -32,4 +32,6 @@ pixels_of words = do
 
 -- the numbers of a part are within their bounds
 abbrev pub IsPart : ℤ → ℤ → ℤ → ℤ → Type 0
-IsPart x y w h = IsWithin (pos 0) max_point x × IsWithin (pos 0) max_point y × IsWithin (pos 1) max_window w × IsWithin (pos 1) max_window h × ((w *ℤ h) ≤ℤ max_pixels)
+IsPart x y w h =
+    IsWithin (pos 0) max_point x × IsWithin (pos 0) max_point y × IsWithin (pos 1) max_window w
+    × IsWithin (pos 1) max_window h × ((w *ℤ h) ≤ℤ max_pixels)

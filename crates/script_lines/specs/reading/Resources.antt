@@ -1,5 +1,6 @@
 -- What a line gives a resource, after the resource's id.
-use Rattle.std.specs.Prelude.{◌≡◌, ℕ, ◌+◌, ◌*◌, ◌-◌, ◌^◌, ◌==◌, IsTrue, if◌then◌else◌, ℤ, pos, negsuc, List, codes, Result, Ok, Err}
+use Rattle.std.specs.Prelude.{◌≡◌, ℕ, ◌+◌, ◌*◌, ◌-◌, ◌^◌, ◌==◌, IsTrue, if◌then◌else◌, ℤ, pos, negsuc, List, codes}
+use Rattle.std.specs.Prelude.{Result, Ok, Err}
 use Rattle.std.specs.Str.{bytes_eq}
 use Rattle.script_lines.specs.words.Colors.{last_color}
 use Rattle.script_lines.specs.words.Escapes.{has_escapes, rest_of}

@@ -8,7 +8,9 @@ use Rattle.script_lines.specs.declared.fault.LineFault.TheVariants.{Syntax}
 
 -- `#` and eight hexadecimal digits, alpha first
 unfoldable pub color_of : List ℕ → Result Argb LineFault
-color_of word = if begins_with 35 word && length word == 9 then map_ok (λ n. record { 0 = n }) (known (hex_of (drop 1 word))) else Err Syntax
+color_of word =
+    if begins_with 35 word && length word == 9 then map_ok (λ n. record { 0 = n }) (known (hex_of (drop 1 word)))
+    else Err Syntax
 
 -- `C`, a colour that ends a line
 unfoldable pub last_color : List (List ℕ) → Result Argb LineFault

@@ -1,5 +1,6 @@
 -- Texts with escapes: `\n` for a line feed, and `\\` for a backslash.
-use Rattle.std.specs.Prelude.{ℕ, ◌==◌, nat_lt, Bool, true, ◌&&◌, ◌||◌, not, if◌then◌else◌, List, [], ◌∷◌, length, drop, Result, Err}
+use Rattle.std.specs.Prelude.{ℕ, ◌==◌, nat_lt, Bool, true, ◌&&◌, ◌||◌, not, if◌then◌else◌, List, [], ◌∷◌, length, drop}
+use Rattle.std.specs.Prelude.{Result, Err}
 use Rattle.std.specs.Str.{chars}
 use Rattle.script_lines.specs.words.Words.{text_of}
 use Rattle.script_lines.specs.declared.words.escapes.Unescaped.{Unescaped}
@@ -32,7 +33,8 @@ unescaped (c ∷ d ∷ text) = if is_backslash c then meant_by d ∷ unescaped t
 -- characters as a line can give them: a line feed and a backslash as escapes
 abbrev pub escaped : List ℕ → List ℕ
 escaped [] = []
-escaped (c ∷ text) = if c == 10 then 92 ∷ 110 ∷ escaped text else (if is_backslash c then 92 ∷ 92 ∷ escaped text else c ∷ escaped text)
+escaped (c ∷ text) =
+    if c == 10 then 92 ∷ 110 ∷ escaped text else (if is_backslash c then 92 ∷ 92 ∷ escaped text else c ∷ escaped text)
 
 -- the characters that are still to be resolved
 abbrev pub left : Unescaped → List ℕ

@@ -1,5 +1,6 @@
 -- The names that a layout file may have.
-use Rattle.std.specs.Prelude.{ℕ, ◌==◌, nat_le, nat_lt, Bool, ◌&&◌, ◌||◌, not, if◌then◌else◌, List, [], ◌∷◌, length, slice_index, Result, Ok, Err}
+use Rattle.std.specs.Prelude.{ℕ, ◌==◌, nat_le, nat_lt, Bool, ◌&&◌, ◌||◌, not, if◌then◌else◌, List, [], ◌∷◌, length}
+use Rattle.std.specs.Prelude.{slice_index, Result, Ok, Err}
 use Rattle.std.specs.Char.{is_ascii_alphanumeric}
 use Rattle.std.specs.List.{list_all}
 use Rattle.script_lines.specs.words.Words.{◌>>=◌}
@@ -12,7 +13,9 @@ is_file_name_byte b = is_ascii_alphanumeric b || b == 95 || b == 45 || b == 46
 
 -- the name of a file: 1 to 64 such bytes, of which the first is no `.`
 unfoldable pub is_file_name : List ℕ → Bool
-is_file_name name = nat_lt 0 (length name) && nat_le (length name) 64 && list_all is_file_name_byte name && not (slice_index name 0 == 46)
+is_file_name name =
+    nat_lt 0 (length name) && nat_le (length name) 64 && list_all is_file_name_byte name
+    && not (slice_index name 0 == 46)
 
 abbrev pub file_name_of : List ℕ → Result (List ℕ) LineFault
 file_name_of word = if is_file_name word then Ok word else Err Syntax

@@ -62,7 +62,9 @@ unfoldable pub with_word : Gravity → List ℕ → Result Gravity LineFault
 with_word gravity word =
     if is_place word then (
     one_across gravity.across (across_of word) >>= λ across.
-    one_down gravity.down (down_of word) >>= λ down. Ok (record { given = gravity.given; across = across; down = down })) else
+    one_down gravity.down (down_of word)
+    >>= λ down. Ok (record { given = gravity.given; across = across; down = down }))
+    else
     Err Syntax
 
 abbrev pub is_bar : ℕ → Bool

@@ -1,5 +1,6 @@
 -- How a line names a view.
-use Rattle.std.specs.Prelude.{ℕ, ◌+◌, ◌*◌, ◌==◌, nat_le, nat_lt, Bool, ◌&&◌, if◌then◌else◌, List, [], ◌∷◌, length, fold, drop, slice_index, codes, Option, Some, None, Result, Ok, Err}
+use Rattle.std.specs.Prelude.{ℕ, ◌+◌, ◌*◌, ◌==◌, nat_le, nat_lt, Bool, ◌&&◌, if◌then◌else◌, List, [], ◌∷◌, length, fold}
+use Rattle.std.specs.Prelude.{drop, slice_index, codes, Option, Some, None, Result, Ok, Err}
 use Rattle.std.specs.Char.{digit_value, is_ascii_hexdigit}
 use Rattle.std.specs.List.{list_all}
 use Rattle.std.specs.Str.{bytes_eq}
@@ -20,7 +21,9 @@ hex_value digits = fold (λ n d. 16 * n + hex_digit_of d) 0 digits
 
 -- the number of one to eight hexadecimal digits
 unfoldable pub hex_of : List ℕ → Option ℕ
-hex_of word = if nat_lt 0 (length word) && nat_le (length word) 8 && list_all is_ascii_hexdigit word then Some (hex_value word) else None
+hex_of word =
+    if nat_lt 0 (length word) && nat_le (length word) 8 && list_all is_ascii_hexdigit word then Some (hex_value word)
+    else None
 
 abbrev pub begins_with : ℕ → List ℕ → Bool
 begins_with b word = nat_lt 0 (length word) && slice_index word 0 == b

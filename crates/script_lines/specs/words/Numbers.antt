@@ -1,5 +1,7 @@
 -- The numbers of a line.
-use Rattle.std.specs.Prelude.{ℕ, zero, suc, ◌+◌, ◌*◌, ◌-◌, ◌==◌, nat_le, nat_lt, Bool, ◌&&◌, ◌||◌, not, if◌then◌else◌, ℤ, pos, negsuc, int_le, ◌≤ℤ◌, List, [], ◌∷◌, length, fold, drop, slice_index, Option, Some, None, Result, Ok, Err}
+use Rattle.std.specs.Prelude.{ℕ, zero, suc, ◌+◌, ◌*◌, ◌-◌, ◌==◌, nat_le, nat_lt, Bool, ◌&&◌, ◌||◌, not, if◌then◌else◌}
+use Rattle.std.specs.Prelude.{ℤ, pos, negsuc, int_le, ◌≤ℤ◌, List, [], ◌∷◌, length, fold, drop, slice_index, Option}
+use Rattle.std.specs.Prelude.{Some, None, Result, Ok, Err}
 use Rattle.std.specs.Char.{is_ascii_digit}
 use Rattle.std.specs.List.{list_all}
 use Rattle.script_lines.specs.words.Words.{◌>>=◌, end_of}
@@ -13,7 +15,8 @@ digits_value digits = fold (λ n d. 10 * n + (d - 48)) 0 digits
 -- `0`, or one to ten digits of which the first is not 0
 abbrev pub is_natural : List ℕ → Bool
 is_natural word =
-    nat_lt 0 (length word) && nat_le (length word) 10 && list_all is_ascii_digit word && (length word == 1 || not (slice_index word 0 == 48))
+    nat_lt 0 (length word) && nat_le (length word) 10 && list_all is_ascii_digit word
+    && (length word == 1 || not (slice_index word 0 == 48))
 
 unfoldable pub natural_of : List ℕ → Option ℕ
 natural_of word = if is_natural word then Some (digits_value word) else None
@@ -30,7 +33,9 @@ negative (Some (suc n)) = Ok (negsuc n)
 
 -- a number, with a minus sign or without one
 unfoldable pub integer_of : List ℕ → Result ℤ LineFault
-integer_of word = if nat_lt 0 (length word) && slice_index word 0 == 45 then negative (natural_of (drop 1 word)) else positive (natural_of word)
+integer_of word =
+    if nat_lt 0 (length word) && slice_index word 0 == 45 then negative (natural_of (drop 1 word))
+    else positive (natural_of word)
 
 -- the number of the first word, and the words after it
 abbrev pub integer_in : List (List ℕ) → Result (ℤ × List (List ℕ)) LineFault

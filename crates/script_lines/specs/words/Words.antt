@@ -1,5 +1,6 @@
 -- The words of a line, and how readings follow one another.
-use Rattle.std.specs.Prelude.{ℕ, nat_lt, Bool, true, false, not, List, [], ◌∷◌, if◌then◌else◌, length, take, drop, filter, codes, Result, Ok, Err}
+use Rattle.std.specs.Prelude.{ℕ, nat_lt, Bool, true, false, not, List, [], ◌∷◌, if◌then◌else◌, length, take, drop}
+use Rattle.std.specs.Prelude.{filter, codes, Result, Ok, Err}
 use Rattle.std.specs.List.{slice_split, prefix_len}
 use Rattle.std.specs.Str.{bytes_eq, is_utf8}
 use Rattle.script_lines.specs.cutting.Lines.{is_space}
