@@ -11,7 +11,7 @@ use Rattle.measure_pass.proofs.Frames.{Ready-alone}
 use Rattle.measure_pass.proofs.Own.{keeps_self, keeps_trans}
 use Rattle.measure_pass.proofs.Rests.{same_then}
 use Rattle.measure_pass.proofs.Walk.{Phasing, ReadyWalk, phase_end, phase_on, phase_start, ready_end, ready_on, ready_start}
-use Rattle.view_model.specs.declared.limits.TheConstants.{MAX_VIEWS}
+use Rattle.view_model.specs.Numbers.{max_views}
 use Rattle.view_model.specs.declared.work.Work.{Work}
 use Rattle.view_model.specs.Course.{Requested}
 use Rattle.view_model.specs.Forest.{Forest, count_of}
@@ -87,7 +87,7 @@ plan_on first before plan begin old new kids kid at next start count last is wal
       same = same_then begin old new walk.same rest.same;
       walked = keeping_on tree kids (held_of begin) kid (held_of old) (held_of new) next walk.walked others part live;
       phase = λ group past asked started course can.
-          let turn : (taken : List Measured) (first : List Requested) → Represents before group past taken → length taken + count_of (tree_from kid tree) ≤ MAX_VIEWS
+          let turn : (taken : List Measured) (first : List Requested) → Represents before group past taken → length taken + count_of (tree_from kid tree) ≤ max_views
           → InCourse (held_of old) (tree_from kid tree) first → CanTurn (rule_in group) past first
           → AfterPhase plan group past taken first (held_of old) (held_of new) (tree_from kid tree) count.measured last.measured =
           rw same at (measures group past) in

@@ -11,7 +11,7 @@ use Rattle.measure_pass.proofs.Counts.{costs_nothing, costs_parts, costs_same}
 use Rattle.measure_pass.proofs.Frames.{Ready-after, Ready-along, Ready-join}
 use Rattle.measure_pass.proofs.Grows.{Grown-along, Grown-join}
 use Rattle.measure_pass.proofs.Parts.{InCourse-along, InCourse-join, after_phase-append, phase_calls-append, sizes_of-append, split}
-use Rattle.view_model.specs.declared.limits.TheConstants.{MAX_VIEWS}
+use Rattle.view_model.specs.Numbers.{max_views}
 use Rattle.view_model.specs.Course.{Requested, after_phase, measured_of, sizes_of, size_in}
 use Rattle.view_model.specs.Facts.{is_shown}
 use Rattle.view_model.specs.Forest.{Forest, Nothing, Branch, count_of}
@@ -48,7 +48,7 @@ pub record Phasing (plan : GroupPlan) (group : Group) (past : List (List Measure
   pub taken : List Measured
   pub ahead : List Requested
   pub plan_represents : Represents plan group past taken
-  pub few : length taken + count_of rest ≤ MAX_VIEWS
+  pub few : length taken + count_of rest ≤ max_views
   pub before : InCourse now rest ahead
   pub can : CanTurn (rule_in group) past ahead
   pub sizes : taken ++ sizes_of (after_phase ((rule_in group).ask past) taken ahead) ≡ sizes_of (after_phase ((rule_in group).ask past) [] asked)
@@ -60,7 +60,7 @@ pub record Phasing (plan : GroupPlan) (group : Group) (past : List (List Measure
       → Grown (AskedAt (after_phase ((rule_in group).ask past) [] asked)) begin end kids
 
 pub phase_start : (plan : GroupPlan) (group : Group) (past : List (List Measured)) (asked : List Requested) (kids : Forest Row) (now : ℕ → Held) (count : ℕ)
-    → Represents plan group past [] → count_of kids ≤ MAX_VIEWS → InCourse now kids asked → CanTurn (rule_in group) past asked
+    → Represents plan group past [] → count_of kids ≤ max_views → InCourse now kids asked → CanTurn (rule_in group) past asked
     → Phasing plan group past asked kids kids now now count count
 phase_start plan group past asked kids now count represents few course can =
     record { taken = []; ahead = asked; plan_represents = represents; few = omega arith; before = course; can = can; sizes = refl; done = λ end agree h. h; costs = λ end last agree h. h; caches = λ end agree h. h }
@@ -83,7 +83,7 @@ sizes_few now (Branch row below siblings) (kid ∷ more) h =
 pub phase_on : (before plan : GroupPlan) (group : Group) (past : List (List Measured)) (asked : List Requested) (kids part : Forest Row) (begin old mid : ℕ → Held) (start count new : ℕ)
     → ((key : ℕ) → count_of_key key part ≤ 1)
     → Phasing before group past asked kids part begin old start count → KeepsOutside old mid (first_tree part) → KeepsInside begin old part
-    → ((taken : List Measured) (first : List Requested) → Represents before group past taken → length taken + count_of (first_tree part) ≤ MAX_VIEWS → InCourse old (first_tree part) first
+    → ((taken : List Measured) (first : List Requested) → Represents before group past taken → length taken + count_of (first_tree part) ≤ max_views → InCourse old (first_tree part) first
     → CanTurn (rule_in group) past first → AfterPhase plan group past taken first old mid (first_tree part) count new)
     → Phasing plan group past asked kids (later_siblings part) begin mid start new
 phase_on before plan group past asked kids part begin old mid start count new once f others still turn =

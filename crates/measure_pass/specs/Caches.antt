@@ -19,7 +19,8 @@ after_puts cache (entry ∷ more) = after_puts (put_in cache entry) more
 -- each is of a good pair that the cache does not have when it comes
 abbrev pub AllNew : (Specs → Type 0) → List Entry → List Entry → Type 0
 AllNew ok cache [] = Unit {0}
-AllNew ok cache (entry ∷ more) = (found cache (pair_in entry) ≡ None) × ok (pair_in entry) × AllNew ok (put_in cache entry) more
+AllNew ok cache (entry ∷ more) =
+    (found cache (pair_in entry) ≡ None) × ok (pair_in entry) × AllNew ok (put_in cache entry) more
 
 pub record Grew (ok : Specs → Type 0) (old new : List Entry) : Type 0 where
   pub puts : List Entry

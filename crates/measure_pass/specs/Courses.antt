@@ -1,5 +1,6 @@
 -- What is left with the children of a view in the course of its measuring.
-use Rattle.std.specs.Prelude.{◌≡◌, ℤ, ℕ, ◌+◌, zero, suc, Bool, true, false, if◌then◌else◌, Option, Some, None, List, [], ◌∷◌, ◌++◌, sum_by}
+use Rattle.std.specs.Prelude.{◌≡◌, ℤ, ℕ, ◌+◌, zero, suc, Bool, true, false, if◌then◌else◌, Option, Some, None, List, []}
+use Rattle.std.specs.Prelude.{◌∷◌, ◌++◌, sum_by}
 use Rattle.geom_core.specs.Limits.{IsSide}
 use Rattle.geom_core.specs.declared.geometry.Size.{Size}
 use Rattle.measure_pass.specs.Caches.{AskedAt, Grown, asked_under}
@@ -7,7 +8,8 @@ use Rattle.kept_views.specs.Kept.{IsSized, Sized, last_edges, last_specs}
 use Rattle.measure_pass.specs.Measured.{Costs, calls_under, edges_under, finals_under, size_under, total_under}
 use Rattle.measure_pass.specs.Plans.{Group, GroupPlan, Represents, rule_in}
 use Rattle.view_model.specs.declared.kinds.Class.TheVariants.{RelativeLayout}
-use Rattle.view_model.specs.Course.{Child, MeasuringProgress, Requested, after_phase, after_turn, last_of, measured_of, one_phase, phases_on, size_after, size_in, sizes_of}
+use Rattle.view_model.specs.Course.{Child, MeasuringProgress, Requested, after_phase, after_turn, last_of, measured_of}
+use Rattle.view_model.specs.Course.{one_phase, phases_on, size_after, size_in, sizes_of}
 use Rattle.view_model.specs.Facts.{is_shown}
 use Rattle.view_model.specs.Forest.{Forest, Nothing, Branch}
 use Rattle.view_model.specs.Layout.{child_under}
@@ -24,7 +26,8 @@ child_of row kids = child_under row.view (views_of kids)
 abbrev pub MeasuredFor : (ℕ → Held) → Row → Forest Row → List Specs → Type 0
 MeasuredFor held row kids [] = Unit {0}
 MeasuredFor held row kids (specs ∷ more) =
-    (specs_of (held row.key).state ≡ last_of specs more) × IsSized held (held row.key) row kids × ((held row.key).state.measure_first ≡ false → Sized held kids)
+    (specs_of (held row.key).state ≡ last_of specs more) × IsSized held (held row.key) row kids
+    × ((held row.key).state.measure_first ≡ false → Sized held kids)
 
 -- the views of a list are these children, each measured for what was asked of it so far
 abbrev pub InCourse : (ℕ → Held) → Forest Row → List Requested → Type 0
@@ -42,9 +45,11 @@ has_requests (specs ∷ more) = true
 -- given the size that is kept of it, which is of an earlier measuring of the whole group if this one did not measure it
 -- so far
 pub record TurnIsKnown (rule : Rule) (past : List (List Measured)) (kid : Requested) : Type 0 where
-  pub asked : (taken : List Measured) (present : Size) → (has_requests kid.requests ≡ true → present ≡ size_after kid.child kid.requests)
+  pub asked : (taken : List Measured) (present : Size)
+      → (has_requests kid.requests ≡ true → present ≡ size_after kid.child kid.requests)
       → rule.ask past taken (record { facts = kid.child.facts; size = present }) ≡ rule.ask past taken (measured_of kid)
-  pub left : (taken : List Measured) (present : Size) → (has_requests kid.requests ≡ true → present ≡ size_after kid.child kid.requests)
+  pub left : (taken : List Measured) (present : Size)
+      → (has_requests kid.requests ≡ true → present ≡ size_after kid.child kid.requests)
       → rule.ask past taken (measured_of kid) ≡ None → counted_as past None present ≡ size_after kid.child kid.requests
   pub got : (taken : List Measured) (specs : Specs) (size : Size) → rule.ask past taken (measured_of kid) ≡ Some specs
       → counted_as past (rule.ask past taken (record { facts = kid.child.facts; size = size })) size ≡ size
@@ -58,7 +63,8 @@ CanTurn rule past (kid ∷ kids) = (is_shown kid.child.facts ≡ true → TurnIs
 abbrev pub StaysReady : Rule → ℕ → MeasuringProgress → Type 0
 StaysReady rule zero progress = CanTurn rule progress.past progress.kids
 StaysReady rule (suc left) progress =
-    CanTurn rule progress.past progress.kids × (rule.turns (one_phase rule progress).past ≡ true → StaysReady rule left (one_phase rule progress))
+    CanTurn rule progress.past progress.kids
+    × (rule.turns (one_phase rule progress).past ≡ true → StaysReady rule left (one_phase rule progress))
 
 -- how many views are measured if a child gets these specs, if any
 abbrev pub calls_for : Option Specs → Child → ℕ
@@ -71,7 +77,8 @@ turn_calls ask taken kid = if is_shown kid.child.facts then calls_for (ask taken
 
 abbrev pub phase_calls : (List Measured → Measured → Option Specs) → List Measured → List Requested → ℕ
 phase_calls ask taken [] = 0
-phase_calls ask taken (kid ∷ kids) = turn_calls ask taken kid + phase_calls ask (taken ++ size_in (after_turn ask taken kid)) kids
+phase_calls ask taken (kid ∷ kids) =
+    turn_calls ask taken kid + phase_calls ask (taken ++ size_in (after_turn ask taken kid)) kids
 
 -- how many for all that was asked of these children so far
 abbrev pub calls_of : List Requested → ℕ
@@ -79,21 +86,25 @@ calls_of kids = sum_by (λ (kid : Requested). sum_by kid.child.calls kid.request
 
 -- the views below the first one of a list were measured for it under these specs: its size is known, and its own
 -- measuring is all that is still to be counted
-pub record IsMeasuredBelow (part : Forest Row) (specs : Specs) (before held : ℕ → Held) (answer : Size) (total : ℤ) (old new : ℕ) : Type 0 where
+pub record IsMeasuredBelow (part : Forest Row) (specs : Specs) (before held : ℕ → Held) (answer : Size) (total : ℤ)
+    (old new : ℕ) : Type 0 where
   pub size : answer ≡ size_under part specs
   pub length : total ≡ total_under part specs
   pub width : IsSide answer.w
   pub height : IsSide answer.h
   pub sized : Sized held (children_of_first part)
   pub finals : last_specs held (children_of_first part) ≡ finals_under part specs
-  pub edges : (head_view part).class ≡ RelativeLayout → last_edges held (children_of_first part) ≡ edges_under part specs
+  pub edges : (head_view part).class ≡ RelativeLayout
+      → last_edges held (children_of_first part) ≡ edges_under part specs
   pub costs : Costs (children_of_first part) before held old (calls_under part specs) (new + 1)
   pub caches : Grown (asked_under part specs) before held (children_of_first part)
 
 -- a plan has taken the views of a list, which are these children, after others of the same phase
-pub record AfterPhase (plan : GroupPlan) (group : Group) (past : List (List Measured)) (taken : List Measured) (kids : List Requested)
+pub record AfterPhase (plan : GroupPlan) (group : Group) (past : List (List Measured)) (taken : List Measured)
+    (kids : List Requested)
     (before held : ℕ → Held) (list : Forest Row) (old new : ℕ) : Type 0 where
-  pub plan_represents : Represents plan group past (taken ++ sizes_of (after_phase ((rule_in group).ask past) taken kids))
+  pub plan_represents : Represents plan group past
+      (taken ++ sizes_of (after_phase ((rule_in group).ask past) taken kids))
   pub course : InCourse held list (after_phase ((rule_in group).ask past) taken kids)
   pub costs : Costs list before held old (phase_calls ((rule_in group).ask past) taken kids) new
   pub caches : Grown (AskedAt (after_phase ((rule_in group).ask past) taken kids)) before held list
@@ -103,7 +114,8 @@ abbrev pub from_here : Group → ℕ → MeasuringProgress → MeasuringProgress
 from_here group left progress = phases_on left (rule_in group) (one_phase (rule_in group) progress)
 
 -- a group's whole measuring, from completed phases
-pub record AfterAll (group : Group) (left : ℕ) (progress : MeasuringProgress) (before held : ℕ → Held) (list : Forest Row) (answer : Size) (total : ℤ)
+pub record AfterAll (group : Group) (left : ℕ) (progress : MeasuringProgress) (before held : ℕ → Held)
+    (list : Forest Row) (answer : Size) (total : ℤ)
     (old new : ℕ) : Type 0 where
   pub size : answer ≡ (rule_in group).size (from_here group left progress).past
   pub length : total ≡ (rule_in group).total (from_here group left progress).past

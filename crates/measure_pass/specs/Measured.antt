@@ -1,5 +1,6 @@
 -- What a measuring leaves with the views of a tree.
-use Rattle.std.specs.Prelude.{◌≡◌, ◌≢◌, ◌≤◌, ◌⊎◌, ℕ, ℤ, ◌+◌, ◌-◌, ◌^◌, min, pos, true, false, Bool, if◌then◌else◌, List, [], Option, None}
+use Rattle.std.specs.Prelude.{◌≡◌, ◌≢◌, ◌≤◌, ◌⊎◌, ℕ, ℤ, ◌+◌, ◌-◌, ◌^◌, min, pos, true, false, Bool, if◌then◌else◌, List}
+use Rattle.std.specs.Prelude.{[], Option, None}
 use Rattle.geom_core.specs.declared.geometry.Rect.{Rect}
 use Rattle.geom_core.specs.declared.geometry.Size.{Size}
 use Rattle.measure_cache.specs.declared.cache.Entry.{Entry}
@@ -85,18 +86,30 @@ entry_for specs size = record { ws = specs.across; hs = specs.down; size = size 
 abbrev pub done_with : Held → Specs → Size → ℤ → Held
 done_with own specs size total =
     record own {
-      state = record own.state { measured = size; ws = specs.across; hs = specs.down; total = total; measure_first = false; layout_needed = true };
+      state =
+          record own.state {
+            measured = size;
+            ws = specs.across;
+            hs = specs.down;
+            total = total;
+            measure_first = false;
+            layout_needed = true;
+          };
       cache = put_in own.cache (entry_for specs size);
     }
 
 -- with one whose size for these specs was in its cache
 abbrev pub hit_with : Held → Specs → Size → Held
 hit_with own specs size =
-    record own { state = record own.state { measured = size; ws = specs.across; hs = specs.down; measure_first = true; layout_needed = true } }
+    record own {
+      state = record own.state
+          { measured = size; ws = specs.across; hs = specs.down; measure_first = true; layout_needed = true };
+    }
 
 -- and with a marked one, once its children were measured for its last specs
 abbrev pub made_up : Held → Size → ℤ → Held
-made_up own size total = record own { state = record own.state { measured = size; total = total; measure_first = false } }
+made_up own size total =
+    record own { state = record own.state { measured = size; total = total; measure_first = false } }
 
 -- a view of this state was last measured under these specs, and is not forced
 abbrev pub current : State → Specs → Bool
@@ -123,8 +136,8 @@ pub record Counted (least : ℕ) (before after : Views) (old new : Work) : Type 
   pub laid : after.counts.laid ≡ before.counts.laid
   pub painted : new.painted ≡ old.painted
 
--- what measuring the views of a list leaves: they are ready again, the tree and what is kept of other views are the same,
--- and each measuring was counted
+-- what measuring the views of a list leaves: they are ready again, the tree and what is kept of other views are the
+-- same, and each measuring was counted
 pub record KeepsRest (before after : Views) (list : Forest Row) (old new : Work) : Type 0 where
   pub ready : Ready (held_of after) list
   pub same : SameTree before after

@@ -10,7 +10,7 @@ use Rattle.linear_layout.specs.declared.plan.LinearPlan.{LinearPlan}
 use Rattle.scroll_view.specs.ScrollPlan.{RepresentsScroll}
 use Rattle.scroll_view.specs.declared.plan.ScrollPlan.{ScrollPlan}
 use Rattle.view_model.specs.declared.facts.Facts.{Facts}
-use Rattle.view_model.specs.declared.limits.TheConstants.{MAX_VIEWS}
+use Rattle.view_model.specs.Numbers.{max_views}
 use Rattle.view_model.specs.FrameLayout.{frame_rule}
 use Rattle.view_model.specs.Classes.{is_group}
 use Rattle.view_model.specs.Layout.{manner_of}
@@ -41,9 +41,12 @@ pub data GroupPlan : Type 0 where
 
 -- the plan of a view, once these phases are over and it has taken these children in the next
 abbrev pub Represents : GroupPlan → Group → List (List Measured) → List Measured → Type 0
-Represents (Frame plan) group past taken = (rule_in group ≡ frame_rule group.own group.specs) × RepresentsFrame plan group.own group.specs past taken
-Represents (Linear plan) group past taken = (rule_in group ≡ linear_rule group.own group.specs) × RepresentsLinear plan group.own group.specs past taken
-Represents (Scroll plan) group past taken = (rule_in group ≡ scroll_rule group.own group.specs) × RepresentsScroll plan group.own group.specs past taken
+Represents (Frame plan) group past taken =
+    (rule_in group ≡ frame_rule group.own group.specs) × RepresentsFrame plan group.own group.specs past taken
+Represents (Linear plan) group past taken =
+    (rule_in group ≡ linear_rule group.own group.specs) × RepresentsLinear plan group.own group.specs past taken
+Represents (Scroll plan) group past taken =
+    (rule_in group ≡ scroll_rule group.own group.specs) × RepresentsScroll plan group.own group.specs past taken
 
 -- the plan of a view that measures so, before its first child
 abbrev pub IsPlanOf : Manner → GroupPlan → PlainView → Specs → Type 0
@@ -56,7 +59,8 @@ pub record IsLeaf (view : PlainView) (specs : Specs) (size : Size) : Type 0 wher
   pub alone : is_group view.class ≡ false
 
 -- a plan at the end of a phase: whether another follows, and then the plan is at its start
-pub record Turned (plan : GroupPlan) (group : Group) (past : List (List Measured)) (taken : List Measured) (answer : Bool) : Type 0 where
+pub record Turned (plan : GroupPlan) (group : Group) (past : List (List Measured)) (taken : List Measured)
+    (answer : Bool) : Type 0 where
   pub answers : answer ≡ (rule_in group).turns (past ++ taken ∷ [])
   pub follows : answer ≡ true → Represents plan group (past ++ taken ∷ []) []
   pub ends : answer ≡ false → Represents plan group past taken
@@ -70,13 +74,15 @@ Asks plan kid size answer =
 -- a plan takes such a child
 abbrev pub Takes : GroupPlan → GroupPlan → Facts → Size → Type 0
 Takes old new kid size =
-    (group : Group) (past : List (List Measured)) (taken : List Measured) → Represents old group past taken → length taken < MAX_VIEWS
+    (group : Group) (past : List (List Measured)) (taken : List Measured) → Represents old group past taken
+    → length taken < max_views
     → Represents new group past (taken ++ taken_as (rule_in group) past taken kid size ∷ [])
 
 -- a plan ends a phase, and answers whether another follows
 abbrev pub Turns : GroupPlan → GroupPlan → Bool → Type 0
 Turns old new answer =
-    (group : Group) (past : List (List Measured)) (taken : List Measured) → Represents old group past taken → Turned new group past taken answer
+    (group : Group) (past : List (List Measured)) (taken : List Measured) → Represents old group past taken
+    → Turned new group past taken answer
 
 -- the size of a group by its plan after the last phase, and what its children took along its axis
 pub record Ends (plan : GroupPlan) (own : Size) (along : ℤ) : Type 0 where

@@ -28,19 +28,22 @@ IsAnchorBy views search kid anchor =
     let list = children_of_first (part_from search.view views.tree) in
     (place : ℕ)
     → part_from kid views.tree ≡ siblings_from place list
-    → anchor ≡ anchor_by search.rtl search.axis (kids_in list) (kept_spans search.axis (held_of views) list) search.tie place
+    → anchor
+    ≡ anchor_by search.rtl search.axis (kids_in list) (kept_spans search.axis (held_of views) list) search.tie place
 
 -- what is used instead of the gone child of a place, to which another one is tied: the sibling to which its own rule
 -- leads in the same way, through all the others at most
 abbrev pub instead_of : Search → List Child → ℕ → Option ℕ
 instead_of search kids =
-    anchor_within (length kids - 1) (λ sibling. is_shown (child_at kids sibling).facts) (named_sibling search.rtl search.axis search.tie (links_of kids))
+    anchor_within (length kids - 1) (λ sibling. is_shown (child_at kids sibling).facts)
+    (named_sibling search.rtl search.axis search.tie (links_of kids))
 
 -- a gone child is replaced by what is used instead of it
 abbrev pub IsReplaced : Forest Row → Search → Replacement → Type 0
 IsReplaced tree search replaced =
     let list = children_of_first (part_from search.view tree) in
-    ((place : ℕ) → part_from replaced.gone tree ≡ siblings_from place list → IsKidAt tree list (instead_of search (kids_in list) place) replaced.by)
+    ((place : ℕ) → part_from replaced.gone tree ≡ siblings_from place list
+    → IsKidAt tree list (instead_of search (kids_in list) place) replaced.by)
     × IfSome replaced.by (λ key. 0 < count_of_key key tree)
 
 -- each of these is, in a group, on an axis

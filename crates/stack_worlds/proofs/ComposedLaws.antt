@@ -4,7 +4,7 @@ use Rattle.std.specs.Option.{option_map}
 use Rattle.std.proofs.lemmas.Int.{ints}
 use Rattle.std.specs.Prelude.{ℤ, pos, negsuc, ◌≤ℤ◌, unsigned_abs, Option, Some, None}
 use Rattle.geom_core.specs.declared.color.Argb.{Argb}
-use Rattle.geom_core.specs.declared.color.TheConstants.{BLACK}
+use Rattle.geom_core.specs.Numbers.{unpainted}
 use Rattle.stack_worlds.proofs.StackLaws.{plain_at, plain_there}
 use Rattle.script_lines.specs.reading.Pixels.{IsPart}
 use Rattle.stack_worlds.specs.Composed.{IsComposed, part_of}
@@ -35,12 +35,12 @@ color_there stack k world x y e = ap (color_from (corner_of stack.panes k) x y) 
 pub color_same : (corner : Option (ℤ × ℤ)) (i j x y : ℤ) (world : Option World) → i ≡ x → j ≡ y → color_from corner i j world ≡ color_from corner x y world
 color_same corner i j x y world across down = rw (across, down) refl
 
-color_none : (corner : Option (ℤ × ℤ)) (x y : ℤ) → BLACK ≡ color_from corner x y None
+color_none : (corner : Option (ℤ × ℤ)) (x y : ℤ) → unpainted ≡ color_from corner x y None
 color_none None x y = refl
 color_none (Some corner) x y = refl
 
 -- and of one that has none
-pub black_there : (stack : KeyedStack) (k : ℕ) (x y : ℤ) → keyed_at stack k ≡ None → BLACK ≡ color_in (stack_of stack) x y (Some k)
+pub black_there : (stack : KeyedStack) (k : ℕ) (x y : ℤ) → keyed_at stack k ≡ None → unpainted ≡ color_in (stack_of stack) x y (Some k)
 black_there stack k x y e =
     color_none (corner_of stack.panes k) x y
     ∙ ap (color_from (corner_of stack.panes k) x y) (sym (plain_at stack.worlds k ∙ ap (option_map world_of) e))

@@ -8,7 +8,8 @@ use Rattle.stack_worlds.specs.declared.stack.composing.Part.{Part}
 
 -- the part of which a line asks
 abbrev pub part_of : ℤ → ℤ → ℤ → ℤ → Part
-part_of x y w h = record { left = unsigned_abs x; top = unsigned_abs y; width = unsigned_abs w; height = unsigned_abs h }
+part_of x y w h =
+    record { left = unsigned_abs x; top = unsigned_abs y; width = unsigned_abs w; height = unsigned_abs h }
 
 -- the colour of a point, counted from the corner of the part
 abbrev pub composed_in : Composed → ℕ → ℕ → Argb

@@ -1,8 +1,10 @@
 -- Each window has its own world: that of the commands that were given to it since it was opened.
-use Rattle.std.specs.Prelude.{◌≡◌, ℕ, ◌==◌, Bool, false, not, ◌&&◌, if◌then◌else◌, List, [], ◌∷◌, ◌++◌, Option, Some, None, fold}
+use Rattle.std.specs.Prelude.{◌≡◌, ℕ, ◌==◌, Bool, false, not, ◌&&◌, if◌then◌else◌, List, [], ◌∷◌, ◌++◌, Option, Some}
+use Rattle.std.specs.Prelude.{None, fold}
 use Rattle.script_lines.specs.commands.PlainCommands.{PlainCommand}
 use Rattle.tool_io.specs.Fetched.{Files}
-use Rattle.stack_worlds.specs.PlainStack.{PlainStack, PlainWay, Given, Missed, RefusedBy, ToStack, StackReply, empty_stack, stack_step, way_of, world_at}
+use Rattle.stack_worlds.specs.PlainStack.{PlainStack, PlainWay, Given, Missed, RefusedBy, ToStack, StackReply}
+use Rattle.stack_worlds.specs.PlainStack.{empty_stack, stack_step, way_of, world_at}
 use Rattle.stack_worlds.specs.PlainStack as stack_reply
 use Rattle.stack_worlds.specs.declared.stack.way.Own.TheVariants as own
 use Rattle.view_world.specs.world.Step.{Reply, Done, Refused, step}
@@ -34,7 +36,8 @@ world_or world (Refused refusal) = world
 -- the replies to commands, one after another, from a world
 abbrev pub replies_from : Files → World → List PlainCommand → List Reply
 replies_from files world [] = []
-replies_from files world (said ∷ more) = step files world said ∷ replies_from files (world_or world (step files world said)) more
+replies_from files world (said ∷ more) =
+    step files world said ∷ replies_from files (world_or world (step files world said)) more
 
 -- the world that these commands make in a world of their own, and the replies to them
 abbrev pub world_alone : Files → List PlainCommand → World
@@ -94,7 +97,8 @@ IsAlone files (Some world) share replies = (world ≡ world_alone files share) �
 -- a stack after one more line, in which the window is that of its share alone
 pub record IsAfterLine (files : Files) (k : ℕ) (shared : Shared) (line : PlainLine) (stack : PlainStack) : Type 0 where
   pub same : (after_shared files k shared line).stack ≡ stack
-  pub alone : IsAlone files (world_at stack k) (after_shared files k shared line).share (after_shared files k shared line).replies
+  pub alone : IsAlone files (world_at stack k) (after_shared files k shared line).share
+      (after_shared files k shared line).replies
 
 -- after these lines, whatever they give to other windows
 abbrev pub IsIsolated : Files → ℕ → List PlainLine → Type 0
@@ -111,4 +115,5 @@ abbrev pub DependsOnShare : Files → ℕ → List PlainLine → List PlainLine 
 DependsOnShare files k lines others =
     share files k lines ≡ share files k others
     → let one = shared_by files k lines in
-    let other = shared_by files k others in AreAlike (world_at one.stack k) one.replies (world_at other.stack k) other.replies
+    let other =
+    shared_by files k others in AreAlike (world_at one.stack k) one.replies (world_at other.stack k) other.replies

@@ -1,7 +1,9 @@
 -- A stack of windows, each with a plain world of its own, and what a line does to it.
-use Rattle.std.specs.Prelude.{ℕ, ◌+◌, ◌-ℤ◌, ◌&&◌, Bool, true, false, if◌then◌else◌, ℤ, pos, unsigned_abs, int_le, nat_lt, List, [], ◌∷◌, replicate, codes, Option, Some, None, map, slice_set, slice_index_or}
+use Rattle.std.specs.Prelude.{ℕ, ◌+◌, ◌-ℤ◌, ◌&&◌, Bool, true, false, if◌then◌else◌, ℤ, pos, unsigned_abs, int_le}
+use Rattle.std.specs.Prelude.{nat_lt, List, [], ◌∷◌, replicate, codes, Option, Some, None, map, slice_set}
+use Rattle.std.specs.Prelude.{slice_index_or}
 use Rattle.geom_core.specs.declared.color.Argb.{Argb}
-use Rattle.geom_core.specs.declared.color.TheConstants.{BLACK}
+use Rattle.geom_core.specs.Numbers.{unpainted}
 use Rattle.geom_core.specs.declared.geometry.Size.{Size}
 use Rattle.pixel_raster.specs.Raster.{pixel_at}
 use Rattle.script_lines.specs.commands.PlainCommands.{PlainCommand}
@@ -17,7 +19,8 @@ use Rattle.view_world.specs.replying.Replies.{pixels_text}
 use Rattle.view_world.specs.world.Step.{Reply, step}
 use Rattle.view_world.specs.world.Step as world_reply
 use Rattle.view_world.specs.world.World.{World, Stage, NoWindow, NoFrame, Unsettled, Settled, empty_world}
-use Rattle.window_stack.specs.PlainPanes.{PlainPanes, closed, corner_of, holds_gesture, is_open, no_panes, raised, set_at, topmost}
+use Rattle.window_stack.specs.PlainPanes.{PlainPanes, closed, corner_of, holds_gesture, is_open, no_panes, raised}
+use Rattle.window_stack.specs.PlainPanes.{set_at, topmost}
 use Rattle.window_stack.specs.StackLines.{PlainLine, At, Raise, Close, In, Compose, Down, Move, Up, Cancel}
 
 pub record PlainStack : Type 0 where
@@ -119,22 +122,24 @@ settled_sizes stack = map settled_size stack.worlds
 
 -- the colour of a point of a picture of this size, black outside of it
 abbrev pub color_of_picture : Option Size → List Argb → ℕ → ℕ → Argb
-color_of_picture None picture column row = BLACK
+color_of_picture None picture column row = unpainted
 color_of_picture (Some size) picture column row =
-    if nat_lt column (unsigned_abs size.w) && nat_lt row (unsigned_abs size.h) then pixel_at (unsigned_abs size.w) picture column row else BLACK
+    if nat_lt column (unsigned_abs size.w) && nat_lt row (unsigned_abs size.h)
+    then pixel_at (unsigned_abs size.w) picture column row
+    else unpainted
 
 -- the colour of a point of a window, black if its last frame has not settled
 abbrev pub color_of_world : Option World → ℕ → ℕ → Argb
-color_of_world None column row = BLACK
+color_of_world None column row = unpainted
 color_of_world (Some world) column row = color_of_picture (settled_size (Some world)) world.picture column row
 
 -- the same by the coordinates of the stack, if the window has this corner
 abbrev pub color_from : Option (ℤ × ℤ) → ℤ → ℤ → Option World → Argb
-color_from None x y world = BLACK
+color_from None x y world = unpainted
 color_from (Some corner) x y world = color_of_world world (unsigned_abs (x -ℤ corner.0)) (unsigned_abs (y -ℤ corner.1))
 
 abbrev pub color_in : PlainStack → ℤ → ℤ → Option ℕ → Argb
-color_in stack x y None = BLACK
+color_in stack x y None = unpainted
 color_in stack x y (Some k) = color_from (corner_of stack.panes k) x y (world_at stack k)
 
 -- the colour of a point: that of the topmost settled window there, and black if there is none
@@ -143,7 +148,8 @@ composed stack x y = color_in stack x y (topmost stack.panes x y (settled_sizes 
 
 -- the colours of a part, one line per row
 abbrev pub composed_text : PlainStack → ℕ → ℕ → ℕ → ℕ → List ℕ
-composed_text stack left top width height = pixels_text (λ column row. composed stack (pos (left + column)) (pos (top + row))) width height
+composed_text stack left top width height =
+    pixels_text (λ column row. composed stack (pos (left + column)) (pos (top + row))) width height
 
 pub data StackReply : Type 0 where
   Done : PlainStack → List ℕ → StackReply
@@ -161,7 +167,10 @@ holder_after holder k world = if holds_gesture holder k && is_none_down world.po
 -- the stack with this world of a window, which a command has made
 abbrev pub with_world : PlainStack → Option ℕ → ℕ → World → PlainStack
 with_world stack holder k world =
-    record { panes = record stack.panes { holder = holder_after holder k world }; worlds = slice_set stack.worlds k (Some world) }
+    record {
+      panes = record stack.panes { holder = holder_after holder k world };
+      worlds = slice_set stack.worlds k (Some world);
+    }
 
 abbrev pub after_given : PlainStack → Option ℕ → ℕ → Reply → StackReply
 after_given stack holder k (world_reply.Done world text) = Done (with_world stack holder k world) text
@@ -175,14 +184,18 @@ given_to files stack holder k said (Some world) = after_given stack holder k (st
 -- a window with this corner, and with an empty world where it was not open
 abbrev pub placed_at : PlainStack → ℕ → ℤ → ℤ → PlainStack
 placed_at stack k x y =
-    record { panes = set_at stack.panes k x y; worlds = if is_open stack.panes k then stack.worlds else slice_set stack.worlds k (Some empty_world) }
+    record {
+      panes = set_at stack.panes k x y;
+      worlds = if is_open stack.panes k then stack.worlds else slice_set stack.worlds k (Some empty_world);
+    }
 
 -- what a line does to the stack itself
 abbrev pub own_step : PlainStack → Own → StackReply
 own_step stack (own.At k x y) = Done (placed_at stack k x y) []
 own_step stack (own.Raise k) = Done (record stack { panes = raised stack.panes k }) []
 own_step stack (own.Close k) = Done (record { panes = closed stack.panes k; worlds = slice_set stack.worlds k None }) []
-own_step stack (own.Compose x y w h) = Done stack (composed_text stack (unsigned_abs x) (unsigned_abs y) (unsigned_abs w) (unsigned_abs h))
+own_step stack (own.Compose x y w h) =
+    Done stack (composed_text stack (unsigned_abs x) (unsigned_abs y) (unsigned_abs w) (unsigned_abs h))
 
 abbrev pub by_way : Files → PlainStack → PlainWay → StackReply
 by_way files stack (Given holder k said) = given_to files stack holder k said (world_at stack k)

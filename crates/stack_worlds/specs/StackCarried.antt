@@ -7,7 +7,8 @@ use Rattle.text_lines.specs.Prefix.{AppendsPrefix}
 use Rattle.tool_io.specs.Counts.{raised}
 use Rattle.tool_io.specs.SinkState.{SinkState}
 use Rattle.view_model.specs.Refusals.{plain_refusal}
-use Rattle.stack_worlds.specs.PlainStack.{PlainStack, PlainWay, Given, Missed, RefusedBy, ToStack, StackReply, Done, Refused, way_of}
+use Rattle.stack_worlds.specs.PlainStack.{PlainStack, PlainWay, Given, Missed, RefusedBy, ToStack, StackReply, Done}
+use Rattle.stack_worlds.specs.PlainStack.{Refused, way_of}
 use Rattle.tool_io.specs.declared.faults.Failed.{Failed}
 use Rattle.stack_worlds.specs.declared.stack.way.Given as given
 use Rattle.stack_worlds.specs.declared.stack.way.Own.{Own}
@@ -26,11 +27,13 @@ use Rattle.window_stack.specs.StackLines.{PlainLine}
 -- If a call on the sink has failed, the stack is the reply's all the same, and before that call a prefix of its text
 -- was written. If there was no memory, or the shelf has failed, nothing is stated of the reply.
 abbrev pub WritesStack : StackReply → PlainStack → SinkState → SinkState → Result (Unit {0}) StepFault → Type 0
-WritesStack reply new before after (Ok _) = (text : List ℕ) × (reply ≡ Done new text) × Appends before.gone after.gone text × (after.faults ≡ before.faults)
+WritesStack reply new before after (Ok _) =
+    (text : List ℕ) × (reply ≡ Done new text) × Appends before.gone after.gone text × (after.faults ≡ before.faults)
 WritesStack reply new before after (Err (fault.Refused refusal)) = reply ≡ Refused (plain_refusal refusal)
 WritesStack reply new before after (Err fault.NoMemory) = Unit {0}
 WritesStack reply new before after (Err fault.Sink) =
-    (text : List ℕ) × (reply ≡ Done new text) × AppendsPrefix before.gone after.gone text × (after.faults ≡ raised before.faults)
+    (text : List ℕ) × (reply ≡ Done new text) × AppendsPrefix before.gone after.gone text
+    × (after.faults ≡ raised before.faults)
 WritesStack reply new before after (Err fault.Shelf) = Unit {0}
 
 -- the line was replied to: there was memory, and no fetch failed

@@ -1,5 +1,6 @@
 -- What a line leaves of the worlds of a stack, and what it has counted: in the world of one window, and in all others.
-use Rattle.std.specs.Prelude.{◌≡◌, ◌≢◌, ◌⊎◌, ◌+◌, ◌≤◌, ℕ, true, if◌then◌else◌, Option, Some, None, Result, List, slice_set}
+use Rattle.std.specs.Prelude.{◌≡◌, ◌≢◌, ◌⊎◌, ◌+◌, ◌≤◌, ℕ, true, if◌then◌else◌, Option, Some, None, Result, List}
+use Rattle.std.specs.Prelude.{slice_set}
 use Rattle.geom_core.specs.declared.geometry.Rect.{Rect}
 use Rattle.geom_core.specs.declared.geometry.Size.{Size}
 use Rattle.script_lines.specs.commands.PlainCommands.{PlainCommand, Frame}
@@ -21,25 +22,32 @@ use Rattle.view_world.specs.declared.fault.StepFault.{StepFault}
 use Rattle.window_stack.specs.PlainPanes.{is_open}
 
 -- what a command counts in a world, and what it leaves there
-pub record WorksIn (before after : KeyedWorld) (said : PlainCommand) (result : Result (Unit {0}) StepFault) (old new : Work) : Type 0 where
+pub record WorksIn (before after : KeyedWorld) (said : PlainCommand) (result : Result (Unit {0}) StepFault)
+    (old new : Work) : Type 0 where
   pub numbers : after.screen.views.next ≤ before.screen.views.next + max_views
   pub work : said ≢ Frame → new ≡ old
   pub idle : IsDone result ⊎ (new ≡ old)
   pub still : said ≡ Frame → before.marks.idle ≡ true → new ≡ old
   pub marks : IsDone result → after.marks ≡ marks_after (world_of before) said (world_of after) before.marks
-  pub measured : said ≡ Frame → IsDone result → new.measured ≤ old.measured + measure_bound (world_of before) before.marks
-  pub counted : said ≡ Frame → IsDone result → CountsMeasures before.screen.views.counts after.screen.views.counts old new
+  pub measured : said ≡ Frame → IsDone result
+      → new.measured ≤ old.measured + measure_bound (world_of before) before.marks
+  pub counted : said ≡ Frame → IsDone result
+      → CountsMeasures before.screen.views.counts after.screen.views.counts old new
   pub measures : said ≢ Frame → after.screen.views.counts.measures ≡ before.screen.views.counts.measures
-  pub laid : said ≡ Frame → IsDone result → (window : Size) → window_of before.screen ≡ Some window → LaysOut before.screen after.screen window
+  pub laid : said ≡ Frame → IsDone result → (window : Size) → window_of before.screen ≡ Some window
+      → LaysOut before.screen after.screen window
   pub leaves : said ≢ Frame → LeavesUnasked (world_of before) said before.screen.views after.screen.views
   pub painted : RisesWithin (paint_bound (world_of before)) old.painted new.painted
-  pub watched : IsDone result → (box : Rect) → HasBox before box → IsWatched after (watched_after (watched_in before box) said (world_of after))
+  pub watched : IsDone result → (box : Rect) → HasBox before box
+      → IsWatched after (watched_after (watched_in before box) said (world_of after))
   pub worth : IsDone result → (box : Rect) → HasBox before box → IsWorth (costs_of (watched_in before box) said) old new
-  pub filled : said ≡ Frame → IsDone result → FillsAlike before.screen.surface.filled after.screen.surface.filled old.painted new.painted
+  pub filled : said ≡ Frame → IsDone result
+      → FillsAlike before.screen.surface.filled after.screen.surface.filled old.painted new.painted
 
 -- the worlds after a change of the stack itself: an empty one where a window was opened, none where it was closed
 abbrev pub worlds_after : KeyedStack → Own → List (Option KeyedWorld)
-worlds_after stack (own.At k x y) = if is_open stack.panes k then stack.worlds else slice_set stack.worlds k (Some new_world)
+worlds_after stack (own.At k x y) =
+    if is_open stack.panes k then stack.worlds else slice_set stack.worlds k (Some new_world)
 worlds_after stack (own.Raise k) = stack.worlds
 worlds_after stack (own.Close k) = slice_set stack.worlds k None
 worlds_after stack (own.Compose x y w h) = stack.worlds
@@ -52,7 +60,8 @@ WorksBy (Given holder k said) before after result old new =
     × (now : KeyedWorld) × (after.worlds ≡ slice_set before.worlds k (Some now)) × WorksIn world now said result old new
 WorksBy Missed before after result old new = (after.worlds ≡ before.worlds) × (new ≡ old)
 WorksBy (RefusedBy number) before after result old new = (after.worlds ≡ before.worlds) × (new ≡ old)
-WorksBy (ToStack change) before after result old new = (IsDone result → after.worlds ≡ worlds_after before change) × (new ≡ old)
+WorksBy (ToStack change) before after result old new =
+    (IsDone result → after.worlds ≡ worlds_after before change) × (new ≡ old)
 
 -- the number of the view that a world makes next; a world that is not there yet begins with 1
 abbrev pub next_in : Option KeyedWorld → ℕ

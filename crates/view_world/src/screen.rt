@@ -5,11 +5,11 @@ ghost use Rattle.script_lines.specs.reading.Changes.{IsActInBounds};
 ghost use Rattle.script_lines.specs.reading.Commands.{IsInBounds};
 ghost use Rattle.script_lines.specs.words.Numbers.{IsWithin};
 ghost use Rattle.script_lines.specs.reading.Pixels.{IsPart};
-ghost use Rattle.script_lines.specs.declared.commands.TheConstants.{MAX_WINDOW};
+ghost use Rattle.script_lines.specs.Numbers.{max_window};
 ghost use Rattle.tool_io.specs.Fetched.{Files};
 ghost use Rattle.tree_edits.specs.Applied.{IsEdit, MayWantMemory as EditMayWantMemory, numbered};
 ghost use Rattle.tree_edits.specs.Editing.{names_views};
-ghost use Rattle.view_model.specs.declared.limits.TheConstants.{MAX_VIEWS, NUMBERS_END};
+ghost use Rattle.view_model.specs.Numbers.{max_views, numbers_end};
 ghost use Rattle.view_model.specs.Forest.{Nothing};
 ghost use Rattle.view_model.specs.Resources.{definition_refusal_of};
 ghost use Rattle.view_world.specs.world.World.{World as PlainWorld};
@@ -145,7 +145,7 @@ impl Screen {
         sink: &mut K,
         work: &mut Work,
     ) -> Result<(), StepFault>
-        requires numbers { self.old.views.next < NUMBERS_END }
+        requires numbers { self.old.views.next < numbers_end }
         requires bounds { IsInBounds (plain_command command.now) }
         requires short { text_length (plain_command command.now) < 2 ^ 31 }
         ensures carried { (files : Files)
@@ -161,7 +161,7 @@ impl Screen {
         ensures shelf { AsksShelf F.files F.fetches F.faults
             (asked_file (world_of self.old) (plain_command command.now)) result shelf.old shelf.new }
         ensures memory { result ≡ Err StepFault.NoMemory → MayWantMemory (plain_command command.now) }
-        ensures numbers { self.new.views.next ≤ self.old.views.next + MAX_VIEWS }
+        ensures numbers { self.new.views.next ≤ self.old.views.next + max_views }
         ensures works { WorksOn self.old self.new (plain_command command.now) result work.old work.new }
         ensures sink_failed { (K.state sink.new).faults ≡ faults_after_line result (K.state sink.old).faults }
     {
@@ -204,7 +204,7 @@ impl Screen {
         work: &mut Work,
     ) -> Result<(), StepFault>
         requires alone { inflation_of (plain_command command.now) ≡ None }
-        requires numbers { self.old.views.next < NUMBERS_END }
+        requires numbers { self.old.views.next < numbers_end }
         requires bounds { IsInBounds (plain_command command.now) }
         requires short { text_length (plain_command command.now) < 2 ^ 31 }
         ensures carried { WritesReply (step [] (world_of self.old) (plain_command command.now)) (world_of self.new)
@@ -233,7 +233,7 @@ impl Screen {
         shelf: &mut F,
         sink: &mut K,
     ) -> Result<(), StepFault>
-        requires numbers { self.old.views.next < NUMBERS_END }
+        requires numbers { self.old.views.next < numbers_end }
         ensures carried { (files : Files)
             → AreAtHand files (F.files shelf.old) (asked_for (plain_of self.old.views) (Some (name.now, into)))
             → WritesReply (inflation files (world_of self.old) name.now into) (world_of self.new)
@@ -242,7 +242,7 @@ impl Screen {
         ensures reports { IsDone result → Reports self.new (K.state sink.old) (K.state sink.new) result }
         ensures shelf { AsksShelf F.files F.fetches F.faults
             (asked_for (plain_of self.old.views) (Some (name.now, into))) result shelf.old shelf.new }
-        ensures numbers { self.new.views.next ≤ self.old.views.next + MAX_VIEWS }
+        ensures numbers { self.new.views.next ≤ self.old.views.next + max_views }
         ensures keeps { IsDone result → KeepsLine (Inflate name.now into) self.old self.new }
         ensures sink_failed { (K.state sink.new).faults ≡ faults_after_line result (K.state sink.old).faults }
     {
@@ -282,7 +282,7 @@ impl Screen {
         into: Option<Name>,
         shelf: &mut F,
     ) -> Result<Response, StepFault>
-        requires numbers { self.old.views.next < NUMBERS_END }
+        requires numbers { self.old.views.next < numbers_end }
         ensures changed { (files : Files)
             → AreAtHand files (F.files shelf.old) (asked_for (plain_of self.old.views) (Some (name.now, into)))
             → Inflates (inflation files (world_of self.old) name.now into) self.new result }
@@ -291,7 +291,7 @@ impl Screen {
         ensures unchanged { OnErr result (self.new ≡ self.old) }
         ensures shelf { AsksShelf F.files F.fetches F.faults
             (asked_for (plain_of self.old.views) (Some (name.now, into))) result shelf.old shelf.new }
-        ensures numbers { self.new.views.next ≤ self.old.views.next + MAX_VIEWS }
+        ensures numbers { self.new.views.next ≤ self.old.views.next + max_views }
         ensures keeps { OnOk result (KeepsLine (Inflate name.now into) self.old self.new) }
         ensures no_sink { result ≢ Err StepFault.Sink }
     {
@@ -309,7 +309,7 @@ impl Screen {
         work: &mut Work,
     ) -> Result<Response, StepFault>
         requires alone { inflation_of (plain_command command.now) ≡ None }
-        requires numbers { self.old.views.next < NUMBERS_END }
+        requires numbers { self.old.views.next < numbers_end }
         requires bounds { IsInBounds (plain_command command.now) }
         requires short { text_length (plain_command command.now) < 2 ^ 31 }
         ensures changed { CarriesOut (step [] (world_of self.old) (plain_command command.now)) self.new result }
@@ -371,8 +371,8 @@ impl Screen {
 
     /// Opens a window of this size, in pixels. Its picture replaces the last one.
     fn open(&mut self, size: Size) -> Result<Response, StepFault>
-        requires width { IsWithin (pos 1) MAX_WINDOW size.w }
-        requires height { IsWithin (pos 1) MAX_WINDOW size.h }
+        requires width { IsWithin (pos 1) max_window size.w }
+        requires height { IsWithin (pos 1) max_window size.h }
         ensures changed { CarriesOut (Done (with_window (world_of self.old) size) []) self.new result }
         ensures unchanged { OnErr result (self.new ≡ self.old) }
         ensures numbers { self.new.views.next ≡ self.old.views.next }
@@ -446,7 +446,7 @@ impl Screen {
         width: i32,
         height: i32,
     ) -> Result<Response, StepFault>
-        requires { self.old.views.next < NUMBERS_END }
+        requires { self.old.views.next < numbers_end }
         ensures changed { CarriesOut (step [] (world_of self.old) (Add None class width height)) self.new result }
         ensures unchanged { OnErr result (self.new ≡ self.old) }
         ensures numbers { self.new.views.next ≤ self.old.views.next + 1 }
@@ -467,7 +467,7 @@ impl Screen {
         width: i32,
         height: i32,
     ) -> Result<Response, StepFault>
-        requires { self.old.views.next < NUMBERS_END }
+        requires { self.old.views.next < numbers_end }
         ensures changed { CarriesOut (step [] (world_of self.old) (Add parent class width height)) self.new result }
         ensures unchanged { OnErr result (self.new ≡ self.old) }
         ensures numbers { self.new.views.next ≤ self.old.views.next + 1 }

@@ -1,6 +1,6 @@
 //! The size of a view without children: a plain one, or one that shows a text. Lengths are in pixels.
 ghost use Rattle.std.specs.Prelude.{◌≡◌, ◌<◌, ◌≤◌, ◌*◌, pos};
-ghost use Rattle.view_model.specs.declared.limits.TheConstants.{CELL_HEIGHT};
+ghost use Rattle.view_model.specs.Numbers.{cell_height};
 ghost use Rattle.view_model.specs.Facts.{layout_facts};
 ghost use Rattle.view_model.specs.Leaf.{view_size};
 ghost use Rattle.view_model.specs.TextView.{cells_across, cells_in, text_height, text_size, text_width};
@@ -50,7 +50,7 @@ fn text_height(own: &Facts, text: &Text, spec: Spec, width: i32) -> i32
 
 /// The length of this many cells on an axis on which each has this side.
 fn length_of(side: u32, cells: u32) -> i64
-    requires { side ≤ CELL_HEIGHT }
+    requires { side ≤ cell_height }
     ensures { result ≡ pos (side * cells) }
 {
     (u64::from(side) * u64::from(cells)) as i64

@@ -5,7 +5,7 @@ use Rattle.std.specs.Option.{option_map}
 use Rattle.std.proofs.lemmas.Bool.{cases_Bool}
 use mathlib.Core.Path.{fun_ext}
 use Rattle.geom_core.specs.declared.color.Argb.{Argb}
-use Rattle.geom_core.specs.declared.color.TheConstants.{BLACK}
+use Rattle.geom_core.specs.Numbers.{unpainted}
 use Rattle.geom_core.specs.declared.geometry.Rect.{Rect}
 use Rattle.geom_core.specs.declared.geometry.Size.{Size}
 use Rattle.pixel_raster.specs.Raster.{Raster}
@@ -53,8 +53,8 @@ painted_grown geometry parent more (Branch view below after) none x y u = elim (
 
 color_grown : (geometry : List Laid) (place : Option ℕ) (more tree : Forest PlainView) → AreNowhere geometry more → (place ≡ None → tree ≡ Nothing) → (x y : ℤ)
     → pixel_color geometry (grown_at place more tree) x y ≡ pixel_color geometry tree x y
-color_grown geometry None more tree none root x y = painted_nowhere geometry more none x y BLACK ∙ ap (λ (tree : Forest PlainView). pixel_color geometry tree x y) (sym (root refl))
-color_grown geometry (Some parent) more tree none root x y = painted_grown geometry parent more tree none x y BLACK
+color_grown geometry None more tree none root x y = painted_nowhere geometry more none x y unpainted ∙ ap (λ (tree : Forest PlainView). pixel_color geometry tree x y) (sym (root refl))
+color_grown geometry (Some parent) more tree none root x y = painted_grown geometry parent more tree none x y unpainted
 
 -- the same views with the bounds that they had are shown as before
 pub shows_alike : (picture : Raster) (damage : Rect) (old new : Views) → plain_of new ≡ plain_of old → geometry_of new ≡ geometry_of old → Shows picture damage old → Shows picture damage new

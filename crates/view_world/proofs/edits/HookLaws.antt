@@ -15,8 +15,7 @@ use Rattle.view_model.specs.Geometry.{Laid, rect_in, size_of_rect}
 use Rattle.view_model.specs.PlainTree.{PlainView, view_in}
 use Rattle.view_model.specs.Refusals.{refusal_numbered}
 use Rattle.view_model.specs.declared.changes.NumEdit.{NumEdit}
-use Rattle.view_model.specs.declared.limits.TheConstants.{MAX_HOOKS}
-use Rattle.view_model.specs.declared.refusals.TheConstants.{TOO_MANY_HOOKS}
+use Rattle.view_model.specs.Numbers.{max_hooks, too_many_hooks}
 use Rattle.view_world.specs.screen.KeyedScreen.{KeyedScreen, geometry_in, world_of}
 use Rattle.view_world.specs.world.Step.{Done, Refused, hook_asked, hooked, is_full, may_change, size_in}
 use Rattle.view_world.specs.world.World.{World}
@@ -33,10 +32,10 @@ pub asked_well : (world : World) (number : ℕ) (bad : Bool) (found : Option (Li
     → hook_asked world number bad found ≡ hooked world number edits
 asked_well world number bad found edits e all b = rw (e, all, b) refl
 
-not_full : (hooks : List Hook) (number : ℕ) → ((length hooks ≡ MAX_HOOKS) × (hook_of hooks number ≡ None) → ⊥) → is_full hooks number ≡ false
-not_full hooks number room = elim (cases_eq (length hooks) MAX_HOOKS) [
-  | inl e ↦ rw (eq-eqb (length hooks) MAX_HOOKS e) (some (hook_of hooks number) (λ none. room (e, none)))
-  | inr ne ↦ rw (ne_eqb (length hooks) MAX_HOOKS ne) refl
+not_full : (hooks : List Hook) (number : ℕ) → ((length hooks ≡ max_hooks) × (hook_of hooks number ≡ None) → ⊥) → is_full hooks number ≡ false
+not_full hooks number room = elim (cases_eq (length hooks) max_hooks) [
+  | inl e ↦ rw (eq-eqb (length hooks) max_hooks e) (some (hook_of hooks number) (λ none. room (e, none)))
+  | inr ne ↦ rw (ne_eqb (length hooks) max_hooks ne) refl
 ]
   where
     some : (found : Option Hook) → (found ≡ None → ⊥) → is_none found ≡ false
@@ -45,16 +44,16 @@ not_full hooks number room = elim (cases_eq (length hooks) MAX_HOOKS) [
 
 -- the hook of a view is armed, or as many are armed as may be
 pub armed_world : (now : KeyedScreen) (new : List Hook) (number : ℕ) (reported : Size) (edits : List NumEdit) → reported ≡ size_in (geometry_in now.stage now.views) number
-    → new ≡ armed (record { view = number; reported = reported; edits = edits }) now.hooks → ((length now.hooks ≡ MAX_HOOKS) × (hook_of now.hooks number ≡ None) → ⊥)
+    → new ≡ armed (record { view = number; reported = reported; edits = edits }) now.hooks → ((length now.hooks ≡ max_hooks) × (hook_of now.hooks number ≡ None) → ⊥)
     → hooked (world_of now) number edits ≡ Done (world_of (record now { hooks = new })) []
 armed_world now new number reported edits size is room =
     rw (not_full now.hooks number room)
     (ap (λ (size : Size). Done (world_of (record now { hooks = armed (record { view = number; reported = size; edits = edits }) now.hooks })) []) (sym size)
     ∙ ap (λ (l : List Hook). Done (world_of (record now { hooks = l })) []) (sym is))
 
-pub full_world : (now : KeyedScreen) (number : ℕ) (edits : List NumEdit) → (length now.hooks ≡ MAX_HOOKS) × (hook_of now.hooks number ≡ None)
-    → hooked (world_of now) number edits ≡ Refused (refusal_numbered TOO_MANY_HOOKS)
-full_world now number edits full = rw (eq-eqb (length now.hooks) MAX_HOOKS full.0, full.1) refl
+pub full_world : (now : KeyedScreen) (number : ℕ) (edits : List NumEdit) → (length now.hooks ≡ max_hooks) × (hook_of now.hooks number ≡ None)
+    → hooked (world_of now) number edits ≡ Refused (refusal_numbered too_many_hooks)
+full_world now number edits full = rw (eq-eqb (length now.hooks) max_hooks full.0, full.1) refl
 
 -- a view that has bounds fits
 pub rect_fits : (geometry : List Laid) (number : ℕ) (rect : Rect) → FitAll geometry → rect_in geometry number ≡ Some rect → IsNarrow rect

@@ -6,7 +6,7 @@ use Rattle.std.proofs.lemmas.Bool.{cases_Bool, ltb-true}
 use Rattle.std.proofs.lemmas.List.Elements.{All-append, All-cons, All-filter}
 use Rattle.std.proofs.lemmas.List.Kept.{AllPairs-cons, AllPairs-filter}
 use Rattle.touch_event.specs.declared.event.Point.{Point}
-use Rattle.touch_event.specs.declared.event.TheConstants.{MAX_POINTERS}
+use Rattle.touch_event.specs.Numbers.{max_pointers}
 use Rattle.view_world.specs.touching.Pointers.{AreDown, points_above, points_below, with_point}
 
 abbrev Rises : Point → Point → Type 0
@@ -23,7 +23,7 @@ at_least points rising (suc k) d less =
 abbrev nowhere : Point
 nowhere = record { id = 0; x = pos 0; y = pos 0 }
 
-few_by : (points : List Point) (n : ℕ) → length points ≡ n → AreDown points → n ≤ MAX_POINTERS
+few_by : (points : List Point) (n : ℕ) → length points ≡ n → AreDown points → n ≤ max_pointers
 few_by points zero e down = omega arith
 few_by points (suc n) e down =
     let less : n < length points = omega (arith, e) in
@@ -32,13 +32,13 @@ few_by points (suc n) e down =
     omega (arith, place, id)
 
 -- there are no more than there may be
-pub few : (points : List Point) → AreDown points → length points ≤ MAX_POINTERS
+pub few : (points : List Point) → AreDown points → length points ≤ max_pointers
 few points down = few_by points (length points) refl down
 
 -- a part of them
 pub filtered_down : (keeps : Point → Bool) (points : List Point) → AreDown points → AreDown (filter keeps points)
 filtered_down keeps points down = record {
-  ids = All-filter keeps (λ (p : Point). p.id < MAX_POINTERS) points down.ids;
+  ids = All-filter keeps (λ (p : Point). p.id < max_pointers) points down.ids;
   rising = AllPairs-filter Rises keeps points down.rising;
 }
 
@@ -71,9 +71,9 @@ pairs_both point (x ∷ xs) ys first second below above =
     (pairs_both point xs ys (pairs_tail x xs first) second (all_tail (λ (p : Point). Rises p point) x xs below) above)
 
 -- one more pointer, or one that has moved
-pub with_down : (point : Point) (points : List Point) → AreDown points → point.id < MAX_POINTERS → AreDown (with_point point points)
+pub with_down : (point : Point) (points : List Point) → AreDown points → point.id < max_pointers → AreDown (with_point point points)
 with_down point points down id =
-    let P : Point → Type 0 = λ p. p.id < MAX_POINTERS in
+    let P : Point → Type 0 = λ p. p.id < max_pointers in
     let below = filtered_down (λ (p : Point). nat_lt p.id point.id) points down in
     let above = filtered_down (λ (p : Point). nat_lt point.id p.id) points down in
     record {
@@ -97,8 +97,8 @@ room_next keeps (p ∷ points) (suc i) d less e =
     ]
 
 -- there is room for those below a point, for it, and for those above it
-pub has_room : (point : Point) (points : List Point) → AreDown points → point.id < MAX_POINTERS
-    → length (points_below point.id points) + (length (points_above point.id points) + 1) ≤ MAX_POINTERS
+pub has_room : (point : Point) (points : List Point) → AreDown points → point.id < max_pointers
+    → length (points_below point.id points) + (length (points_above point.id points) + 1) ≤ max_pointers
 has_room point points down id =
     let most = few (with_point point points) (with_down point points down id) in
     omega (arith, most, length-append (points_below point.id points) (point ∷ points_above point.id points))

@@ -13,7 +13,7 @@ use Rattle.view_model.specs.Forest.{Forest}
 use Rattle.view_model.specs.Classes.{is_group}
 use Rattle.view_model.specs.PlainTree.{PlainView, view_in}
 use Rattle.view_model.specs.Refusals.{refusal_numbered}
-use Rattle.view_model.specs.declared.refusals.TheConstants.{WRONG_CLASS}
+use Rattle.view_model.specs.Numbers.{wrong_class}
 use Rattle.view_tree.specs.Rows.{Row}
 use Rattle.view_tree.specs.Views.{plain_of}
 use Rattle.view_world.specs.world.World.{World}
@@ -78,7 +78,7 @@ Changed-disallow now kept number on view there group is =
     (rw (there, group) (ap (λ (gesture : PlainGesture). let w : World = record (world_of now) { gesture = gesture } in Done w []) (sym is)), tt)
 
 pub Refused-disallow : (now : KeyedScreen) (number : ℕ) (on : Bool) (view : PlainView) → view_in (plain_of now.views) number ≡ Some view → is_group view.class ≡ false
-    → disallow_reported (world_of now) number on (view_in (plain_of now.views) number) ≡ Refused (refusal_numbered WRONG_CLASS)
+    → disallow_reported (world_of now) number on (view_in (plain_of now.views) number) ≡ Refused (refusal_numbered wrong_class)
 Refused-disallow now number on view there no_group = rw (there, no_group) refl
 
 -- the targets do not depend on which groups may take events away

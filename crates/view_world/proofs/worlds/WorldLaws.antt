@@ -20,7 +20,7 @@ use Rattle.view_model.specs.Forest.{Forest, Nothing, Branch}
 use Rattle.view_model.specs.Growth.{refusal_at}
 use Rattle.view_model.specs.PlainTree.{PlainView, view_in, with_text}
 use Rattle.view_model.specs.Refusals.{PlainRefusal, refusal_numbered, plain_refusal}
-use Rattle.view_model.specs.declared.refusals.TheConstants.{NO_VIEW, WRONG_CLASS}
+use Rattle.view_model.specs.Numbers.{no_view, wrong_class}
 use Rattle.view_world.specs.world.World as plain
 use Rattle.view_world.specs.world.World.{World}
 use Rattle.view_tree.specs.Rows.{Row, first_key}
@@ -61,8 +61,8 @@ unless-unlaid scene number act None =
 unless-unlaid scene number act (Some refusal) = refl
 
 taken-unlaid : (b : Bool) (scene : EditScene) (number : ℕ) (act : Act)
-    → (let o : Outcome = if b then outcome_unless (unlaid scene) number act (cycle_of_act scene.tree number act) else Err (refusal_numbered WRONG_CLASS) in o)
-    ≡ unlaid_outcome (if b then outcome_unless scene number act (cycle_of_act scene.tree number act) else Err (refusal_numbered WRONG_CLASS))
+    → (let o : Outcome = if b then outcome_unless (unlaid scene) number act (cycle_of_act scene.tree number act) else Err (refusal_numbered wrong_class) in o)
+    ≡ unlaid_outcome (if b then outcome_unless scene number act (cycle_of_act scene.tree number act) else Err (refusal_numbered wrong_class))
 taken-unlaid true scene number act = unless-unlaid scene number act (cycle_of_act scene.tree number act)
 taken-unlaid false scene number act = refl
 
@@ -71,8 +71,8 @@ done-unlaid scene number act None = refl
 done-unlaid scene number act (Some view) = taken-unlaid (takes view.class act) scene number act
 
 texted-unlaid : (b : Bool) (scene : EditScene) (number : ℕ) (text : List ℕ)
-    → (let o : Outcome = if b then Ok (record (unlaid scene) { tree = with_text number text scene.tree }, None) else Err (refusal_numbered WRONG_CLASS) in o)
-    ≡ unlaid_outcome (if b then Ok (record scene { tree = with_text number text scene.tree }, None) else Err (refusal_numbered WRONG_CLASS))
+    → (let o : Outcome = if b then Ok (record (unlaid scene) { tree = with_text number text scene.tree }, None) else Err (refusal_numbered wrong_class) in o)
+    ≡ unlaid_outcome (if b then Ok (record scene { tree = with_text number text scene.tree }, None) else Err (refusal_numbered wrong_class))
 texted-unlaid true scene number text = refl
 texted-unlaid false scene number text = refl
 
@@ -207,9 +207,9 @@ Changed-bounds rest tree now stage root asked name view same settled er some en 
 -- the bounds of a view that is not there are asked for
 pub Changed-no-bounds : (rest : KeyedScreen) (tree : Views) (now : KeyedScreen) (stage : Stage) (root : Option ℕ) (asked : Option Name) (name : Name)
     → at_stage rest tree stage ≡ now → stage ≡ Settled → root ≡ first_key tree.tree → is_some root ≡ true → asked ≡ Some name → named (plain_of tree) name ≡ None
-    → bounds_asked (world_of now) (window_of now) (plain_of now.views) (stage_of now.stage) asked ≡ Refused (refusal_numbered NO_VIEW)
+    → bounds_asked (world_of now) (window_of now) (plain_of now.views) (stage_of now.stage) asked ≡ Refused (refusal_numbered no_view)
 Changed-no-bounds rest tree now stage root asked name same settled er some en absent =
-    let P : KeyedScreen → Option Name → Type 0 = λ now asked. bounds_asked (world_of now) (window_of now) (plain_of now.views) (stage_of now.stage) asked ≡ Refused (refusal_numbered NO_VIEW) in
+    let P : KeyedScreen → Option Name → Type 0 = λ now asked. bounds_asked (world_of now) (window_of now) (plain_of now.views) (stage_of now.stage) asked ≡ Refused (refusal_numbered no_view) in
     let world = world_of (at_stage rest tree Settled) in
     let reported : P (at_stage rest tree Settled) (Some name) =
     bounds-some world (Some (size_of rest.surface)) tree.tree (held_of tree) root (Some name) refl er some

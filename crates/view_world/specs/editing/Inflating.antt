@@ -14,14 +14,13 @@ use Rattle.view_model.specs.PlainTree.{PlainView}
 use Rattle.view_model.specs.Refusals.{◌>>=◌, PlainRefusal, AtPlace, refusal_numbered}
 use Rattle.view_model.specs.Resources.{Entries}
 use Rattle.view_world.specs.world.World.{World}
-use Rattle.view_model.specs.declared.limits.TheConstants.{MAX_FILE}
-use Rattle.view_model.specs.declared.refusals.TheConstants.{HAS_ROOT, LONG_FILE, MISSING_FILE, NO_ROOT, NO_VIEW}
+use Rattle.view_model.specs.Numbers.{has_root, long_file, max_file, missing_file, no_root, no_view}
 use Rattle.view_world.specs.editing.Naming.{named}
 
 -- the bytes of a file, if there is one and it is not too long
 abbrev pub bytes_in : Option (List ℕ) → Result (List ℕ) PlainRefusal
-bytes_in None = Err (refusal_numbered MISSING_FILE)
-bytes_in (Some bytes) = if nat_lt MAX_FILE (length bytes) then Err (refusal_numbered LONG_FILE) else Ok bytes
+bytes_in None = Err (refusal_numbered missing_file)
+bytes_in (Some bytes) = if nat_lt max_file (length bytes) then Err (refusal_numbered long_file) else Ok bytes
 
 -- a fault is reported with its place
 abbrev pub fault_refusal : Fault → PlainRefusal
@@ -41,14 +40,14 @@ views_of files name resources dpi = bytes_in (file_of files name) >>= λ bytes. 
 
 -- the view that a name means, if there is one
 abbrev pub place_named : Option ℕ → Result (Option ℕ) PlainRefusal
-place_named None = Err (refusal_numbered NO_VIEW)
+place_named None = Err (refusal_numbered no_view)
 place_named (Some number) = Ok (Some number)
 
 -- the view below which the tree of a file goes, none if it goes as the root; or why it goes nowhere
 abbrev pub place_in : Forest PlainView → Option Name → Result (Option ℕ) PlainRefusal
 place_in Nothing None = Ok None
-place_in Nothing (Some name) = Err (refusal_numbered NO_ROOT)
-place_in (Branch root below after) None = Err (refusal_numbered HAS_ROOT)
+place_in Nothing (Some name) = Err (refusal_numbered no_root)
+place_in (Branch root below after) None = Err (refusal_numbered has_root)
 place_in (Branch root below after) (Some name) = place_named (named (Branch root below after) name)
 
 -- the file of an `inflate` line, and where its tree goes

@@ -1,5 +1,6 @@
 -- At which views lines request layout, and what they leave with all others.
-use Rattle.std.specs.Prelude.{◌≡◌, ℕ, Bool, true, false, if◌then◌else◌, is_some, List, [], ◌∷◌, ◌++◌, map, Option, Some, None, Result, Ok, Err}
+use Rattle.std.specs.Prelude.{◌≡◌, ℕ, Bool, true, false, if◌then◌else◌, is_some, List, [], ◌∷◌, ◌++◌, map, Option, Some}
+use Rattle.std.specs.Prelude.{None, Result, Ok, Err}
 use Rattle.std.specs.Option.{option_map}
 use Rattle.saved_state.specs.Restoring.{given}
 use Rattle.saved_state.specs.State.{StateEntry, decoded}
@@ -33,7 +34,8 @@ parent_listed (Some number) tree = listed (parent_of number tree)
 -- the numbers of those of these views whose offset or text a state sets
 abbrev pub given_numbers : List StateEntry → List PlainView → List ℕ
 given_numbers entries [] = []
-given_numbers entries (view ∷ views) = if is_some (given entries view) then view.number ∷ given_numbers entries views else given_numbers entries views
+given_numbers entries (view ∷ views) =
+    if is_some (given entries view) then view.number ∷ given_numbers entries views else given_numbers entries views
 
 -- the same by what was read of a state
 abbrev pub set_numbers : Result (List StateEntry) ℕ → Forest PlainView → List ℕ
@@ -50,7 +52,8 @@ abbrev pub turned_by_act : Forest PlainView → Option ℕ → Act → List ℕ
 turned_by_act tree None act = []
 turned_by_act tree (Some number) act =
     if turns act
-    then map (λ (view : PlainView). view.number) (turned (λ (view : PlainView). view.facts) false (with_facts number (facts_after_act act) tree))
+    then map (λ (view : PlainView). view.number)
+    (turned (λ (view : PlainView). view.facts) false (with_facts number (facts_after_act act) tree))
     else []
 
 -- the view of an act, if layout may be another one after it, and each that runs another way then
@@ -94,12 +97,14 @@ gone_views world line = []
 -- whether a view is one of these, or around one of them
 abbrev pub is_on_paths : List ℕ → Forest PlainView → ℕ → Bool
 is_on_paths [] tree number = false
-is_on_paths (asked ∷ more) tree number = if is_among number (asked ∷ ancestors_of asked tree) then true else is_on_paths more tree number
+is_on_paths (asked ∷ more) tree number =
+    if is_among number (asked ∷ ancestors_of asked tree) then true else is_on_paths more tree number
 
 -- whether a view is one of these, or below one of them
 abbrev pub is_in_parts : List ℕ → Forest PlainView → ℕ → Bool
 is_in_parts [] tree number = false
-is_in_parts (gone ∷ more) tree number = if is_among number (numbers_of (part_of gone tree)) then true else is_in_parts more tree number
+is_in_parts (gone ∷ more) tree number =
+    if is_among number (numbers_of (part_of gone tree)) then true else is_in_parts more tree number
 
 -- whether layout was requested at a view or below it, or the view was taken out of layout
 abbrev pub is_excused : List ℕ → List ℕ → Forest PlainView → ℕ → Bool

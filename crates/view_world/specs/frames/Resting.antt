@@ -47,7 +47,8 @@ seen_on screen number = visible_rect (plain_of screen.views) (geometry_of screen
 
 -- what is seen of some views, on one screen and on another, is within a rectangle
 abbrev pub AreSeenIn : Rect → List ℕ → KeyedScreen → KeyedScreen → Type 0
-AreSeenIn box numbers old new = (number : ℕ) → is_among number numbers ≡ true → LiesIn (seen_on old number) box × LiesIn (seen_on new number) box
+AreSeenIn box numbers old new =
+    (number : ℕ) → is_among number numbers ≡ true → LiesIn (seen_on old number) box × LiesIn (seen_on new number) box
 
 -- A line that is no frame measures nothing; if it requests no layout, what rested still does; it leaves all views
 -- except those that it has a reason to lay out; unless it opens a window, it damages the picture only where the views
@@ -56,7 +57,8 @@ pub record KeepsBut (effect : Effect) (asked gone changed : List ℕ) (old new :
   pub measures : new.views.counts.measures ≡ old.views.counts.measures
   pub rests : leaves_layout effect ≡ true → IsResting old → IsResting new
   pub leaves : LeavesBut asked gone (plain_of old.views) old.views new.views
-  pub within : effect ≢ Opens → (box : Rect) → LiesIn old.damage box → AreSeenIn box changed old new → LiesIn new.damage box
+  pub within : effect ≢ Opens → (box : Rect) → LiesIn old.damage box → AreSeenIn box changed old new
+      → LiesIn new.damage box
   pub scrolled : effect ≡ Touches → scrolled_in new.reported ≡ changed
   -- only a window takes another picture, a black one
   pub stage : effect ≢ Opens → new.stage ≡ old.stage
@@ -65,11 +67,15 @@ pub record KeepsBut (effect : Effect) (asked gone changed : List ℕ) (old new :
 
 -- the same of a line
 abbrev pub KeepsLine : PlainCommand → KeyedScreen → KeyedScreen → Type 0
-KeepsLine line old new = KeepsBut (effect_of line) (asked_views (world_of old) line) (gone_views (world_of old) line) (changed_views (world_of old) line) old new
+KeepsLine line old new =
+    KeepsBut (effect_of line) (asked_views (world_of old) line) (gone_views (world_of old) line)
+    (changed_views (world_of old) line) old new
 
 -- and of an edit
 abbrev pub KeepsEdit : Edit → KeyedScreen → KeyedScreen → Type 0
-KeepsEdit edit old new = KeepsBut (effect_of_edit edit) (numbers_asked old.views edit) (numbers_gone old.views edit) (numbers_edited old.views edit) old new
+KeepsEdit edit old new =
+    KeepsBut (effect_of_edit edit) (numbers_asked old.views edit) (numbers_gone old.views edit)
+    (numbers_edited old.views edit) old new
 
 -- nothing changes except the density, the resources, the gesture, the pointers, or what is kept for replies
 pub record IsIdle (old new : KeyedScreen) : Type 0 where
@@ -92,8 +98,10 @@ pub record LaysOut (old new : KeyedScreen) (window : Size) : Type 0 where
   pub once : (frame_of (plain_of old.views) old.hooks window).fired ≡ 0
       → new.views.counts.laid ≤ old.views.counts.laid + differ (held_of old.views) (held_of new.views) old.views.tree
   pub twice : new.views.counts.laid ≤ old.views.counts.laid + 2 * count_of old.views.tree
-  pub caches : (key : ℕ) → IsLive old.views key → IsUnedited old.views.tree (frame_edits (plain_of old.views) old.hooks window) key
-      → Grew (IsMeasuredByFrame (plain_of old.views) old.hooks window (number_of old.views key)) (cache_of old.views key) (cache_of new.views key)
+  pub caches : (key : ℕ) → IsLive old.views key
+      → IsUnedited old.views.tree (frame_edits (plain_of old.views) old.hooks window) key
+      → Grew (IsMeasuredByFrame (plain_of old.views) old.hooks window (number_of old.views key))
+      (cache_of old.views key) (cache_of new.views key)
 
 -- what is seen, on one screen and on another, of the views that have other bounds there or another offset is within a
 -- rectangle
@@ -105,8 +113,10 @@ MovedIn box old new = AreSeenIn box (moved_views (world_of old) (world_of new)) 
 -- unless a count is at the greatest number. A frame that has not settled leaves the picture.
 pub record FramePaints (old new : KeyedScreen) (before after : Work) : Type 0 where
   pub least : min (before.painted + differing old.surface.pixels new.surface.pixels) (2 ^ 64 - 1) ≤ after.painted
-  pub most : old.stage ≡ Settled → new.stage ≡ Settled → (window : Size) → window_of old ≡ Some window → (frame_of (plain_of old.views) old.hooks window).fired ≡ 0
-      → (box : Rect) → LiesIn old.damage box → MovedIn box old new → after.painted ≤ before.painted + (2 * count_of old.views.tree + 1) * rect_area box
+  pub most : old.stage ≡ Settled → new.stage ≡ Settled → (window : Size) → window_of old ≡ Some window
+      → (frame_of (plain_of old.views) old.hooks window).fired ≡ 0
+      → (box : Rect) → LiesIn old.damage box → MovedIn box old new
+      → after.painted ≤ before.painted + (2 * count_of old.views.tree + 1) * rect_area box
   pub filled : FillsAlike old.surface.filled new.surface.filled before.painted after.painted
   pub unsettled : new.stage ≢ Settled → (new.surface ≡ old.surface) × (after.painted ≡ before.painted)
 

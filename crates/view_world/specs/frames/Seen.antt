@@ -1,5 +1,6 @@
 -- Which views a line changes, so that they may be seen otherwise after it, and where they are seen.
-use Rattle.std.specs.Prelude.{ℕ, Bool, true, false, ◌||◌, ◌&&◌, not, if◌then◌else◌, List, [], ◌∷◌, ◌++◌, filter, Option, Some, None}
+use Rattle.std.specs.Prelude.{ℕ, Bool, true, false, ◌||◌, ◌&&◌, not, if◌then◌else◌, List, [], ◌∷◌, ◌++◌, filter, Option}
+use Rattle.std.specs.Prelude.{Some, None}
 use Rattle.std.specs.List.{list_any}
 use Rattle.std.specs.Ordering.{int_eq}
 use Rattle.geom_core.specs.Rects.{hull_of}
@@ -93,8 +94,10 @@ line_deliveries world (command.Down p x y) =
     let point : Point = record { id = p; x = x; y = y } in
     deliveries_of world (event_of (down_action world.pointers) p (with_point point world.pointers))
 line_deliveries world (command.Move p x y) =
-    let point : Point = record { id = p; x = x; y = y } in deliveries_of world (event_of Moved p (with_point point world.pointers))
-line_deliveries world (command.Up p) = deliveries_of world (event_of (up_action (without_point p world.pointers)) p world.pointers)
+    let point : Point = record { id = p; x = x; y = y } in deliveries_of world
+    (event_of Moved p (with_point point world.pointers))
+line_deliveries world (command.Up p) =
+    deliveries_of world (event_of (up_action (without_point p world.pointers)) p world.pointers)
 line_deliveries world command.Cancel = deliveries_of world (event_of Cancelled 0 [])
 line_deliveries world line = []
 
@@ -116,7 +119,9 @@ changed_views world command.Cancel = scrolled_in (line_deliveries world command.
 changed_views world line = edited_views world line
 
 abbrev pub same_rect : Rect → Rect → Bool
-same_rect one other = int_eq one.left other.left && int_eq one.top other.top && int_eq one.right other.right && int_eq one.bottom other.bottom
+same_rect one other =
+    int_eq one.left other.left && int_eq one.top other.top && int_eq one.right other.right
+    && int_eq one.bottom other.bottom
 
 -- whether two places of a view differ
 abbrev pub place_differs : Option Rect → Option Rect → Bool
@@ -128,7 +133,8 @@ place_differs (Some before) (Some after) = not (same_rect before after)
 -- whether the view of this number has other bounds after a line, or another offset
 abbrev pub has_moved : World → World → ℕ → Bool
 has_moved before after number =
-    place_differs (rect_in before.geometry number) (rect_in after.geometry number) || not (int_eq (offsets_in before.tree number) (offsets_in after.tree number))
+    place_differs (rect_in before.geometry number) (rect_in after.geometry number)
+    || not (int_eq (offsets_in before.tree number) (offsets_in after.tree number))
 
 -- the views that do
 abbrev pub moved_views : World → World → List ℕ
@@ -150,7 +156,8 @@ black_picture (Some window) = (black_raster window).pixels
 -- the smallest rectangle around what is seen of some views in one world and in another
 abbrev pub box_around : World → World → List ℕ → Rect
 box_around before after [] = no_rect
-box_around before after (number ∷ numbers) = hull_of (hull_of (seen before number) (seen after number)) (box_around before after numbers)
+box_around before after (number ∷ numbers) =
+    hull_of (hull_of (seen before number) (seen after number)) (box_around before after numbers)
 
 -- the box of a line: around what is seen, before and after it, of the views that it changes
 abbrev pub line_box : World → PlainCommand → World → Rect

@@ -1,5 +1,6 @@
 -- The work of frames: what is known besides a world from line to line, and how much a line measures and paints.
-use Rattle.std.specs.Prelude.{◌≡◌, ℕ, ◌+◌, ◌*◌, ◌-◌, ◌^◌, ◌≤◌, ◌==◌, Bool, true, ◌&&◌, ◌||◌, not, min, if◌then◌else◌, List, Option, Some, None}
+use Rattle.std.specs.Prelude.{◌≡◌, ℕ, ◌+◌, ◌*◌, ◌-◌, ◌^◌, ◌≤◌, ◌==◌, Bool, true, ◌&&◌, ◌||◌, not, min, if◌then◌else◌}
+use Rattle.std.specs.Prelude.{List, Option, Some, None}
 use Rattle.damage_rect.specs.Within.{LiesIn}
 use Rattle.damage_rect.specs.Areas.{rect_area}
 use Rattle.geom_core.specs.Rects.{hull_of}
@@ -53,7 +54,8 @@ watched_after watched line after = record {
 
 -- what contracts see of a world of the code, with a box
 abbrev pub watched_in : KeyedWorld → Rect → Watched
-watched_in world box = record { world = world_of world; marks = world.marks; box = box; shown = world.screen.surface.pixels }
+watched_in world box =
+    record { world = world_of world; marks = world.marks; box = box; shown = world.screen.surface.pixels }
 
 -- the damage of a world is in a box, if it has one
 abbrev pub HasBox : KeyedWorld → Rect → Type 0
@@ -83,22 +85,29 @@ layers world = 2 * count_of world.tree + 1
 
 -- the box of the lines since the last frame and of a frame itself
 abbrev pub frame_box : Watched → Size → Framed → Rect
-frame_box watched window frame = hull_of watched.box (line_box watched.world command.Frame (with_frame watched.world window frame))
+frame_box watched window frame =
+    hull_of watched.box (line_box watched.world command.Frame (with_frame watched.world window frame))
 
 -- how many points a frame paints at most: those of the box, or of the window if no box is known or a hook fired
 abbrev pub points_most : Watched → Size → Framed → ℕ
 points_most watched window frame =
-    if watched.marks.based && (frame.fired == 0) then rect_area (frame_box watched window frame) else area_of (Some window)
+    if watched.marks.based && (frame.fired == 0) then rect_area (frame_box watched window frame)
+    else area_of (Some window)
 
 -- how many pixels a frame paints at most: none if it is idle or does not settle
 unfoldable pub painted_most : Watched → Size → Framed → ℕ
-painted_most watched window frame = if watched.marks.idle || not frame.settled then 0 else layers watched.world * points_most watched window frame
+painted_most watched window frame =
+    if watched.marks.idle || not frame.settled then 0 else layers watched.world * points_most watched window frame
 
 abbrev pub costs_of_frame : Watched → Option Size → LineCosts
 costs_of_frame watched None = no_costs
 costs_of_frame watched (Some window) =
     let frame = frame_of watched.world.tree watched.world.hooks window in
-    record { measured = measure_bound watched.world watched.marks; least = painted_least watched.shown window frame; most = painted_most watched window frame }
+    record {
+      measured = measure_bound watched.world watched.marks;
+      least = painted_least watched.shown window frame;
+      most = painted_most watched window frame;
+    }
 
 -- what a line costs that was carried out: only a frame costs anything
 abbrev pub costs_of : Watched → PlainCommand → LineCosts

@@ -10,7 +10,8 @@ use Rattle.view_world.specs.world.Carried.{IsDone}
 
 -- Only a frame that is carried out counts anything, and it counts nothing where the picture is that of the tree.
 -- A frame is counted by what it lays out and paints; any other line keeps what it has no reason to change.
-pub record WorksOn (before after : KeyedScreen) (said : PlainCommand) (result : Result (Unit {0}) StepFault) (old new : Work) : Type 0 where
+pub record WorksOn (before after : KeyedScreen) (said : PlainCommand) (result : Result (Unit {0}) StepFault)
+    (old new : Work) : Type 0 where
   pub work : said ≢ Frame → new ≡ old
   pub idle : IsDone result ⊎ (new ≡ old)
   pub still : said ≡ Frame → IsShown before → new ≡ old

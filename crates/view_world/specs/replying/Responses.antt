@@ -1,5 +1,6 @@
 -- What is printed for a line that was carried out.
-use Rattle.std.specs.Prelude.{◌≢◌, Bool, true, false, List, [], ◌∷◌, ℕ, ◌+◌, ◌<◌, ◌≤◌, ◌^◌, ℤ, unsigned_abs, Option, Some, None, Result, Ok, Err}
+use Rattle.std.specs.Prelude.{◌≢◌, Bool, true, false, List, [], ◌∷◌, ℕ, ◌+◌, ◌<◌, ◌≤◌, ◌^◌, ℤ, unsigned_abs, Option}
+use Rattle.std.specs.Prelude.{Some, None, Result, Ok, Err}
 use Rattle.geom_core.specs.declared.color.Argb.{Argb}
 use Rattle.pixel_raster.specs.Bytes.{digest_of}
 use Rattle.pixel_raster.specs.Raster.{Raster, color_at}
@@ -14,12 +15,14 @@ use Rattle.view_world.specs.declared.replying.response.Response.{Response}
 use Rattle.view_world.specs.declared.replying.response.Response.TheVariants as response
 use Rattle.view_world.specs.replying.Deliveries.{done_text, entries_text}
 use Rattle.view_world.specs.Faults.{step_fault_of}
-use Rattle.view_world.specs.replying.Replies.{added_text, digest_text, framed_text, inflated_text, pixels_text, state_text}
+use Rattle.view_world.specs.replying.Replies.{added_text, digest_text, framed_text, inflated_text, pixels_text}
+use Rattle.view_world.specs.replying.Replies.{state_text}
 use Rattle.view_world.specs.world.Step.{bounds_of, bounds_text}
 
 -- the part that a line asks for
 abbrev pub part_of : ℤ → ℤ → ℤ → ℤ → Part
-part_of x y w h = record { left = unsigned_abs x; top = unsigned_abs y; width = unsigned_abs w; height = unsigned_abs h }
+part_of x y w h =
+    record { left = unsigned_abs x; top = unsigned_abs y; width = unsigned_abs w; height = unsigned_abs h }
 
 -- a part of a picture lies in it
 pub record IsPartOf (surface : Raster) (part : Part) : Type 0 where
@@ -45,8 +48,10 @@ response_text views surface reported saved (response.Made number) = added_text n
 response_text views surface reported saved (response.Inflated first last ignored) = inflated_text first last ignored
 response_text views surface reported saved (response.Framed settled fired) = framed_text settled fired
 response_text views surface reported saved (response.Bounds None) = bounds_text (geometry_of views) (plain_of views)
-response_text views surface reported saved (response.Bounds (Some view)) = bounds_of (geometry_of views) (view_at views view)
-response_text views surface reported saved (response.Pixels part) = pixels_text (color_of surface part) part.width part.height
+response_text views surface reported saved (response.Bounds (Some view)) =
+    bounds_of (geometry_of views) (view_at views view)
+response_text views surface reported saved (response.Pixels part) =
+    pixels_text (color_of surface part) part.width part.height
 response_text views surface reported saved (response.Deliveries said) = deliveries_text reported said
 response_text views surface reported saved response.Digest = digest_text (digest_of surface.pixels)
 response_text views surface reported saved response.State = state_text saved

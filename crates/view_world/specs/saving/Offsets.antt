@@ -6,7 +6,7 @@ use Rattle.view_model.specs.Forest.{Forest, EveryRow}
 use Rattle.view_model.specs.Sprouts.{Seed}
 use Rattle.view_model.specs.declared.changes.Act.{Act}
 use Rattle.view_model.specs.declared.changes.Act.TheVariants as act
-use Rattle.view_model.specs.declared.limits.TheConstants.{MAX_SIZE}
+use Rattle.view_model.specs.Numbers.{max_size}
 
 -- an act that scrolls a view scrolls it within the limits of sizes
 abbrev pub ScrollsWithin : Act → Type 0
@@ -21,7 +21,7 @@ ScrollsWithin (act.Id id) = Unit {0}
 ScrollsWithin (act.Rule verb value) = Unit {0}
 ScrollsWithin (act.Answer answer) = Unit {0}
 ScrollsWithin (act.Intercept actions) = Unit {0}
-ScrollsWithin (act.Scroll offset) = (pos 0 ≤ℤ offset) × (offset ≤ℤ MAX_SIZE)
+ScrollsWithin (act.Scroll offset) = (pos 0 ≤ℤ offset) × (offset ≤ℤ max_size)
 
 -- so does an edit
 abbrev pub EditsWithin : Edit → Type 0

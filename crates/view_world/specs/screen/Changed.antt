@@ -21,7 +21,9 @@ use Rattle.view_world.specs.declared.screen.stage.Stage.TheVariants.{Settled}
 -- Done: the world is the reply's, and the response has its text. Refused: as the reply says. If there was no memory,
 -- nothing is stated of the reply. No call on a sink or a shelf is made.
 abbrev pub CarriesOut : Reply → KeyedScreen → Result Response StepFault → Type 0
-CarriesOut reply new (Ok response) = (reply ≡ Done (world_of new) (response_text new.views new.surface new.reported new.saved response)) × IsReportable new.views new.surface new.reported new.saved response
+CarriesOut reply new (Ok response) =
+    (reply ≡ Done (world_of new) (response_text new.views new.surface new.reported new.saved response))
+    × IsReportable new.views new.surface new.reported new.saved response
 CarriesOut reply new (Err (fault.Refused refusal)) = reply ≡ Refused (plain_refusal refusal)
 CarriesOut reply new (Err fault.NoMemory) = Unit {0}
 CarriesOut reply new (Err fault.Sink) = ⊥
@@ -35,7 +37,8 @@ Inflates reply new (Err fault.NoMemory) = Unit {0}
 Inflates reply new (Err fault.Sink) = ⊥
 Inflates reply new (Err fault.Shelf) = Unit {0}
 
--- A step of a line gives what is defined, or its refusal is that of the line. There may be no memory, and a shelf may have failed.
+-- A step of a line gives what is defined, or its refusal is that of the line. There may be no memory, and a shelf may
+-- have failed.
 abbrev pub Gives : {A B : Type 0} → (A → B → Type 0) → Result A PlainRefusal → Result B StepFault → Type 0
 Gives {A} represents defined (Ok value) = (a : A) × (defined ≡ Ok a) × represents a value
 Gives represents defined (Err (fault.Refused refusal)) = defined ≡ Err (plain_refusal refusal)
@@ -55,7 +58,9 @@ IsPlace views place (Some key) = IsLive views key × (place ≡ Some (number_of 
 -- The size of the window whose picture a line asks for, and whose last frame has settled; or why there is no picture.
 abbrev pub Pictured : KeyedScreen → Result Size StepFault → Type 0
 Pictured world (Ok window) = (world.stage ≡ Settled) × (window ≡ size_of world.surface)
-Pictured world (Err (fault.Refused refusal)) = (next : Size → Reply) → picture_asked (window_of world) (stage_of world.stage) next ≡ Refused (plain_refusal refusal)
+Pictured world (Err (fault.Refused refusal)) =
+    (next : Size → Reply)
+    → picture_asked (window_of world) (stage_of world.stage) next ≡ Refused (plain_refusal refusal)
 Pictured world (Err fault.NoMemory) = ⊥
 Pictured world (Err fault.Sink) = ⊥
 Pictured world (Err fault.Shelf) = ⊥
@@ -64,15 +69,18 @@ Pictured world (Err fault.Shelf) = ⊥
 -- reply is the reason why they cannot.
 abbrev pub IsTouchable : KeyedScreen → Result (Unit {0}) StepFault → Type 0
 IsTouchable world (Ok _) = (world.stage ≡ Settled) × ((next : Reply) → touched (world_of world) next ≡ next)
-IsTouchable world (Err (fault.Refused refusal)) = (next : Reply) → touched (world_of world) next ≡ Refused (plain_refusal refusal)
+IsTouchable world (Err (fault.Refused refusal)) =
+    (next : Reply) → touched (world_of world) next ≡ Refused (plain_refusal refusal)
 IsTouchable world (Err fault.NoMemory) = ⊥
 IsTouchable world (Err fault.Sink) = ⊥
 IsTouchable world (Err fault.Shelf) = ⊥
 
 -- the key of the view that a line names: whatever is done with that view is the reply; or why there is none
 abbrev pub Resolved : Views → Name → Result ℕ StepFault → Type 0
-Resolved views name (Ok key) = IsLive views key × ((next : ℕ → Reply) → on_view (plain_of views) name next ≡ next (number_of views key))
-Resolved views name (Err (fault.Refused refusal)) = (next : ℕ → Reply) → on_view (plain_of views) name next ≡ Refused (plain_refusal refusal)
+Resolved views name (Ok key) =
+    IsLive views key × ((next : ℕ → Reply) → on_view (plain_of views) name next ≡ next (number_of views key))
+Resolved views name (Err (fault.Refused refusal)) =
+    (next : ℕ → Reply) → on_view (plain_of views) name next ≡ Refused (plain_refusal refusal)
 Resolved views name (Err fault.NoMemory) = ⊥
 Resolved views name (Err fault.Sink) = ⊥
 Resolved views name (Err fault.Shelf) = ⊥

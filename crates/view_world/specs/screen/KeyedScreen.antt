@@ -21,7 +21,7 @@ use Rattle.view_model.specs.Geometry.{Laid}
 use Rattle.view_model.specs.Resources.{Entries}
 use Rattle.view_model.specs.Visible.{no_rect}
 use Rattle.view_world.specs.world.World as plain
-use Rattle.view_model.specs.declared.limits.TheConstants.{NORMAL_DPI}
+use Rattle.view_model.specs.Numbers.{normal_dpi}
 use Rattle.res_values.specs.contracts.resources.Resources.{the_row as resources_row}
 use Rattle.view_tree.specs.Codes.{views_code}
 use Rattle.view_tree.specs.Views.{Views, geometry_of, no_views, plain_of}
@@ -50,10 +50,18 @@ pub record KeyedScreen : Type 0 where
 
 abbrev pub screen_code : Coded KeyedScreen
 screen_code =
-    code_by ((((Views × (Stage × (Raster × Rect))) × (ℕ × Entries)) × (Kept × (List Point × List Entry))) × ((List Hook × List StateEntry) × List ℕ))
-    (coded× (coded× (coded× (coded× views_code (coded× stage_row.coded (coded× surface_row.coded rect_row.coded))) (coded× coded_ℕ resources_row.coded))
-    (coded× kept_code (coded× (coded_list point_row.coded) (coded_list entry_row.coded)))) (coded× (coded× hooks_code states_row.coded) (coded_list coded_ℕ)))
-    (λ w. ((((w.views, (w.stage, (w.surface, w.damage))), (w.dpi, w.resources)), (w.gesture, (w.pointers, w.reported))), ((w.hooks, w.kept), w.saved)))
+    code_by
+    ((((Views × (Stage × (Raster × Rect))) × (ℕ × Entries)) × (Kept × (List Point × List Entry)))
+    × ((List Hook × List StateEntry) × List ℕ))
+    (coded×
+    (coded× (coded× (coded× views_code (coded× stage_row.coded (coded× surface_row.coded rect_row.coded)))
+    (coded× coded_ℕ resources_row.coded))
+    (coded× kept_code (coded× (coded_list point_row.coded) (coded_list entry_row.coded))))
+    (coded× (coded× hooks_code states_row.coded) (coded_list coded_ℕ)))
+    (λ w. (
+      (((w.views, (w.stage, (w.surface, w.damage))), (w.dpi, w.resources)), (w.gesture, (w.pointers, w.reported))),
+      ((w.hooks, w.kept), w.saved),
+    ))
     (λ p. record {
       views = p.0.0.0.0;
       stage = p.0.0.0.1.0;
@@ -128,7 +136,7 @@ new_screen = record {
   stage = NoWindow;
   surface = empty_raster;
   damage = no_rect;
-  dpi = NORMAL_DPI;
+  dpi = normal_dpi;
   resources = [];
   gesture = nothing_kept;
   pointers = [];

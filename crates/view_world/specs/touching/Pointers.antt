@@ -6,11 +6,11 @@ use Rattle.touch_event.specs.declared.event.Action.{Action}
 use Rattle.touch_event.specs.declared.event.Action.TheVariants.{Down, Up, PointerDown, PointerUp}
 use Rattle.touch_event.specs.declared.event.Event.{Event}
 use Rattle.touch_event.specs.declared.event.Point.{Point}
-use Rattle.touch_event.specs.declared.event.TheConstants.{MAX_POINTERS}
+use Rattle.touch_event.specs.Numbers.{max_pointers}
 
 -- the points of pointers that may be down: they have ids that a pointer may have, and are in the order of these
 pub record AreDown (points : List Point) : Type 0 where
-  pub ids : All (λ (p : Point). p.id < MAX_POINTERS) points
+  pub ids : All (λ (p : Point). p.id < max_pointers) points
   pub rising : AllPairs (λ (p q : Point). p.id < q.id) points
 
 -- the pointer of this id is down

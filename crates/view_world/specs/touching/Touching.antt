@@ -60,7 +60,9 @@ around_number outer number Nothing = outer
 around_number outer number (Branch view below after) =
     if view.number == number
     then outer
-    else (if has_row (part_of number below) then around_number (view.number ∷ outer) number below else around_number outer number after)
+    else
+    (if has_row (part_of number below) then around_number (view.number ∷ outer) number below
+    else around_number outer number after)
 
 -- the numbers of the ancestors of the view of this number, the nearest first
 abbrev pub ancestors_of : ℕ → Forest PlainView → List ℕ
@@ -109,4 +111,5 @@ all_disallowed on (number ∷ numbers) gesture = all_disallowed on numbers (set_
 
 -- the view of this number and its ancestors
 abbrev pub disallowed : World → ℕ → Bool → World
-disallowed world number on = record world { gesture = all_disallowed on (number ∷ ancestors_of number world.tree) world.gesture }
+disallowed world number on =
+    record world { gesture = all_disallowed on (number ∷ ancestors_of number world.tree) world.gesture }

@@ -32,7 +32,10 @@ pub record IsAsBefore (old new : KeyedWorld) : Type 0 where
 
 -- What a line has written is the text of a response about the screen that it leaves, or a front part of that text if a
 -- call on the sink has failed. So nothing changes any more once the first byte is written, whether all are or not.
-pub record Reports (screen : KeyedScreen) (before after : SinkState) (result : Result (Unit {0}) StepFault) : Type 0 where
-  pub response : Response
-  pub there : IsReportable screen.views screen.surface screen.reported screen.saved response
-  pub written : WritesReply (Done (world_of screen) (response_text screen.views screen.surface screen.reported screen.saved response)) (world_of screen) before after result
+pub record Reports (screen : KeyedScreen) (before after : SinkState) (result : Result (Unit {0}) StepFault) : Type 0
+  where
+    pub response : Response
+    pub there : IsReportable screen.views screen.surface screen.reported screen.saved response
+    pub written : WritesReply
+        (Done (world_of screen) (response_text screen.views screen.surface screen.reported screen.saved response))
+        (world_of screen) before after result

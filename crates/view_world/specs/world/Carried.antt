@@ -20,11 +20,13 @@ use Rattle.view_world.specs.world.Step.{Reply, Done, Refused}
 -- If a call on the sink has failed, the world is the reply's all the same, and before that call a prefix of its text
 -- was written. If there was no memory, or the shelf has failed, nothing is stated of the reply.
 abbrev pub WritesReply : Reply → World → SinkState → SinkState → Result (Unit {0}) StepFault → Type 0
-WritesReply reply new before after (Ok _) = (text : List ℕ) × (reply ≡ Done new text) × Appends before.gone after.gone text × (after.faults ≡ before.faults)
+WritesReply reply new before after (Ok _) =
+    (text : List ℕ) × (reply ≡ Done new text) × Appends before.gone after.gone text × (after.faults ≡ before.faults)
 WritesReply reply new before after (Err (fault.Refused refusal)) = reply ≡ Refused (plain_refusal refusal)
 WritesReply reply new before after (Err fault.NoMemory) = Unit {0}
 WritesReply reply new before after (Err fault.Sink) =
-    (text : List ℕ) × (reply ≡ Done new text) × AppendsPrefix before.gone after.gone text × (after.faults ≡ raised before.faults)
+    (text : List ℕ) × (reply ≡ Done new text) × AppendsPrefix before.gone after.gone text
+    × (after.faults ≡ raised before.faults)
 WritesReply reply new before after (Err fault.Shelf) = Unit {0}
 
 -- the command was carried out, whether its text was written or not
@@ -89,10 +91,11 @@ abbrev pub fetches_after : Option (List ℕ) → Fetches → Fetches
 fetches_after None fetches = fetches
 fetches_after (Some name) fetches = with_fetch fetches (layout_fetch name)
 
--- What a line does to a shelf, if it asks for this file or for none. The shelf is asked once for a file, by its name and
--- with the limit of a layout file, and otherwise it stays; its files stay, and a fetch that failed was one that was asked
--- for.
-pub record AsksShelf {S A : Type 0} (files : S → Option Files) (fetches : S → Fetches) (faults : S → ℕ) (name : Option (List ℕ)) (result : Result A StepFault) (old new : S) : Type 0 where
+-- What a line does to a shelf, if it asks for this file or for none. The shelf is asked once for a file, by its name
+-- and with the limit of a layout file, and otherwise it stays; its files stay, and a fetch that failed was one that was
+-- asked for.
+pub record AsksShelf {S A : Type 0} (files : S → Option Files) (fetches : S → Fetches) (faults : S → ℕ)
+    (name : Option (List ℕ)) (result : Result A StepFault) (old new : S) : Type 0 where
   pub files_stay : files new ≡ files old
   pub unasked : name ≡ None → new ≡ old
   pub fetched : fetches new ≡ fetches_after name (fetches old)

@@ -14,7 +14,8 @@ pub record KeyedWorld : Type 0 where
 
 abbrev pub world_code : Coded KeyedWorld
 world_code =
-    code_by (KeyedScreen × Marks) (coded× screen_code marks_row.coded) (λ w. (w.screen, w.marks)) (λ p. record { screen = p.0; marks = p.1 }) (λ _. refl)
+    code_by (KeyedScreen × Marks) (coded× screen_code marks_row.coded) (λ w. (w.screen, w.marks))
+    (λ p. record { screen = p.0; marks = p.1 }) (λ _. refl)
 
 -- the plain world, which has no marks
 abbrev pub world_of : KeyedWorld → plain.World

@@ -76,12 +76,14 @@ marked Opens marks settled scrolled = no_marks
 marked Lays marks settled scrolled = record { based = settled; quiet = settled; idle = settled }
 marked Asks marks settled scrolled = record { based = marks.based; quiet = false; idle = false }
 marked Repaints marks settled scrolled = record { based = marks.based; quiet = marks.quiet; idle = false }
-marked Touches marks settled scrolled = record { based = marks.based; quiet = marks.quiet; idle = marks.idle && not scrolled }
+marked Touches marks settled scrolled =
+    record { based = marks.based; quiet = marks.quiet; idle = marks.idle && not scrolled }
 marked Leaves marks settled scrolled = marks
 
 -- the marks after a line that was carried out, from what they were and the worlds before and after it
 abbrev pub marks_after : World → PlainCommand → World → Marks → Marks
-marks_after before line after marks = marked (effect_of line) marks (has_settled after.stage) (has_any_scrolled (line_deliveries before line))
+marks_after before line after marks =
+    marked (effect_of line) marks (has_settled after.stage) (has_any_scrolled (line_deliveries before line))
 
 -- how many views a frame of this world measures at most: none if it is quiet
 abbrev pub measure_bound : World → Marks → ℕ

@@ -1,5 +1,6 @@
 -- What a command does to the plain world.
-use Rattle.std.specs.Prelude.{ℕ, ◌+◌, ◌-◌, ◌==◌, ℤ, pos, ◌+ℤ◌, int_le, unsigned_abs, Bool, true, ◌&&◌, not, if◌then◌else◌, List, [], ◌∷◌, length, Option, Some, None, Result, Ok, Err, chars, is_none}
+use Rattle.std.specs.Prelude.{ℕ, ◌+◌, ◌-◌, ◌==◌, ℤ, pos, ◌+ℤ◌, int_le, unsigned_abs, Bool, true, ◌&&◌, not}
+use Rattle.std.specs.Prelude.{if◌then◌else◌, List, [], ◌∷◌, length, Option, Some, None, Result, Ok, Err, chars, is_none}
 use Rattle.std.specs.List.{list_all}
 use Rattle.std.specs.Option.{option_map, option_or, unwrap_or}
 use Rattle.geom_core.specs.declared.color.Argb.{Argb}
@@ -24,7 +25,8 @@ use Rattle.touch_event.specs.declared.event.Action.TheVariants.{Move as Moved, C
 use Rattle.touch_event.specs.declared.event.Event.{Event}
 use Rattle.touch_event.specs.declared.event.Point.{Point}
 use Rattle.traversal.specs.Frames.{Framed, after_frame as frame_of}
-use Rattle.tree_edits.specs.Editing.{NumberedEdit, Add, Remove, ActOn, SetText, Outcome, hides, outcome_of_edit, takes_change}
+use Rattle.tree_edits.specs.Editing.{NumberedEdit, Add, Remove, ActOn, SetText, Outcome, hides, outcome_of_edit}
+use Rattle.tree_edits.specs.Editing.{takes_change}
 use Rattle.tree_edits.specs.Scene.{EditScene}
 use Rattle.view_model.specs.declared.changes.Act.{Act}
 use Rattle.view_model.specs.declared.changes.Change.{Change}
@@ -40,8 +42,9 @@ use Rattle.view_model.specs.Growth.{grown_at}
 use Rattle.view_model.specs.Painting.{picture}
 use Rattle.view_model.specs.PlainTree.{PlainView, numbers_of, part_of, view_in}
 use Rattle.view_model.specs.Refusals.{AtPlace, PlainRefusal, refusal_numbered}
-use Rattle.view_model.specs.declared.limits.TheConstants.{MAX_HOOKS}
-use Rattle.view_model.specs.declared.refusals.TheConstants.{BAD_STATE, HAS_ROOT, HOOK_EDIT, LATE_DPI, NO_FRAME, NO_ROOT, NO_VIEW, NO_WINDOW, OUT_OF_RANGE, STATE_CLASS, TOO_MANY_HOOKS, UNSETTLED, WRONG_CLASS, WRONG_POINTER}
+use Rattle.view_model.specs.Numbers.{bad_state, has_root, hook_edit, late_dpi, max_hooks, no_frame, no_root, no_view}
+use Rattle.view_model.specs.Numbers.{no_window, out_of_range, state_class, too_many_hooks, unsettled, wrong_class}
+use Rattle.view_model.specs.Numbers.{wrong_pointer}
 use Rattle.view_model.specs.Resources.{Resource, Color, Dimen, Text, definition_refusal_of, with_resource}
 use Rattle.view_model.specs.Sprouts.{Seed, numbered}
 use Rattle.view_world.specs.world.World.{World, Stage, NoWindow, NoFrame, Unsettled, Settled}
@@ -49,7 +52,8 @@ use Rattle.view_world.specs.replying.Deliveries.{done_text, entries_text}
 use Rattle.view_world.specs.editing.Inflating.{place_in, views_of}
 use Rattle.view_world.specs.editing.Naming.{named}
 use Rattle.view_world.specs.touching.Pointers.{down_action, event_of, is_pressed, up_action, with_point, without_point}
-use Rattle.view_world.specs.replying.Replies.{added_text, bounds_line, digest_text, framed_text, inflated_text, pixels_text, state_bytes, state_text}
+use Rattle.view_world.specs.replying.Replies.{added_text, bounds_line, digest_text, framed_text, inflated_text}
+use Rattle.view_world.specs.replying.Replies.{pixels_text, state_bytes, state_text}
 use Rattle.view_world.specs.touching.Touching.{after_progress, disallowed, leaving, reached_in, without_part}
 
 -- the world after a command and the text that is written, or why the command is refused
@@ -81,17 +85,17 @@ after_edit world edit = after_outcome world (outcome_of_edit (scene_in world) ed
 
 -- what is done with the view that a name means, if there is one
 abbrev pub with_named : Option ℕ → (ℕ → Reply) → Reply
-with_named None next = Refused (refusal_numbered NO_VIEW)
+with_named None next = Refused (refusal_numbered no_view)
 with_named (Some number) next = next number
 
 -- a root is made if there is none
 abbrev pub root_added : World → Forest PlainView → NumberedEdit → Reply
 root_added world Nothing edit = after_edit world edit
-root_added world (Branch root below after) edit = Refused (refusal_numbered HAS_ROOT)
+root_added world (Branch root below after) edit = Refused (refusal_numbered has_root)
 
 -- what is done with a view that a line names
 abbrev pub on_view : Forest PlainView → Name → (ℕ → Reply) → Reply
-on_view Nothing name next = Refused (refusal_numbered NO_ROOT)
+on_view Nothing name next = Refused (refusal_numbered no_root)
 on_view (Branch root below after) name next = with_named (named (Branch root below after) name) next
 
 -- the picture of a window in which the views of a tree have these bounds
@@ -123,9 +127,10 @@ abbrev pub frame_text : Framed → List ℕ
 frame_text frame = framed_text frame.settled frame.fired
 
 abbrev pub framed : World → Option Size → Forest PlainView → Reply
-framed world None tree = Refused (refusal_numbered NO_WINDOW)
-framed world (Some window) Nothing = Refused (refusal_numbered NO_ROOT)
-framed world (Some window) (Branch root below after) = Done (after_frame world window) (frame_text (frame_of world.tree world.hooks window))
+framed world None tree = Refused (refusal_numbered no_window)
+framed world (Some window) Nothing = Refused (refusal_numbered no_root)
+framed world (Some window) (Branch root below after) =
+    Done (after_frame world window) (frame_text (frame_of world.tree world.hooks window))
 
 -- the offset that is printed of a view of this class, if it has one
 abbrev pub printed_offset : Class → ℤ → Option ℤ
@@ -133,12 +138,14 @@ printed_offset class offset = if scrolls class then Some offset else None
 
 -- where a view is
 abbrev pub bounds_of : List Laid → PlainView → List ℕ
-bounds_of geometry view = bounds_line view.number (printed_offset view.class view.facts.offset) (rect_in geometry view.number)
+bounds_of geometry view =
+    bounds_line view.number (printed_offset view.class view.facts.offset) (rect_in geometry view.number)
 
 -- the bounds of each view in preorder
 abbrev pub bounds_text : List Laid → Forest PlainView → List ℕ
 bounds_text geometry Nothing = []
-bounds_text geometry (Branch view below after) = bounds_of geometry view ⧺ bounds_text geometry below ⧺ bounds_text geometry after
+bounds_text geometry (Branch view below after) =
+    bounds_of geometry view ⧺ bounds_text geometry below ⧺ bounds_text geometry after
 
 -- the bounds of a view that was found
 abbrev pub bounds_in : World → Option PlainView → Reply
@@ -148,23 +155,24 @@ bounds_in world (Some view) = Done world (bounds_of world.geometry view)
 -- the bounds of all views, or of the one that is named
 abbrev pub bounds_reported : World → Option Name → Reply
 bounds_reported world None = Done world (bounds_text world.geometry world.tree)
-bounds_reported world (Some name) = with_named (named world.tree name) (λ number. bounds_in world (view_in world.tree number))
+bounds_reported world (Some name) =
+    with_named (named world.tree name) (λ number. bounds_in world (view_in world.tree number))
 
 abbrev pub bounds_asked : World → Option Size → Forest PlainView → Stage → Option Name → Reply
-bounds_asked world None tree stage name = Refused (refusal_numbered NO_WINDOW)
-bounds_asked world (Some window) Nothing stage name = Refused (refusal_numbered NO_ROOT)
-bounds_asked world (Some window) (Branch root below after) NoWindow name = Refused (refusal_numbered NO_FRAME)
-bounds_asked world (Some window) (Branch root below after) NoFrame name = Refused (refusal_numbered NO_FRAME)
-bounds_asked world (Some window) (Branch root below after) Unsettled name = Refused (refusal_numbered UNSETTLED)
+bounds_asked world None tree stage name = Refused (refusal_numbered no_window)
+bounds_asked world (Some window) Nothing stage name = Refused (refusal_numbered no_root)
+bounds_asked world (Some window) (Branch root below after) NoWindow name = Refused (refusal_numbered no_frame)
+bounds_asked world (Some window) (Branch root below after) NoFrame name = Refused (refusal_numbered no_frame)
+bounds_asked world (Some window) (Branch root below after) Unsettled name = Refused (refusal_numbered unsettled)
 bounds_asked world (Some window) (Branch root below after) Settled name = bounds_reported world name
 
 -- what is done with the picture of the last frame, if that has settled; it is that of its window, with a tree or
 -- without
 abbrev pub picture_asked : Option Size → Stage → (Size → Reply) → Reply
-picture_asked None stage next = Refused (refusal_numbered NO_WINDOW)
-picture_asked (Some window) NoWindow next = Refused (refusal_numbered NO_FRAME)
-picture_asked (Some window) NoFrame next = Refused (refusal_numbered NO_FRAME)
-picture_asked (Some window) Unsettled next = Refused (refusal_numbered UNSETTLED)
+picture_asked None stage next = Refused (refusal_numbered no_window)
+picture_asked (Some window) NoWindow next = Refused (refusal_numbered no_frame)
+picture_asked (Some window) NoFrame next = Refused (refusal_numbered no_frame)
+picture_asked (Some window) Unsettled next = Refused (refusal_numbered unsettled)
 picture_asked (Some window) Settled next = next window
 
 -- whether a part of a picture is wholly in its window
@@ -173,19 +181,20 @@ lies_in window x y w h = int_le (x +ℤ w) window.w && int_le (y +ℤ h) window.
 
 -- the colour of a point of a part, of which this is the corner
 abbrev pub color_in : Size → List Argb → ℤ → ℤ → ℕ → ℕ → Argb
-color_in window picture x y column row = pixel_at (unsigned_abs window.w) picture (unsigned_abs x + column) (unsigned_abs y + row)
+color_in window picture x y column row =
+    pixel_at (unsigned_abs window.w) picture (unsigned_abs x + column) (unsigned_abs y + row)
 
 -- the colours of a part of the picture
 abbrev pub pixels_reported : World → ℤ → ℤ → ℤ → ℤ → Size → Reply
 pixels_reported world x y w h window =
     if lies_in window x y w h
     then Done world (pixels_text (color_in window world.picture x y) (unsigned_abs w) (unsigned_abs h))
-    else Refused (refusal_numbered OUT_OF_RANGE)
+    else Refused (refusal_numbered out_of_range)
 
 -- the density of the screen, before there is a root
 abbrev pub dpi_reported : World → ℕ → Forest PlainView → Reply
 dpi_reported world dpi Nothing = Done (record world { dpi = dpi }) []
-dpi_reported world dpi (Branch root below after) = Refused (refusal_numbered LATE_DPI)
+dpi_reported world dpi (Branch root below after) = Refused (refusal_numbered late_dpi)
 
 -- the resource that a line gives
 abbrev pub resource_given : PlainGiven → Resource
@@ -226,11 +235,11 @@ inflation files world name into =
 
 -- what is done with a touch, if the last frame has settled and its tree is there
 abbrev pub touch_asked : Option Size → Forest PlainView → Stage → Reply → Reply
-touch_asked None tree stage next = Refused (refusal_numbered NO_WINDOW)
-touch_asked (Some window) Nothing stage next = Refused (refusal_numbered NO_ROOT)
-touch_asked (Some window) (Branch root below after) NoWindow next = Refused (refusal_numbered NO_FRAME)
-touch_asked (Some window) (Branch root below after) NoFrame next = Refused (refusal_numbered NO_FRAME)
-touch_asked (Some window) (Branch root below after) Unsettled next = Refused (refusal_numbered UNSETTLED)
+touch_asked None tree stage next = Refused (refusal_numbered no_window)
+touch_asked (Some window) Nothing stage next = Refused (refusal_numbered no_root)
+touch_asked (Some window) (Branch root below after) NoWindow next = Refused (refusal_numbered no_frame)
+touch_asked (Some window) (Branch root below after) NoFrame next = Refused (refusal_numbered no_frame)
+touch_asked (Some window) (Branch root below after) Unsettled next = Refused (refusal_numbered unsettled)
 touch_asked (Some window) (Branch root below after) Settled next = next
 
 abbrev pub touched : World → Reply → Reply
@@ -248,7 +257,7 @@ abbrev pub put_down : World → Point → Reply
 put_down world point =
     let pointers = with_point point world.pointers in
     if is_pressed point.id world.pointers
-    then Refused (refusal_numbered WRONG_POINTER)
+    then Refused (refusal_numbered wrong_pointer)
     else after_event world (event_of (down_action world.pointers) point.id pointers) pointers
 
 -- a pointer that is down moves
@@ -257,7 +266,7 @@ moved world point =
     let pointers = with_point point world.pointers in
     if is_pressed point.id world.pointers
     then after_event world (event_of Moved point.id pointers) pointers
-    else Refused (refusal_numbered WRONG_POINTER)
+    else Refused (refusal_numbered wrong_pointer)
 
 -- a pointer that is down goes up: the event still has it
 abbrev pub lifted : World → ℕ → Reply
@@ -265,13 +274,13 @@ lifted world id =
     let others = without_point id world.pointers in
     if is_pressed id world.pointers
     then after_event world (event_of (up_action others) id world.pointers) others
-    else Refused (refusal_numbered WRONG_POINTER)
+    else Refused (refusal_numbered wrong_pointer)
 
 -- all pointers that are down are taken away
 abbrev pub taken_away : World → Reply
 taken_away world =
     if is_nil world.pointers
-    then Refused (refusal_numbered WRONG_POINTER)
+    then Refused (refusal_numbered wrong_pointer)
     else after_event world (event_of Cancelled 0 []) []
 
 -- a reply after another text
@@ -292,7 +301,8 @@ without_hooks number world = record world { hooks = all_disarmed (numbers_of (pa
 abbrev pub removed : World → ℕ → Reply
 removed world number =
     let progress = leaving world number in
-    reported_before (entries_text progress.entries) (after_edit (without_hooks number (without_part number (after_progress world progress))) (Remove number))
+    reported_before (entries_text progress.entries)
+    (after_edit (without_hooks number (without_part number (after_progress world progress))) (Remove number))
 
 -- a view that is hidden by an act gets a cancel first
 abbrev pub acted : World → ℕ → Act → Reply
@@ -308,12 +318,13 @@ disallow_reported world number on None = Done world []
 disallow_reported world number on (Some view) =
     if is_group view.class
     then Done (disallowed world number on) []
-    else Refused (refusal_numbered WRONG_CLASS)
+    else Refused (refusal_numbered wrong_class)
 
 -- a change of a view before other edits, if all their views are there
 abbrev pub before_edits : Change → Option ℕ → Option (List NumEdit) → Option (List NumEdit)
 before_edits change None edits = None
-before_edits change (Some number) edits = option_map (λ (edits : List NumEdit). record { view = number; change = change } ∷ edits) edits
+before_edits change (Some number) edits =
+    option_map (λ (edits : List NumEdit). record { view = number; change = change } ∷ edits) edits
 
 -- the edits of a hook, with the numbers of their views in place of names; or a view is not there
 abbrev pub numbered_edits : Forest PlainView → List Asked → Option (List NumEdit)
@@ -327,47 +338,54 @@ may_change (Some view) change = takes_change view.class change
 
 -- the size of the view of this number, or nothing if it has no bounds
 abbrev pub size_in : List Laid → ℕ → Size
-size_in geometry number = unwrap_or (option_map size_of_rect (rect_in geometry number)) (record { w = pos 0; h = pos 0 })
+size_in geometry number =
+    unwrap_or (option_map size_of_rect (rect_in geometry number)) (record { w = pos 0; h = pos 0 })
 
 -- whether as many hooks are armed as may be, and none of them is this view's
 abbrev pub is_full : List Hook → ℕ → Bool
-is_full hooks number = (length hooks == MAX_HOOKS) && is_none (hook_of hooks number)
+is_full hooks number = (length hooks == max_hooks) && is_none (hook_of hooks number)
 
 -- a hook of the view of this number is armed, in place of one that it has
 abbrev pub hooked : World → ℕ → List NumEdit → Reply
 hooked world number edits =
     if is_full world.hooks number
-    then Refused (refusal_numbered TOO_MANY_HOOKS)
-    else Done (record world { hooks = armed (record { view = number; reported = size_in world.geometry number; edits = edits }) world.hooks }) []
+    then Refused (refusal_numbered too_many_hooks)
+    else Done
+    (record world {
+      hooks = armed
+          (record { view = number; reported = size_in world.geometry number; edits = edits }) world.hooks;
+    })
+    []
 
 -- the same if all edits may be made, and no hook is asked for more
 abbrev pub hook_asked : World → ℕ → Bool → Option (List NumEdit) → Reply
-hook_asked world number bad None = Refused (refusal_numbered NO_VIEW)
+hook_asked world number bad None = Refused (refusal_numbered no_view)
 hook_asked world number bad (Some edits) =
     if not (list_all (λ (edit : NumEdit). may_change (view_in world.tree edit.view) edit.change) edits)
-    then Refused (refusal_numbered WRONG_CLASS)
-    else (if bad then Refused (refusal_numbered HOOK_EDIT) else hooked world number edits)
+    then Refused (refusal_numbered wrong_class)
+    else (if bad then Refused (refusal_numbered hook_edit) else hooked world number edits)
 
 -- the offsets and texts of the present tree are kept, and printed
 abbrev pub saved : World → Forest PlainView → Reply
-saved world Nothing = Refused (refusal_numbered NO_ROOT)
-saved world (Branch root below after) = Done (record world { kept = saved_of world.tree }) (state_text (encoded (saved_of world.tree)))
+saved world Nothing = Refused (refusal_numbered no_root)
+saved world (Branch root below after) =
+    Done (record world { kept = saved_of world.tree }) (state_text (encoded (saved_of world.tree)))
 
 -- the offsets and texts of a state are set
 abbrev pub with_values : World → List StateEntry → Reply
 with_values world entries =
     if is_for_other_class entries (rows world.tree)
-    then Refused (refusal_numbered STATE_CLASS)
+    then Refused (refusal_numbered state_class)
     else Done (record world { tree = restored entries world.tree }) []
 
 -- the state of these bytes, or its first wrong place
 abbrev pub with_state : World → Result (List StateEntry) ℕ → Reply
 with_state world (Ok entries) = with_values world entries
-with_state world (Err place) = Refused (record { number = BAD_STATE; reason = AtPlace place })
+with_state world (Err place) = Refused (record { number = bad_state; reason = AtPlace place })
 
 -- the saved state, or the one of a text, is restored
 abbrev pub taken_up : World → Forest PlainView → Option (List ℕ) → Reply
-taken_up world Nothing text = Refused (refusal_numbered NO_ROOT)
+taken_up world Nothing text = Refused (refusal_numbered no_root)
 taken_up world (Branch root below after) None = with_values world world.kept
 taken_up world (Branch root below after) (Some text) = with_state world (decoded (state_bytes text))
 
@@ -375,14 +393,16 @@ taken_up world (Branch root below after) (Some text) = with_state world (decoded
 abbrev pub step : Files → World → PlainCommand → Reply
 step files world (command.Window w h) = Done (with_window world (record { w = w; h = h })) []
 step files world (command.Dpi dpi) = dpi_reported world dpi world.tree
-step files world (command.Res id value) = defined world id (resource_given value) (definition_refusal_of world.resources id)
+step files world (command.Res id value) =
+    defined world id (resource_given value) (definition_refusal_of world.resources id)
 step files world (command.Inflate name into) = inflation files world name into
 step files world (command.Add None class width height) = root_added world world.tree (Add None class width height)
 step files world (command.Add (Some parent) class width height) =
     on_view world.tree parent (λ number. after_edit world (Add (Some number) class width height))
 step files world (command.Remove view) = on_view world.tree view (λ number. removed world number)
 step files world (command.Act view act) = on_view world.tree view (λ number. acted world number act)
-step files world (command.SetText view text) = on_view world.tree view (λ number. after_edit world (SetText number (unescaped (chars text))))
+step files world (command.SetText view text) =
+    on_view world.tree view (λ number. after_edit world (SetText number (unescaped (chars text))))
 step files world (command.Disallow view on) =
     on_view world.tree view (λ number. disallow_reported world number on (view_in world.tree number))
 step files world (command.Down p x y) = touched world (put_down world (record { id = p; x = x; y = y }))
@@ -396,4 +416,5 @@ step files world (command.Restore text) = taken_up world world.tree text
 step files world command.Frame = framed world world.window world.tree
 step files world (command.Bounds view) = bounds_asked world world.window world.tree world.stage view
 step files world (command.Pixels x y w h) = picture_asked world.window world.stage (pixels_reported world x y w h)
-step files world command.Digest = picture_asked world.window world.stage (λ window. Done world (digest_text (digest_of world.picture)))
+step files world command.Digest =
+    picture_asked world.window world.stage (λ window. Done world (digest_text (digest_of world.picture)))

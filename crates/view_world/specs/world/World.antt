@@ -8,7 +8,7 @@ use Rattle.view_model.specs.Forest.{Forest, Nothing}
 use Rattle.view_model.specs.Geometry.{Laid}
 use Rattle.view_model.specs.PlainTree.{PlainView}
 use Rattle.view_model.specs.Resources.{Entries}
-use Rattle.view_model.specs.declared.limits.TheConstants.{NORMAL_DPI}
+use Rattle.view_model.specs.Numbers.{normal_dpi}
 use Rattle.touch_dispatch.specs.gesture.Gestures.{PlainGesture, no_gesture}
 use Rattle.touch_event.specs.declared.event.Point.{Point}
 
@@ -46,7 +46,7 @@ abbrev pub empty_world : World
 empty_world = record {
   tree = Nothing;
   next = 1;
-  dpi = NORMAL_DPI;
+  dpi = normal_dpi;
   resources = [];
   window = None;
   stage = NoWindow;

@@ -7,7 +7,7 @@ ghost use Rattle.view_model.specs.Cycles.{graft_cycle};
 ghost use Rattle.view_model.specs.Forest.{Nothing};
 ghost use Rattle.view_model.specs.Grafts.{graft_refusal};
 ghost use Rattle.view_model.specs.Sprouts.{seeds_of};
-ghost use Rattle.view_model.specs.declared.limits.TheConstants.{MAX_VIEWS, NUMBERS_END};
+ghost use Rattle.view_model.specs.Numbers.{max_views, numbers_end};
 ghost use Rattle.view_tree.specs.tree.Requests.{requested};
 ghost use Rattle.view_tree.specs.Faults.{IsRefusedOrCyclic};
 ghost use Rattle.view_tree.specs.Views.{IsLive, SameTree, held_of, number_of, plain_of};
@@ -21,13 +21,13 @@ use view_tree::{AttachFault, Key, ViewTree};
 pub fn graft(tree: &mut ViewTree, place: Option<Key>, sapling: Sapling) -> Result<Key, AttachFault>
     requires live { IfSome place (λ view. IsLive tree.old view) }
     requires root { place ≡ None → tree.old.tree ≡ Nothing }
-    requires numbers { tree.old.next < NUMBERS_END }
+    requires numbers { tree.old.next < numbers_end }
     ensures gained { OnOk result (HasGained tree.old place (seeds_of sapling.sprouts.items) tree.new) }
     ensures refused { IsRefusedOrCyclic
         (graft_refusal (plain_of tree.old) (option_map (number_of tree.old) place) (seeds_of sapling.sprouts.items))
         (graft_cycle (plain_of tree.old) (option_map (number_of tree.old) place) tree.old.next
         (seeds_of sapling.sprouts.items)) result }
-    ensures few { tree.new.next ≤ tree.old.next + MAX_VIEWS }
+    ensures few { tree.new.next ≤ tree.old.next + max_views }
     ensures consistent { IsConsistent tree.old → IsConsistent tree.new }
     ensures unchanged { OnErr result (tree.new ≡ tree.old) }
     ensures counts { tree.new.counts ≡ tree.old.counts }

@@ -6,7 +6,7 @@ ghost use Rattle.std.specs.Option.{option_map};
 ghost use Rattle.traversal.specs.Changing.{FitAll};
 ghost use Rattle.view_model.specs.PlainTree.{view_in};
 ghost use Rattle.view_model.specs.declared.changes.NumEdit.{NumEdit as PlainEdit};
-ghost use Rattle.view_model.specs.declared.limits.TheConstants.{MAX_EDITS};
+ghost use Rattle.view_model.specs.Numbers.{max_edits};
 ghost use Rattle.view_tree.specs.Views.{IsLive, geometry_of, number_of, plain_of};
 ghost use Rattle.view_world.specs.screen.KeyedScreen.{geometry_in};
 ghost use Rattle.view_world.specs.world.Step.{may_change, numbered_edits, size_in};
@@ -27,7 +27,7 @@ const NOTHING: Size = Size { w: 0, h: 0 };
 
 /// The edits of a hook, each with the number of its view, or `None` if a view is not there.
 pub fn numbered_edits(tree: &ViewTree, asked: &[Asked]) -> Option<ArrayVec<NumEdit, MAX_EDITS>>
-    requires { length asked.now ≤ MAX_EDITS }
+    requires { length asked.now ≤ max_edits }
     ensures { option_map (λ edits. edits.items) result ≡ numbered_edits (plain_of tree.now) asked.now }
 {
     let mut edits = ArrayVec::new();

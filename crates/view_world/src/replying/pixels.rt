@@ -7,7 +7,7 @@ ghost use Rattle.hex.specs.Hex.{encode_lower};
 ghost use Rattle.pixel_raster.specs.Bytes.{digest_of};
 ghost use Rattle.script_lines.specs.words.Numbers.{IsWithin};
 ghost use Rattle.script_lines.specs.reading.Pixels.{IsPart};
-ghost use Rattle.script_lines.specs.declared.commands.TheConstants.{MAX_POINT, MAX_WINDOW};
+ghost use Rattle.script_lines.specs.Numbers.{max_point, max_window};
 ghost use Rattle.text_lines.specs.BufferedText.{Sends};
 ghost use Rattle.text_lines.specs.Joined.{◌⧺◌};
 ghost use Rattle.view_world.specs.replying.Replies.{digest_text, pixel_text, pixels_text, row_text, separator};
@@ -30,8 +30,8 @@ pub struct Part {
 
 /// Whether what begins at a coordinate ends within a side of the window.
 fn ends_within(at: i32, length: i32, side: i32) -> bool
-    requires at { IsWithin (pos 0) MAX_POINT at }
-    requires length { IsWithin (pos 1) MAX_WINDOW length }
+    requires at { IsWithin (pos 0) max_point at }
+    requires length { IsWithin (pos 1) max_window length }
     ensures { result ≡ int_le (at +ℤ length) side }
 {
     at + length <= side

@@ -6,7 +6,7 @@ ghost use Rattle.inflater.specs.Inflating.{Plan};
 ghost use Rattle.tree_edits.specs.Applied.{IsAddable};
 ghost use Rattle.tree_edits.specs.Editing.{Add};
 ghost use Rattle.view_model.specs.Forest.{Nothing};
-ghost use Rattle.view_model.specs.declared.limits.TheConstants.{MAX_VIEWS, NUMBERS_END};
+ghost use Rattle.view_model.specs.Numbers.{max_views, numbers_end};
 ghost use Rattle.view_tree.specs.Views.{IsLive, number_of, plain_of};
 ghost use Rattle.view_world.specs.screen.Changed.{CarriesOut, IsPlace};
 ghost use Rattle.view_world.specs.screen.KeyedScreen.{world_of};
@@ -75,7 +75,7 @@ impl Screen {
         place: Option<Key>,
         grown: Grown,
     ) -> Result<Response, StepFault>
-        requires numbers { self.old.views.next < NUMBERS_END }
+        requires numbers { self.old.views.next < numbers_end }
         requires live { IfSome place (λ view. IsLive self.old.views view) }
         requires root { place ≡ None → self.old.views.tree ≡ Nothing }
         requires unscrolled { AreUnscrolled (seeds_of grown.sapling.sprouts.items) }
@@ -87,7 +87,7 @@ impl Screen {
         ensures reported { IfOk result
             (λ response. IsReportable self.new.views self.new.surface self.new.reported self.new.saved response) }
         ensures unchanged { OnErr result (self.new ≡ self.old) }
-        ensures numbers { self.new.views.next ≤ self.old.views.next + MAX_VIEWS }
+        ensures numbers { self.new.views.next ≤ self.old.views.next + max_views }
         ensures keeps { OnOk result
             (KeepsBut Asks (listed (option_map (number_of self.old.views) place)) [] [] self.old self.new) }
         ensures no_sink { result ≢ Err StepFault.Sink }

@@ -1,7 +1,7 @@
 //! Lines that touch views.
 ghost use Rattle.std.specs.Prelude.{◌≡◌, ◌≢◌, ◌<◌, [], Err, Ok, OnErr, OnOk};
 ghost use Rattle.script_lines.specs.commands.PlainCommands.{Cancel, Disallow, Down, Move, Up};
-ghost use Rattle.touch_event.specs.declared.event.TheConstants.{MAX_POINTERS};
+ghost use Rattle.touch_event.specs.Numbers.{max_pointers};
 ghost use Rattle.view_world.specs.screen.Changed.{CarriesOut, IsTouchable};
 ghost use Rattle.view_world.specs.screen.KeyedScreen.{world_of};
 ghost use Rattle.view_world.specs.touching.Pointers.{AreDown};
@@ -31,7 +31,7 @@ impl Screen {
     /// A pointer goes down.
     #[inline(never)]
     pub(super) fn down(&mut self, id: u8, x: i32, y: i32) -> Result<Response, StepFault>
-        requires id { id < MAX_POINTERS }
+        requires id { id < max_pointers }
         ensures changed { CarriesOut (step [] (world_of self.old) (Down id x y)) self.new result }
         ensures unchanged { OnErr result (self.new ≡ self.old) }
         ensures memory { result ≢ Err StepFault.NoMemory }
@@ -50,7 +50,7 @@ impl Screen {
     /// A pointer moves.
     #[inline(never)]
     pub(super) fn drag(&mut self, id: u8, x: i32, y: i32) -> Result<Response, StepFault>
-        requires id { id < MAX_POINTERS }
+        requires id { id < max_pointers }
         ensures changed { CarriesOut (step [] (world_of self.old) (Move id x y)) self.new result }
         ensures unchanged { OnErr result (self.new ≡ self.old) }
         ensures memory { result ≢ Err StepFault.NoMemory }
@@ -68,7 +68,7 @@ impl Screen {
     /// A pointer goes up. The event still has it.
     #[inline(never)]
     pub(super) fn up(&mut self, id: u8) -> Result<Response, StepFault>
-        requires id { id < MAX_POINTERS }
+        requires id { id < max_pointers }
         ensures changed { CarriesOut (step [] (world_of self.old) (Up id)) self.new result }
         ensures unchanged { OnErr result (self.new ≡ self.old) }
         ensures memory { result ≢ Err StepFault.NoMemory }
@@ -124,7 +124,7 @@ impl Screen {
     /// Sends an event to the root. These pointers are down then.
     fn hand(&mut self, event: &Event, pointers: &[Point]) -> Response
         requires settled { self.old.stage ≡ Settled }
-        requires pointer { event.now.pointer < MAX_POINTERS }
+        requires pointer { event.now.pointer < max_pointers }
         requires down { AreDown pointers.now }
         ensures changed { CarriesOut (after_event (world_of self.old) event.now pointers.now) self.new (Ok result) }
         ensures numbers { self.new.views.next ≡ self.old.views.next }

@@ -1,7 +1,7 @@
 //! The pointers that are down, and the events that lines make of them.
 
 ghost use Rattle.std.specs.Prelude.{◌≡◌, ◌↔◌, ◌<◌, ◌≤◌, ◌+◌, ◌++◌, ℕ, [], length};
-ghost use Rattle.touch_event.specs.declared.event.TheConstants.{MAX_POINTERS};
+ghost use Rattle.touch_event.specs.Numbers.{max_pointers};
 ghost use Rattle.touch_event.specs.PointerSets.{has_id};
 ghost use Rattle.view_world.specs.touching.Pointers.{AreDown, down_action, event_of, is_pressed, points_above, points_below, up_action, with_point, without_point};
 
@@ -18,7 +18,7 @@ pub fn is_pressed(points: &[Point], id: u8) -> bool
 /// The event of a pointer that is at this point now, while these are down, or were.
 pub fn event_at(action: Action, point: Point, points: &[Point]) -> Event
     requires down { AreDown points.now }
-    requires id { point.id < MAX_POINTERS }
+    requires id { point.id < max_pointers }
     ensures event { result ≡ event_of action point.id (with_point point points.now) }
     ensures down { AreDown result.points.items }
 {
@@ -35,7 +35,7 @@ pub fn event_at(action: Action, point: Point, points: &[Point]) -> Event
 
 /// Adds the points whose ids are below this one.
 fn put_below(all: &mut ArrayVec<Point, MAX_POINTERS>, points: &[Point], id: u8)
-    requires { length all.old.items + length (points_below id points.now) ≤ MAX_POINTERS }
+    requires { length all.old.items + length (points_below id points.now) ≤ max_pointers }
     ensures { all.new.items ≡ all.old.items ++ points_below id points.now }
 {
     for point in points {
@@ -47,7 +47,7 @@ fn put_below(all: &mut ArrayVec<Point, MAX_POINTERS>, points: &[Point], id: u8)
 
 /// Adds the points whose ids are above this one.
 fn put_above(all: &mut ArrayVec<Point, MAX_POINTERS>, points: &[Point], id: u8)
-    requires { length all.old.items + length (points_above id points.now) ≤ MAX_POINTERS }
+    requires { length all.old.items + length (points_above id points.now) ≤ max_pointers }
     ensures { all.new.items ≡ all.old.items ++ points_above id points.now }
 {
     for point in points {
@@ -74,7 +74,7 @@ pub fn without_point(points: &[Point], id: u8) -> ArrayVec<Point, MAX_POINTERS>
 
 /// The event of a pointer among these.
 pub fn event_of(action: Action, pointer: u8, points: &[Point]) -> Event
-    requires { length points.now ≤ MAX_POINTERS }
+    requires { length points.now ≤ max_pointers }
     ensures { result ≡ event_of action pointer points.now }
 {
     let mut event = Event {
@@ -90,7 +90,7 @@ pub fn event_of(action: Action, pointer: u8, points: &[Point]) -> Event
 
 /// Replaces points by others.
 pub fn set_points(all: &mut ArrayVec<Point, MAX_POINTERS>, points: &[Point])
-    requires { length points.now ≤ MAX_POINTERS }
+    requires { length points.now ≤ max_pointers }
     ensures { all.new.items ≡ points.now }
 {
     all.clear();

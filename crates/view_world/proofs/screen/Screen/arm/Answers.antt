@@ -1,7 +1,7 @@
 use Rattle.std.proofs.Common.{◌≡◌, [], true, false, refl, sym, subst, ap, ◌∙◌}
 use Rattle.std.specs.Prelude.{Err, None, Ok, Result, length}
 use Rattle.size_hooks.specs.Hooks.{hook_of}
-use Rattle.view_model.specs.declared.limits.TheConstants.{MAX_HOOKS}
+use Rattle.view_model.specs.Numbers.{max_hooks}
 use Rattle.view_tree.specs.Views.{number_of}
 use Rattle.view_world.specs.screen.Changed.{CarriesOut}
 use Rattle.view_world.specs.screen.KeyedScreen.{KeyedScreen, geometry_in, world_of}
@@ -36,7 +36,7 @@ returns-clause-changed c =
     (subst (λ n. CarriesOut (hooked (world_of old) n edits) new result) named changed) in
     elim c.match-arm.branch [
       | in-Ok w ↦
-          let room : (length old.hooks ≡ MAX_HOOKS) × (hook_of old.hooks number ≡ None) → ⊥ = λ both. let f : false ≡ true = w.in-Ok.ensures.full.1 both in cc in
+          let room : (length old.hooks ≡ max_hooks) × (hook_of old.hooks number ≡ None) → ⊥ = λ both. let f : false ≡ true = w.in-Ok.ensures.full.1 both in cc in
           subst Q (sym w.result-is) (seen (Ok response.Nothing) (armed_world old c.arm.new.self number c.size_at-reported.result edits size w.in-Ok.ensures.hooks room, tt))
       | in-Err w ↦
           subst Q (sym w.result-is) (seen (Err (fault.Refused w.plain.result)) (full_world old number edits (w.in-Err.ensures.full.0 refl) ∙ ap Refused (sym w.plain.ensures)))
