@@ -1,6 +1,6 @@
 //! A script whose lines come one at a time, each of which is answered before the next one comes.
 
-ghost use Rattle.std.specs.Prelude.{◌≡◌, ◌+◌, ◌*◌, ◌<◌, ◌≤◌, Option, Some};
+ghost use Rattle.std.specs.Prelude.{◌≡◌, ◌+◌, ◌*◌, ◌<◌, Option, Some};
 ghost use Rattle.script_lines.specs.cutting.Lines.{line_of};
 ghost use Rattle.whole_tool.specs.Carrier.{next_of};
 ghost use Rattle.whole_tool.specs.Numbers.{max_views, numbers_end};
@@ -28,7 +28,7 @@ pub struct Session {
 }
 
 impl Session {
-    ghost use Rattle.std.specs.Prelude.{◌≡◌, ◌==◌, ℕ, false, List, [], ◌∷◌, Some, OnOk, IfOk};
+    ghost use Rattle.std.specs.Prelude.{◌≡◌, ◌==◌, ℕ, false, List, [], Some, OnOk, IfOk};
     ghost use Rattle.tool_io.specs.Fetched.{Files};
     ghost use Rattle.whole_tool.specs.Session.{HasRun, IsAnswered, has_line_feed, with_line};
 
