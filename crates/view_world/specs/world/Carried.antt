@@ -9,7 +9,7 @@ use Rattle.tool_io.specs.Fetched.{Files}
 use Rattle.tool_io.specs.Fetches.{Fetch, Fetches, with_fetch}
 use Rattle.tool_io.specs.SinkState.{SinkState}
 use Rattle.tree_edits.specs.Editing.{names_views}
-use Rattle.view_model.specs.declared.limits.TheConstants.{MAX_FILE}
+use Rattle.view_model.specs.Numbers.{max_file}
 use Rattle.view_model.specs.Refusals.{plain_refusal}
 use Rattle.view_world.specs.world.World.{World}
 use Rattle.view_world.specs.declared.fault.StepFault.{StepFault}
@@ -84,7 +84,7 @@ CountsShelf before now (Err fault.Shelf) = now ≡ raised before
 
 -- a layout file is asked for with the limit of its bytes
 abbrev pub layout_fetch : List ℕ → Fetch
-layout_fetch name = record { name = name; limit = MAX_FILE }
+layout_fetch name = record { name = name; limit = max_file }
 
 -- what a shelf shows of the calls on it after a command: one more if a file is asked for, and otherwise the same
 abbrev pub fetches_after : Option (List ℕ) → Fetches → Fetches
