@@ -21,14 +21,18 @@ import signal
 import subprocess
 from running import Skipped, named
 
-def passes(): return ""
 def fails(): return "line 1 é"
 def breaks(): return 1 // 0
 def lacks(): raise Skipped("no-such-command")
 def has(): raise Skipped("bash", "bash is not liked")
 
+# a function in a function cannot be sent to another process
+def made(why):
+    def passes(): return why
+    return passes
+
 def checks():
-    yield from named("a", (passes, fails, breaks, lacks, has))
+    yield from named("a", (made(""), fails, breaks, lacks, has))
 '''
 WAITS = '''import subprocess, os, time
 from running import named

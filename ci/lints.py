@@ -178,6 +178,27 @@ ROW = "add v1 FrameLayout 10 10\n"
 LEAF = b"row.lines:1:1: warning useless-leaf: v2 FrameLayout: it has no child, no background and no id (160 dpi, 320 dp)\n"
 
 
+CIRCLE = ('app/res/layout/m.xml:2:5: error missing-resource: v3 View: android:layout_width="@dimen/a": app: references lead in a '
+          "circle: app:dimen/a, app:dimen/b, app:dimen/a")
+
+
+def names_circles() -> str:
+    """References among values that lead in a circle: the report of the app and lint name all of them."""
+    with place() as it:
+        for folder in ("res/layout", "res/values"):
+            os.makedirs(os.path.join(it.folder, "app", folder))
+        it.put("app/res/values/v.xml", '<resources><dimen name="a">@dimen/b</dimen><dimen name="b">@dimen/a</dimen></resources>')
+        it.put("app/res/layout/m.xml", '<FrameLayout xmlns:android="http://schemas.android.com/apk/res/android" '
+               'android:layout_width="match_parent" android:layout_height="match_parent">\n'
+               '    <View android:layout_width="@dimen/a" android:layout_height="9dp" />\n</FrameLayout>\n')
+        found = it.call("lint", "app", "--severity", "error")[1].decode().splitlines()
+        report = it.call("app", "app", "m", "--report")[1].decode()
+    if [line.rpartition(" (")[0] for line in found] != [CIRCLE]:
+        return "%s" % found
+    wanted = "View android:layout_width: left out (bounds): app: references lead in a circle: app:dimen/a, app:dimen/b, app:dimen/a\n"
+    return "" if wanted in report else report
+
+
 def finds_once() -> str:
     """What several scripts include is found once, where it is the same, and a line of it that is refused is said once; of a
     script that includes it twice the second one is found too."""
@@ -252,6 +273,6 @@ def wrong_scripts() -> str:
 
 def checks() -> Checks:
     yield from named("the lint", (
-        finds, measures_texts, lays_out_a_matrix, takes_apps, finds_broken_sources, finds_once,
+        finds, measures_texts, lays_out_a_matrix, takes_apps, finds_broken_sources, names_circles, finds_once,
         takes_folders_of_sources, own_rules, wrong_scripts,
     ))

@@ -155,7 +155,7 @@ class Draft:
         self.check_stand_in(key, found.given, effect)
         if not found.is_resolved:
             what = "the theme has no such attribute" if found.value.is_attribute else "the resource is not there"
-            self.record.leave_out(key, "%s (%s)" % (what, self.named(found.value)), effect)
+            self.record.leave_out(key, found.why or "%s (%s)" % (what, self.named(found.value)), effect)
             return None
         return found.value
 

@@ -25,11 +25,12 @@ class Origin(Enum):
 
 class Found(NamedTuple):
     """A value of an attribute: through all references, and as it is given; and where it is from. One that cannot be
-    resolved is a reference still."""
+    resolved is a reference still; `why`, where that is known."""
 
     value: Value
     given: Value
     origin: Origin
+    why: str = ""
 
     @property
     def is_resolved(self) -> bool:
@@ -187,5 +188,5 @@ class Attributes:
             resolved = self.lookup.resources.resolve(value, self.theme)
         except Failure as failure:
             self.broken.append(str(failure))
-            return Found(value, value, origin)
+            return Found(value, value, origin, str(failure))
         return Found(NULL if resolved.is_null else resolved, value, origin)

@@ -13,6 +13,8 @@ from .registry import Severity
 from .source_rules import MISSING_RESOURCE, REQUIRED_SIZE, WRONG_VALUE
 
 NO_SIZE = {boxes.NO_SIZE % name: "android:" + name for name in draft.SIZES}
+# in the reason of a note on references that have no end
+CIRCLE = "references lead in a circle"
 # how names of resources of Android's libraries begin, which a project has without a file of its own
 OF_LIBRARIES = ("abc_", "appbar_", "mtrl_", "m3_", "material_", "design_", "compat_", "notification_")
 
@@ -29,6 +31,8 @@ def of_note(record: Record, note: Note) -> Iterator[Fault]:
     """What a note of the report says is broken."""
     if note.reason == draft.UNFIT and note.attribute in record.written:
         yield Fault(WRONG_VALUE, note.attribute, note.reason)
+    if CIRCLE in note.reason and note.attribute in record.written:
+        yield Fault(MISSING_RESOURCE, note.attribute, note.reason)
     key = NO_SIZE.get(note.reason)
     if key and not {key, "style"} & set(record.keys):
         yield Fault(REQUIRED_SIZE, "", "it has no %s, and Android refuses it" % key)

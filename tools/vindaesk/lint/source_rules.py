@@ -22,5 +22,5 @@ def required_size(it: Seen, page: Page) -> Iterator[str]:
 
 @rule(MISSING_RESOURCE, Severity.ERROR)
 def missing_resource(it: Seen, page: Page) -> Iterator[str]:
-    """The project has each resource that a source names."""
+    """The project has a value for each resource that a source names."""
     return iter(())
