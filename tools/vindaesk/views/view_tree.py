@@ -5,7 +5,6 @@ import os
 import re
 from typing import TYPE_CHECKING, Dict, FrozenSet, Iterator, List, Optional, Sequence, Set, Tuple
 
-from ..common.failures import Failure
 from ..scripts import names, script
 from ..scripts.names import Ids
 from ..scripts.replies import Answer, Part
@@ -15,8 +14,6 @@ from .facts import Origin, Settings, Source
 
 if TYPE_CHECKING:
     from ..layouts.app_elements import AppElement
-    from ..layouts.documents import Value
-    from ..layouts.elements import Element
 
 TEXT_LINE = rb" *text +[^ ]+ (.*)"
 TEXT_RESOURCE = rb" *res +[^ ]+ +text (.*)"
@@ -172,76 +169,11 @@ class Tree:
 
     def inflate(self, words: List[bytes], line: bytes, reply: bytes) -> None:
         """`inflate NAME` or `inflate NAME into V`."""
-        name = words[1].decode()
+        from . import inflating
+
         place = self.view(words[3]) if len(words) == 4 else None
         first, last = (int(word[1:]) for word in reply.split(b" ")[1:3])
-        # loaded where a script has a layout file, since that takes a tenth of a start
-        from ..layouts import app_elements, elements
-
-        read = elements.read(name, self.folder)
-        if len(read) != last - first + 1:
-            raise Failure("the layout file %s changed in the meantime" % name)
-        of_app = app_elements.of_layout(self.folder, name)
-        for number, element in enumerate(read, first):
-            parent = place if element.parent is None else self.views[first + element.parent]
-            view = self.put(number, parent, element.name)
-            self.dress(view, element)
-            view.of_app = of_app.get(number - first + 1)
-            if view.origin:
-                view.origin = view.origin._replace(
-                    file=os.path.join(self.beside, name), element=element, of_app=view.of_app, resolved=self.resolved(element),
-                    names=self.ids.listed)
-
-    def dress(self, view: View, element: Element) -> None:
-        """Gives a new view what the attributes of its element say."""
-        from . import element_facts
-
-        found = element.attributes
-        if "id" in found:
-            self.set_id(view, found["id"].word)
-        if "visibility" in found:
-            view.visibility = VISIBILITIES[found["visibility"].word]
-        if "background" in found:
-            view.background = "#%08x" % self.colour(found["background"])
-        if "text" in found and view.text is not None:
-            view.text = self.words(found["text"])
-        if "clickable" in found and found["clickable"].word and view.kind != "ScrollView":
-            view.answer = "click"
-        if "textColor" in found and view.text is not None:
-            view.given["ink"] = "#%08x" % self.colour(found["textColor"])
-        view.given.update(element_facts.settings_of(found))
-        view.rules.update(element_facts.rules_of(found))
-
-    def resolved(self, element: Element) -> Dict[int, str]:
-        """The values of the resources that an element names, as sources have them, by their ids."""
-        from ..layouts.documents import REFERENCE
-
-        named = {it.word for it in element.attributes.values() if it.kind == REFERENCE and it.word}
-        return {it: text for it in named for text in [self.resource(it)] if text is not None}
-
-    def resource(self, number: int) -> Optional[str]:
-        """The value of a resource as sources have it."""
-        if number in self.colours:
-            return "#%08x" % self.colours[number]
-        return self.texts.get(number, self.lengths.get(number))
-
-    def colour(self, value: Value) -> int:
-        """The colour that a value is, or names."""
-        from ..layouts import elements
-
-        is_reference, number = elements.reference(value)
-        if not is_reference:
-            return value.word
-        return self.colours[number] if number else 0
-
-    def words(self, value: Value) -> str:
-        """The text that a value is, or names."""
-        from ..layouts import elements
-
-        is_reference, number = elements.reference(value)
-        if not is_reference:
-            return value.text or ""
-        return self.texts[number] if number else ""
+        inflating.inflate(self, words[1].decode(), place, first, last)
 
     def remove(self, words: List[bytes], line: bytes, reply: bytes) -> None:
         """`remove V`."""
