@@ -48,7 +48,8 @@ def sarif(it: Place, *words: str) -> Dict[str, Any]:
 
 
 def wrong_log(whole: Dict[str, Any]) -> str:
-    """Where a log is not as the standard has it: its form, and in each result the rule's place, and a URI."""
+    """Where a log is not as the standard has it: its form, and in each result the rule's place, and a URI, which has a base
+    that is known exactly if it is relative, and then leads nowhere above it."""
     why = sarif_form.unfit(whole, "sarifLog")
     (run,) = whole["runs"] if not why else [{"results": []}]
     for result in run["results"]:
@@ -56,7 +57,12 @@ def wrong_log(whole: Dict[str, Any]) -> str:
         if listed["id"] != result["ruleId"] or listed["defaultConfiguration"]["level"] != result["level"]:
             return "%s is not the rule %s" % (result["ruleId"], listed)
         for at in result["locations"] + result.get("relatedLocations", []):
-            uri = at["physicalLocation"]["artifactLocation"]["uri"]
+            artifact = at["physicalLocation"]["artifactLocation"]
+            uri, base = artifact["uri"], artifact.get("uriBaseId")
+            if (base in run["originalUriBaseIds"]) == uri.startswith("file:///") or (base is None) != uri.startswith("file:///"):
+                return "the base of %s is %s" % (uri, base)
+            if ".." in uri.split("/"):
+                return "the URI is %s" % uri
             plain = uri[len("file:") :] if uri.startswith("file:///") else uri
             if set(plain) & set(' ":<>\\^`{|}&,') or urllib.parse.urlsplit(uri).scheme not in ("", "file"):
                 return "the URI is %s" % uri
@@ -71,12 +77,18 @@ def writes_sarif() -> str:
         why = wrong_log(log)
         result = log["runs"][0]["results"][0]
         where = result["locations"][0]["physicalLocation"]
-        wanted = {"artifactLocation": {"uri": "a%20%26%20b%2Cc%3A%25.script"}, "region": {"startLine": 3, "startColumn": 1}}
+        wanted = {"artifactLocation": {"uri": "a%20%26%20b%2Cc%3A%25.script", "uriBaseId": "%SRCROOT%"}, "region": {"startLine": 3, "startColumn": 1}}
         why = why or ("" if where == wanted else "%s" % where)
         app = sarif(it, os.path.join(EXAMPLES, "trips", "trips.apk"), "--layout", "home", "--only", "duplicate-id")
         around = app["runs"][0]["results"][0]["relatedLocations"][0]["physicalLocation"]
         why = why or wrong_log(app)
         why = why or ("" if around["artifactLocation"]["uri"].endswith("trips.apk!/res/layout/home.xml") else "%s" % around)
+        os.mkdir(os.path.join(it.folder, "in"))
+        it.folder = os.path.join(it.folder, "in")
+        above = sarif(it, os.path.join("..", NAME), *ONLY)
+        why = why or wrong_log(above)
+        uri = above["runs"][0]["results"][0]["locations"][0]["physicalLocation"]["artifactLocation"]["uri"]
+        why = why or ("" if uri.startswith("file:///") and uri.endswith("/a%20%26%20b%2Cc%3A%25.script") else uri)
     result["level"] = "bad"
     return why or ("" if wrong_log(log) else "a wrong log is taken")
 

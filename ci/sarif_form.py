@@ -28,8 +28,9 @@ FORMS = {
     "sarifLog": form("3.13", "version runs", {"version": ("2.1.0",), "$schema": str, "runs": ["run"]},
                      "inlineExternalProperties properties"),
     "run": form(
-        "3.14", "tool", {"tool": "tool", "results": ["result"], "columnKind": ("utf16CodeUnits", "unicodeCodePoints")},
-        "invocations conversion language versionControlProvenance originalUriBaseIds artifacts logicalLocations graphs "
+        "3.14", "tool", {"tool": "tool", "results": ["result"], "columnKind": ("utf16CodeUnits", "unicodeCodePoints"),
+                         "originalUriBaseIds": dict},
+        "invocations conversion language versionControlProvenance artifacts logicalLocations graphs "
         "automationDetails runAggregates baselineGuid redactionTokens defaultEncoding defaultSourceLanguage "
         "newlineSequences externalPropertyFileReferences threadFlowLocations taxonomies addresses translations policies "
         "webRequests webResponses specialLocations properties"),
@@ -41,9 +42,9 @@ FORMS = {
         "language contents isComprehensive localizedDataSemanticVersion minimumRequiredLocalizedDataSemanticVersion "
         "associatedComponent translationMetadata supportedTaxonomies properties"),
     "reportingDescriptor": form(
-        "3.49", "id", {"id": str, "shortDescription": "multiformatMessageString",
+        "3.49", "id", {"id": str, "shortDescription": "multiformatMessageString", "fullDescription": "multiformatMessageString",
                        "defaultConfiguration": "reportingConfiguration", "properties": dict},
-        "deprecatedIds guid deprecatedGuids name deprecatedNames fullDescription messageStrings helpUri help relationships"),
+        "deprecatedIds guid deprecatedGuids name deprecatedNames messageStrings helpUri help relationships"),
     "multiformatMessageString": form("3.12", "text", {"text": str}, "markdown properties"),
     "reportingConfiguration": form("3.50", "", {"level": LEVEL}, "enabled rank parameters properties"),
     "result": form(
@@ -58,7 +59,7 @@ FORMS = {
                      "message": "message"}, "annotations relationships properties"),
     "physicalLocation": form("3.29", "", {"artifactLocation": "artifactLocation", "region": "region"},
                              "address contextRegion properties"),
-    "artifactLocation": form("3.4", "", {"uri": str}, "uriBaseId index description properties"),
+    "artifactLocation": form("3.4", "", {"uri": str, "uriBaseId": str}, "index description properties"),
     "region": form("3.30", "", {"startLine": int, "startColumn": int},
                    "endLine endColumn charOffset charLength byteOffset byteLength snippet message sourceLanguage properties"),
     "logicalLocation": form("3.33", "", {"name": str, "fullyQualifiedName": str, "kind": str},
