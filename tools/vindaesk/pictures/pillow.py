@@ -12,7 +12,7 @@ from .chunks import SIGNATURE, chunk
 PLAIN = "VINDAESK_NO_PILLOW"
 # how Pillow calls pixels of 1 to 4 bytes, and the colour type of such a file
 MODES = {1: ("L", 0), 2: ("LA", 4), 3: ("RGB", 2), 4: ("RGBA", 6)}
-# below so many bytes the start of Pillow takes longer than what it saves
+# below this number of bytes the start of Pillow takes longer than what it saves
 MANY = 3 << 18
 RED = (255, 0, 0)
 # the mask of what is marked by any other byte than 0

@@ -133,7 +133,10 @@ class Preview:
         for wanted in self.ordered():
             if self.stale.is_set():
                 return
-            self.put(wanted.name, self.made(wanted, why))
+            made = self.made(wanted, why)
+            if made is None:
+                return
+            self.put(wanted.name, made)
         self.drawn.set()
 
     def look(self) -> None:
@@ -151,15 +154,16 @@ class Preview:
         """The configurations, the one that is looked at first."""
         return sorted(self.subject.configurations, key=lambda it: it.name != self.first)
 
-    def made(self, wanted: Configuration, why: str, frame: int = 0) -> Shown:
-        """What a configuration shows now; why it cannot be read, if it cannot."""
+    def made(self, wanted: Configuration, why: str) -> Optional[Shown]:
+        """What a configuration shows now; why it cannot be read, if it cannot. None where a file changes meanwhile."""
         shown = Shown(messages=why.splitlines())
         try:
             if why:
                 return shown
             with self.reading:
                 layout = self.subject.layout(wanted)
-            layout = replace(layout, script=drawing.up_to(layout.script, frame))
+            if self.stale.is_set():
+                return None
             shown.layout, shown.drawn = layout, drawing.drawn(layout.script)
             shown.spots = spots_of(layout, shown.drawn)
             shown.messages = layout.refused(shown.drawn.refused)
