@@ -2,7 +2,8 @@
 
 - In the pages about the code, each name between backquotes is a word of a file of the repository that is no page, and each path
   is the end of the path of a file or a folder.
-- In every page a link leads to a file or a heading that is there, and a numbered list goes 1, 2, 3.
+- In every page a link leads to a file or a heading that is there, a numbered list goes 1, 2, 3, and each row of a table has as many
+  cells as its head.
 - Each tool has a row in docs/TOOLS.md.
 - A figure that several pages have is the same on all of them.
 """
@@ -157,9 +158,29 @@ def gaps(text: str) -> Iterator[str]:
             last = {}
 
 
+def cells_of(row: str) -> int:
+    """How many cells a row of a table has; a bar after a backslash is no border."""
+    return len(re.findall(r"(?<!\\)\|", row)) - 1
+
+
+def ragged(text: str) -> Iterator[str]:
+    """The rows of tables that have fewer or more cells than the first row, and tables without a line below their head."""
+    rows: List[str] = []
+    for number, line in [*plain_lines(text), (0, "")]:
+        row = line.strip()
+        if not row.startswith("|"):
+            rows = []
+            continue
+        rows.append(row)
+        if len(rows) == 2 and not re.fullmatch(r"[|:-]+", row):
+            yield "line %d: no line of dashes is below the head" % number
+        if cells_of(row) != cells_of(rows[0]):
+            yield "line %d: %d cells in a table of %d" % (number, cells_of(row), cells_of(rows[0]))
+
+
 def problems(page: str, text: str) -> List[str]:
     """All that is wrong in a page."""
-    found = [*broken_links(page, text), *gaps(text)]
+    found = [*broken_links(page, text), *gaps(text), *ragged(text)]
     return [*found, *(unknown(text) if os.path.basename(page) in ABOUT_CODE else ())]
 
 
@@ -212,9 +233,9 @@ def figures_are_equal() -> str:
 
 def finds_faults() -> str:
     """Each kind of fault, put into the text of a page, is found, and what is right there is not."""
-    right = "# A page\n1. one\n   1. in it\n2. two\n\n[here](#a-page) `crates.txt` `text_of` `src/lib.rt` `*.md`\n"
+    right = "# A page\n1. one\n   1. in it\n2. two\n\n[here](#a-page) `crates.txt` `text_of` `src/lib.rt` `*.md`\n| a ||\n|---|---|\n|b|`c\\|`|\n"
     wrong = ("1. one\n3. three", "2. two", "`no_such_name_%s`" % "x", "`src/no_such_file.rt`", "[there](#no-heading)",
-             "[there](NO-PAGE.md)")
+             "[there](NO-PAGE.md)", "|a|b|\n|---|---|\n|c|\n", "|a|b|\n|c|d|\n")
     found = problems("docs/STYLE.md", right)
     if found:
         return "found where nothing is wrong: %s" % found
