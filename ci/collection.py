@@ -12,7 +12,7 @@ MODULES = (
     "tools", "starts", "many", "golden", "hostile", "plugin", "grammar", "apps", "apps_report", "app_goldens",
     "fuzz_apps", "resources", "fuzz_resources", "driving", "facts", "serving", "lints", "lint_rules", "lint_formats",
     "browser", "previews", "languages", "farms", "installed", "packages", "shells", "release_checks", "package",
-    "house", "edits", "words", "spelling", "stored", "native",
+    "house", "edits", "words", "spelling", "stored", "native", "native_sessions",
 )
 # those that are run only where they are asked for
 ON_REQUEST = ("memory", "out_of_memory", "engines")

@@ -119,8 +119,8 @@ def files_below(ending: str, folders: Sequence[str]) -> Iterator[str]:
 
 
 def is_root(path: str) -> bool:
-    """Whether all of a file is read for a proof of code: what answers the goals of a function."""
-    return os.path.basename(path) in ("Answers.antt", "Invariants.antt")
+    """Whether all of a file is read for a proof of code: what answers the goals of a function, or is its proof by hand."""
+    return os.path.basename(path) in ("Answers.antt", "Invariants.antt", "Proof.antt")
 
 
 def is_example(path: str) -> bool:

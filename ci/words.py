@@ -37,8 +37,8 @@ PATTERNS = [(re.compile(r"\b(?:%s)(?!\w)" % words, re.I), better) for words, bet
 # those that no name has as a part
 NAME_WORDS = set("tell tells telling told behind stand stands stood standing handed handing hands nobody somebody".split())
 PART = re.compile(r"[A-Z]?[a-z]+|[A-Z]+(?![a-z])")
-# texts, and a name that the checker makes
-NO_NAME = re.compile(r'"(?:\\.|[^"\\])*"|\bc\.\w+\.told\b')
+# texts, a name that the checker makes, and a lemma of the kit
+NO_NAME = re.compile(r'"(?:\\.|[^"\\])*"|\bc\.\w+\.told\b|\bhandle_tells\b')
 
 # a comment, where it is the end of a line or all of it
 MARKS = {

@@ -1,4 +1,7 @@
+mod HandleSteps
 mod LookupLaws
+mod LooseSteps
 mod PackedLaws
 mod PageLaws
 mod QuestionLaws
+mod SessionLaws

@@ -29,7 +29,7 @@ pub fn put_page(outcome: Result<Page, Fault>, answer: &mut [u8], size: &mut usiz
 }
 
 /// Puts a text into the buffer for an answer, if that has room for it. Returns the status.
-fn put_text(text: &[u8], is_refusing: bool, answer: &mut [u8], size: &mut usize) -> u8
+pub fn put_text(text: &[u8], is_refusing: bool, answer: &mut [u8], size: &mut usize) -> u8
     ensures { PutsPage text.now is_refusing answer.old answer.new size.new result }
 {
     *size = text.len();
@@ -41,7 +41,7 @@ fn put_text(text: &[u8], is_refusing: bool, answer: &mut [u8], size: &mut usize)
 }
 
 /// The status of a call without a page.
-fn status_of(fault: Fault) -> u8
+pub fn status_of(fault: Fault) -> u8
     ensures { result ≡ fault_status fault }
 {
     match fault {

@@ -3,7 +3,9 @@
 //! `include/vindaesk.h` declares what is exported: `vindaesk_run`, `vindaesk_stack`, `vindaesk_focus`, `vindaesk_dump`
 //! and `vindaesk_lookup`. `packing` reads the files of a call out of one buffer, and `shelf` has them at hand. `words`
 //! and `questions` have the words that the tool is called with, `page` has it write a page in memory, `answer` puts
-//! that into the caller's buffer, and `fault` says why there is none. A call keeps nothing for the next one.
+//! that into the caller's buffer, and `fault` says why there is none. A call keeps nothing for the next one, but for
+//! those of `sessions`, of scripts whose lines come one at a time: `open_session` is such a script, and `handle` is
+//! what C holds of it, a box that is `loose`.
 //!
 //! Programs in C, Python and Java call it, and the tools of this repository where they find it.
 //!
@@ -28,9 +30,13 @@ ghost use Rattle.whole_tool.specs.declared.focusing.Question.{Question};
 
 mod answer;
 mod fault;
+mod handle;
+mod loose;
+mod open_session;
 mod packing;
 mod page;
 mod questions;
+mod sessions;
 mod shelf;
 mod words;
 
