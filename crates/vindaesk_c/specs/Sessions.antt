@@ -19,4 +19,5 @@ IsAt held script text session = IfSome session (HasAnswered held script text)
 -- one more line makes the transcript longer by its answer, and is refused or not
 pub record AddsAnswer (held : Files) (script line : List ℕ) (refuses : Bool) : Type 0 where
   pub whole : transcript (with_line script line) held ≡ transcript script held ++ answer_to held script line
-  pub refused : (after_script held (with_line script line)).refused ≡ (after_script held script).refused + (if refuses then 1 else 0)
+  pub refused : (after_script held (with_line script line)).refused
+      ≡ (after_script held script).refused + (if refuses then 1 else 0)
