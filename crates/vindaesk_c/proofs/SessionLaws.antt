@@ -1,14 +1,13 @@
 -- Sessions, line by line.
 use Rattle.std.proofs.Common.{◌≡◌, ◌∙◌, ◌<◌, ◌^◌, ℕ, List, [], ◌++◌, ap, arith, length, subst, sym}
 use Rattle.std.specs.Io.KnownBytes.{Appends}
-use Rattle.std.specs.Prelude.{◌==◌, ◌+◌, ◌≤◌, Bool, Option, Some, true, if◌then◌else◌}
+use Rattle.std.specs.Prelude.{◌+◌, ◌≤◌, Bool, Option, Some, if◌then◌else◌}
 use Rattle.tool_io.specs.Fetched.{Files}
 use Rattle.vindaesk_c.proofs.PackedLaws.{packed-injective}
 use Rattle.vindaesk_c.specs.Answer.{IsAnswer, LacksRoom, PutsPage}
 use Rattle.vindaesk_c.specs.Packed.{packed}
 use Rattle.vindaesk_c.specs.Sessions.{HasAnswered, IsAt}
 use Rattle.vindaesk_c.specs.declared.open_session.OpenSession.{OpenSession}
-use Rattle.whole_tool.specs.Session.{after_script, max_lines}
 use Rattle.whole_tool.specs.Tool.{IsComplete}
 
 -- what was empty holds what was appended
@@ -18,12 +17,6 @@ appended begun gone text empty e = e ∙ ap (λ b. b ++ text) empty
 -- a buffer has the files of one list
 pub same_files : (files held : Files) (bytes : List ℕ) → length bytes < 2 ^ 64 → bytes ≡ packed files → bytes ≡ packed held → files ≡ held
 same_files files held bytes small e h = packed-injective files held (omega (arith, small, ap length e)) (sym e ∙ h)
-
--- a session that takes no more lines has run as many as it may
-pub full_lines : (held : Files) (script text : List ℕ) (session : OpenSession) → (session.session.left == 0) ≡ true → HasAnswered held script text session → (after_script held script).lines ≡ max_lines
-full_lines held script text session full at =
-    let none : session.session.left ≡ 0 = grind (arith, full) in
-    omega (arith, none, at.run.counted, at.run.lines)
 
 -- how the text of a line ends a call
 
