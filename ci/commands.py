@@ -26,8 +26,8 @@ def call(words: str, folder: str = TOP) -> Tuple[int, str, str]:
 
 
 def examples_run() -> str:
-    """Each example of the help, except that of `test`, which runs these very checks, and those of `preview` and `serve`, which
-    go on until they are ended."""
+    """Each example of the help, except that of `test`, which runs these very checks, and those of `preview` and
+    `serve`, which go on until they are ended."""
     for it in commands.every():
         with tempfile.TemporaryDirectory() as place:
             folder = shutil.copytree(os.path.join(TOP, "examples"), os.path.join(place, "examples"))

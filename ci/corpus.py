@@ -1,4 +1,5 @@
-"""Makes many stored scripts for checks and measurements: the same ones each time. `ci/corpus.py COUNT DIR` writes them."""
+"""Makes many stored scripts for checks and measurements: the same ones each time. `ci/corpus.py COUNT DIR` writes
+them."""
 import os
 import random
 import sys

@@ -1,4 +1,5 @@
-"""The definitions of `specs/` and the lemmas of `proofs/`, and which of them each one uses, by the names in their texts.
+"""The definitions of `specs/` and the lemmas of `proofs/`, and which of them each one uses, by the names in their
+texts.
 
 A name counts as used where it occurs: as what a file imports, or as what the file itself defines. So nothing that is
 used is missed but what the language reads in without its name, and a local variable of the same name hides what is not.
@@ -143,8 +144,9 @@ def is_for_its_own_sake(file: File, it: Definition) -> bool:
 
 
 def unreached(files: List[File]) -> Iterator[Definition]:
-    """The definitions and lemmas that no code, no answer to a goal of code, and nothing that is for its own sake uses in
-    any way. Those whose name has holes are not looked at, since the language uses some of them without their names."""
+    """The definitions and lemmas that no code, no answer to a goal of code, and nothing that is for its own sake uses
+    in any way. Those whose name has holes are not looked at, since the language uses some of them without their
+    names."""
     places = {it: file for file in files for it in file.definitions}
     known: Known = {}
     for it in places:

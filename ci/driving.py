@@ -147,7 +147,8 @@ def ends_early() -> str:
 
 
 def takes_any_text() -> str:
-    """Characters that end lines elsewhere are a part of a text here; a carriage return right before a line feed is not."""
+    """Characters that end lines elsewhere are a part of a text here; a carriage return right before a line feed is
+    not."""
     text = "a\u2028b\u2029c\x85d\x0be\x0cf\x1cg"
     with Session() as s:
         replies = s.script("window 100 40\r\nadd root TextView match match\r\ntext v1 %s\nframe\n" % text)

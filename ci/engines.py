@@ -1,6 +1,6 @@
 """Tries the engines of farms over 2000 stored scripts: Bazel, GNU parallel over a server of SSH, and Slurm, each on
-this machine alone, where bazel-bootstrap, parallel with openssh-server, and slurm-wlm with munge of Debian are installed.
-What they start is ended. A part is killed in the middle, and in the end each case is reported once."""
+this machine alone, where bazel-bootstrap, parallel with openssh-server, and slurm-wlm with munge of Debian are
+installed. What they start is ended. A part is killed in the middle, and in the end each case is reported once."""
 import contextlib
 import getpass
 import os

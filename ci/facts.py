@@ -1,5 +1,5 @@
-"""Tries what tools say of the elements that made views. `aapt2` has made the APK of examples/trips/ of the sources beside it,
-so that what is said of the APK has to be what Python's reader of XML reads in these."""
+"""Tries what tools say of the elements that made views. `aapt2` has made the APK of examples/trips/ of the sources
+beside it, so that what is said of the APK has to be what Python's reader of XML reads in these."""
 import glob
 import json
 import os
@@ -60,8 +60,8 @@ def read(path: str) -> Dict[Tuple[int, int], Dict[str, str]]:
 
 
 def alike(text: str) -> object:
-    """A text in which what `aapt2` does not keep is left out: the order of flags, how a number is written, what makes an id
-    new, and the type of an attribute of the theme."""
+    """A text in which what `aapt2` does not keep is left out: the order of flags, how a number is written, what makes
+    an id new, and the type of an attribute of the theme."""
     plain = re.sub(r"^\?(android:)?attr/", r"?\1", text.replace("@+", "@").replace("\\'", "'"))
     try:
         return float(plain)
@@ -85,7 +85,8 @@ def own(it: Source) -> Dict[str, Attribute]:
 
 
 def of_the_apk() -> str:
-    """Lines and attributes of the compiled files are those of the sources, and so are columns where the sources are read."""
+    """Lines and attributes of the compiled files are those of the sources, and so are columns where the sources are
+    read."""
     for path in (os.path.join(TRIPS, "trips.apk"), TRIPS):
         count = 0
         for name, it in all_sources(path):
@@ -163,7 +164,8 @@ def of_lines() -> str:
 
 
 def of_files() -> str:
-    """A view of a layout file has the file, and after it the line that inflates it; a resource the value of its line."""
+    """A view of a layout file has the file, and after it the line that inflates it; a resource the value of its
+    line."""
     with place() as it:
         it.copy(os.path.join(EXAMPLES, "dimens.xml"))
         it.put("a.script", "window 9 9\nres @7f060006 dimen 40 px\nres @7f060002 dimen 30 dp\nres @7f06000f dimen 1 in\n"

@@ -1,6 +1,6 @@
-"""The table of lines of tools/vindaesk/scripts/grammar.py: it has the forms of docs/SCRIPT.md with their words and bounds, and
-finds no form, or a number outside its bounds, for exactly those lines that the program refuses for that. And what
-tools/check says by it."""
+"""The table of lines of tools/vindaesk/scripts/grammar.py: it has the forms of docs/SCRIPT.md with their words and
+bounds, and finds no form, or a number outside its bounds, for exactly those lines that the program refuses for that.
+And what tools/check says by it."""
 import functools
 import os
 import random

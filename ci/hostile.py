@@ -1,5 +1,5 @@
-"""Tries the readers of the tools over odd input: what is small and would take long, what is broken, and what was made at
-random, for some seconds each. Whatever they are given, they end with a sentence."""
+"""Tries the readers of the tools over odd input: what is small and would take long, what is broken, and what was made
+at random, for some seconds each. Whatever they are given, they end with a sentence."""
 import io
 import os
 import random

@@ -1,5 +1,5 @@
-"""Tries ci/checks itself, in a copy of it with a few small checks: what it says of each end, with pytest and without, and
-that nothing that it has started goes on after it."""
+"""Tries ci/checks itself, in a copy of it with a few small checks: what it says of each end, with pytest and without,
+and that nothing that it has started goes on after it."""
 import contextlib
 import os
 import shutil

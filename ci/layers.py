@@ -1,5 +1,5 @@
-"""The crates by layers: the table and the drawing of docs/ARCHITECTURE.md, made of crates.txt, ci/layers.txt and the first
-sentence of each root file. `ci/promises` writes them; the checks compare them with the sources."""
+"""The crates by layers: the table and the drawing of docs/ARCHITECTURE.md, made of crates.txt, ci/layers.txt and the
+first sentence of each root file. `ci/promises` writes them; the checks compare them with the sources."""
 import html
 import os
 import re

@@ -48,8 +48,8 @@ def sarif(it: Place, *words: str) -> Dict[str, Any]:
 
 
 def wrong_log(whole: Dict[str, Any]) -> str:
-    """Where a log is not as the standard has it: its form, and in each result the rule's place, and a URI, which has a base
-    that is known exactly if it is relative, and then leads nowhere above it."""
+    """Where a log is not as the standard has it: its form, and in each result the rule's place, and a URI, which has a
+    base that is known exactly if it is relative, and then leads nowhere above it."""
     why = sarif_form.unfit(whole, "sarifLog")
     (run,) = whole["runs"] if not why else [{"results": []}]
     for result in run["results"]:
@@ -148,7 +148,8 @@ def keeps_a_baseline() -> str:
 
 
 def passes_over() -> str:
-    """`tools:ignore` of an element holds in it too, by our names and by Android's; a comment is that of the next line."""
+    """`tools:ignore` of an element holds in it too, by our names and by Android's; a comment is that of the next
+    line."""
     with place() as it:
         it.put("a.script", FAULTS.replace("add v1 View 50", "# tools:ignore outside\nadd v1 View 50"))
         found = it.call("lint", "a.script", *ONLY)[1].decode()

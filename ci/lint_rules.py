@@ -1,5 +1,5 @@
-"""Tries each rule of tools/lint over the examples of tools/vindaesk/lint/rules.md: one in which it finds what is noted there,
-by line and column, and one in which it finds nothing. What is noted was worked out by hand from docs/LAYOUT.md,
+"""Tries each rule of tools/lint over the examples of tools/vindaesk/lint/rules.md: one in which it finds what is noted
+there, by line and column, and one in which it finds nothing. What is noted was worked out by hand from docs/LAYOUT.md,
 docs/PAINTING.md and docs/FOCUS.md; contrasts are those that WebAIM's checker says of these colours."""
 import os
 from functools import partial

@@ -155,8 +155,8 @@ IN_BROKEN = [
 
 
 def finds_broken_sources() -> str:
-    """What aapt or Android refuses in a source is an error, in a project and of a file by itself, which has no resources;
-    a view has the name of its element; and what is no XML has a place."""
+    """What aapt or Android refuses in a source is an error, in a project and of a file by itself, which has no
+    resources; a view has the name of its element; and what is no XML has a place."""
     with place() as it:
         for folder in ("res", "res/layout", "res/values"):
             os.mkdir(os.path.join(it.folder, folder))
@@ -200,8 +200,8 @@ def names_circles() -> str:
 
 
 def finds_once() -> str:
-    """What several scripts include is found once, where it is the same, and a line of it that is refused is said once; of a
-    script that includes it twice the second one is found too."""
+    """What several scripts include is found once, where it is the same, and a line of it that is refused is said once;
+    of a script that includes it twice the second one is found too."""
     start = "window %d 200\nadd root FrameLayout match match\n"
     with place() as it:
         it.put("row.lines", ROW)

@@ -1,5 +1,5 @@
-"""The package of tools as a Python project: each subpackage uses only those below it, and `mypy --strict` and `pyflakes`
-find nothing in it, nor in ci/."""
+"""The package of tools as a Python project: each subpackage uses only those below it, and `mypy --strict` and
+`pyflakes` find nothing in it, nor in ci/."""
 import ast
 import glob
 import os

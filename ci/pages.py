@@ -1,4 +1,5 @@
-"""The blocks of README.md, docs/ and ci/worked/, each of which is run, so that no page says what the program does not do.
+"""The blocks of README.md, docs/ and ci/worked/, each of which is run, so that no page says what the program does not
+do.
 
 A block is between two lines of three backticks, the first of which names its form:
 

@@ -1,5 +1,5 @@
-"""The pictures of examples/: each has the digest that the program writes of the last frame of its script. A picture with a
-file NAME.stack, which is a script for a stack of windows, has the colours that the program composes."""
+"""The pictures of examples/: each has the digest that the program writes of the last frame of its script. A picture
+with a file NAME.stack, which is a script for a stack of windows, has the colours that the program composes."""
 import glob
 import hashlib
 import os

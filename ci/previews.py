@@ -203,8 +203,8 @@ def findings_are_those_of_lint() -> str:
 
 
 def places_are_those_of_the_source() -> str:
-    """Of a source with a list of ids a class that the program has not is at its element; a night without values has no empty
-    place."""
+    """Of a source with a list of ids a class that the program has not is at its element; a night without values has no
+    empty place."""
     with place() as it:
         it.put("ids.txt", "")
         it.put("a.xml", SOURCE.replace("<TextView", "<Button"))
@@ -228,8 +228,8 @@ def source_of(count: int, text: str = "item") -> str:
 
 
 def single_sources_are_those_of_app() -> str:
-    """A source in no project is made as the layout of an app: it has the picture of one in `res/layout`, the places of its
-    own file, and the findings of lint."""
+    """A source in no project is made as the layout of an app: it has the picture of one in `res/layout`, the places of
+    its own file, and the findings of lint."""
     text = SOURCE.replace("<TextView", "<Button").replace("8dp", "@dimen/none")
     with place() as it:
         os.makedirs(os.path.join(it.folder, "app", "res", "layout"))
@@ -250,8 +250,8 @@ def single_sources_are_those_of_app() -> str:
 
 
 def changes_come_in_time() -> str:
-    """From a saved file to the picture of 200 views, of a script and of a layout of an app; and files are looked at often
-    enough for that."""
+    """From a saved file to the picture of 200 views, of a script and of a layout of an app; and files are looked at
+    often enough for that."""
     if watcher.PAUSE > MOST / 5:
         return "between two looks at the files there are %g s" % watcher.PAUSE
     with place() as it:
@@ -674,7 +674,8 @@ def shows() -> str:
 
 
 def says_why_there_is_no_picture() -> str:
-    """A script without a frame: the page and the tiles say why, and no button is for what is not there; then it comes."""
+    """A script without a frame: the page and the tiles say why, and no button is for what is not there; then it
+    comes."""
     if not chromium.COMMAND:
         raise Skipped("chromium")
     why = "no frame came after the last window"

@@ -57,7 +57,8 @@ def end(mark: bytes) -> None:
 
 def status_of(command: Sequence[str]) -> int:
     """The status of a command; where a signal ends this process meanwhile, it ends all first."""
-    # a shell has commands in the background ignore interrupts, `nohup` has them ignore hang-ups, and what they start too
+    # a shell has commands in the background ignore interrupts, `nohup` has them ignore hang-ups, and what they start
+    # too
     for number in ENDING:
         signal.signal(number, take)
     mark = "%d-%d" % (os.getpid(), time.time_ns())

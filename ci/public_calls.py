@@ -37,7 +37,8 @@ class Call:
 
 @dataclass
 class Item:
-    """What a crate exports: a function, or a type with its invariants and calls. `path` and `line` are where it is declared."""
+    """What a crate exports: a function, or a type with its invariants and calls. `path` and `line` are where it is
+    declared."""
     name: str
     path: str
     line: int

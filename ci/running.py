@@ -1,5 +1,5 @@
-"""What checks have in common: a check is a function that returns why it fails, or nothing, and raises `Skipped` where it
-cannot be tried here. Whoever imports this finds the package of tools/ too."""
+"""What checks have in common: a check is a function that returns why it fails, or nothing, and raises `Skipped` where
+it cannot be tried here. Whoever imports this finds the package of tools/ too."""
 import os
 import shutil
 import signal
@@ -81,8 +81,8 @@ def unknown_word(words: Sequence[str], names: Sequence[str], command: str) -> No
 
 
 def run(command: Sequence[Word], given: bytes, folder: str) -> Tuple[bytes, int]:
-    """What a command writes over the given bytes, and its status: below 0 for a signal, as `subprocess` has it. Where it
-    takes too long it ends with all that it has started."""
+    """What a command writes over the given bytes, and its status: below 0 for a signal, as `subprocess` has it. Where
+    it takes too long it ends with all that it has started."""
     with subprocess.Popen(
         command, stdin=subprocess.PIPE, stdout=subprocess.PIPE, stderr=subprocess.DEVNULL, cwd=folder, start_new_session=True
     ) as started:

@@ -1,5 +1,5 @@
-"""The objects of SARIF 2.1.0 that tools/lint writes, by the standard (OASIS, 2020): for each section the properties that an
-object may have, those that it has to have, and what their values are.
+"""The objects of SARIF 2.1.0 that tools/lint writes, by the standard (OASIS, 2020): for each section the properties
+that an object may have, those that it has to have, and what their values are.
 
 A value is a type of JSON, a tuple of the words that are allowed, the name of another object, or a list of one of these.
 """
@@ -10,8 +10,8 @@ LEVEL = ("none", "note", "warning", "error")
 
 
 class Form(NamedTuple):
-    """An object: its section, the properties that it has to have, those of which the values are known, and others that it may
-    have."""
+    """An object: its section, the properties that it has to have, those of which the values are known, and others that
+    it may have."""
 
     section: str
     required: FrozenSet[str]

@@ -1,5 +1,5 @@
-"""Misspelled words in pages, comments, messages and names, as `codespell` finds them. spelling.txt has words that are right
-here, also wrong ones that checks need."""
+"""Misspelled words in pages, comments, messages and names, as `codespell` finds them. spelling.txt has words that are
+right here, also wrong ones that checks need."""
 import os
 import subprocess
 import tempfile

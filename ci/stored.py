@@ -1,5 +1,6 @@
-"""The case folders below those that the variable VINDAESK_CASES names, joined by `:`. A case folder has the files `args`
-(one word a line), `stdin`, `stdout` and `status`, and beside them the layout files that are where the program runs."""
+"""The case folders below those that the variable VINDAESK_CASES names, joined by `:`. A case folder has the files
+`args` (one word a line), `stdin`, `stdout` and `status`, and beside them the layout files that are where the program
+runs."""
 import os
 import tempfile
 from functools import partial

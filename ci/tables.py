@@ -1,8 +1,9 @@
-"""The resource tables of examples/app/: each resource has the line that follows from what other tools print of the table.
+"""The resource tables of examples/app/: each resource has the line that follows from what other tools print of the
+table.
 
-NAME.dump beside NAME.arsc is what `aapt dump --values resources` has printed: for each configuration the type and the word
-of each resource, or that it is complex. Lines are worked out from what is under `config (default)`, through sixteen
-references. All resources of the table are looked up, also those without a default, and one id more.
+NAME.dump beside NAME.arsc is what `aapt dump --values resources` has printed: for each configuration the type and the
+word of each resource, or that it is complex. Lines are worked out from what is under `config (default)`, through
+sixteen references. All resources of the table are looked up, also those without a default, and one id more.
 """
 import glob
 import os

@@ -1,5 +1,5 @@
-"""The unit tests of ci/tests/ where pytest is not there: functions `test_*` without arguments, or with `tmp_path` alone,
-which is an empty folder. pytest collects the same files by itself."""
+"""The unit tests of ci/tests/ where pytest is not there: functions `test_*` without arguments, or with `tmp_path`
+alone, which is an empty folder. pytest collects the same files by itself."""
 import ast
 import glob
 import importlib.util

@@ -79,7 +79,8 @@ def test_nodes_of_a_source() -> None:
 
 
 def test_order_of_attributes() -> None:
-    """By the numbers that Android's attributes have: id 010100d0, text 0101014f, layout_width 010100f4; then the others."""
+    """By the numbers that Android's attributes have: id 010100d0, text 0101014f, layout_width 010100f4; then the
+    others."""
     source = '<a xmlns:android="%s" z="1" android:text="t" b="2" android:layout_width="1px" android:id="@+id/i"/>' % ANDROID
     element = documents.starts(nodes_of(source))[0]
     assert [it.name for it in element.attributes] == ["id", "layout_width", "text", "b", "z"]

@@ -1,5 +1,5 @@
-"""Words of dimensions, taken apart. A word is as `android.util.TypedValue` has it: COMPLEX_MANTISSA_SHIFT is 8, the radix
-23p0, 16p7, 8p15 or 0p23 is at bit 4, and the units PX, DIP, SP, PT, IN, MM are 0 to 5."""
+"""Words of dimensions, taken apart. A word is as `android.util.TypedValue` has it: COMPLEX_MANTISSA_SHIFT is 8, the
+radix 23p0, 16p7, 8p15 or 0p23 is at bit 4, and the units PX, DIP, SP, PT, IN, MM are 0 to 5."""
 from vindaesk.layouts import dimensions
 
 # the word, the number and the unit: `aapt2 link` made these words of `16dp`, `-3.25dp` and others

@@ -32,8 +32,8 @@ def pillow() -> Any:
 
 
 def test_each_filter() -> None:
-    """Two lines of two pixels by each filter, worked out by hand (PNG, 9.2): 10 20 30 and 13 25 37 above 16 30 44 and 19
-    35 51."""
+    """Two lines of two pixels by each filter, worked out by hand (PNG, 9.2): 10 20 30 and 13 25 37 above 16 30 44 and
+    19 35 51."""
     above = bytes([0, 10, 20, 30, 13, 25, 37])
     below = {
         0: [16, 30, 44, 19, 35, 51], 1: [16, 30, 44, 3, 5, 7], 2: [6, 10, 14, 6, 10, 14], 3: [11, 20, 29, 5, 8, 11],

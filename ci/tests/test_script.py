@@ -1,5 +1,5 @@
-"""Lines of scripts as docs/SCRIPT.md has them: up to a line feed, words parted by spaces, a line with # first passed over,
-one of more than 1024 bytes refused."""
+"""Lines of scripts as docs/SCRIPT.md has them: up to a line feed, words parted by spaces, a line with # first passed
+over, one of more than 1024 bytes refused."""
 import pathlib
 
 from vindaesk.common.failures import Failure

@@ -1,5 +1,5 @@
-"""What becomes of a name of Android that the program has no rule for: by the tables of docs/COMING-FROM-ANDROID.md, the table
-of classes, and the names of Android's attributes."""
+"""What becomes of a name of Android that the program has no rule for: by the tables of docs/COMING-FROM-ANDROID.md, the
+table of classes, and the names of Android's attributes."""
 import os
 import re
 from typing import Iterator, List

@@ -200,7 +200,8 @@ def of_webp(data: bytes) -> Optional[Bitmap]:
 
 
 def read(data: bytes, is_nine_patch_source: bool = False, has_colour: bool = True) -> Optional[Bitmap]:
-    """The bitmap of a file, with its colour where that is asked for; nothing where it is of no known form, or broken."""
+    """The bitmap of a file, with its colour where that is asked for; nothing where it is of no known form, or
+    broken."""
     try:
         if data.startswith(chunks.SIGNATURE):
             return of_nine_patch_source(data) if is_nine_patch_source else of_png(data, has_colour)

@@ -23,8 +23,8 @@ MAX_ATTRIBUTES = 1024
 class Element:
     """An element. Its attributes have keys as `android:text`, `app:srcCompat`, `tools:text`, or `style` where they
     have no namespace. Lines and columns count from 1; a column is 0 in a compiled file, which has none. Of a source,
-    `written` are the texts of its attributes, `bound` those with a value by data binding, `unbound` those without a default,
-    and the text is kept where it is asked for."""
+    `written` are the texts of its attributes, `bound` those with a value by data binding, `unbound` those without a
+    default, and the text is kept where it is asked for."""
 
     name: str
     line: int

@@ -44,8 +44,8 @@ class Record:
     """The row of an element: its name, its file, and its line and column there, 0 where the file has none; the keys
     of its attributes; the class that it became, its view's number and those of views that were added for it; the row
     of the table by which it was mapped; of a ConstraintLayout the window for which it is
-    solved, in pixels. For lint: the texts of its attributes in a source, what an `include` gives over them, the values that
-    it has by them and by styles, the elements that include its file, from the innermost, and the rules that
+    solved, in pixels. For lint: the texts of its attributes in a source, what an `include` gives over them, the values
+    that it has by them and by styles, the elements that include its file, from the innermost, and the rules that
     `tools:ignore` names."""
 
     element: str

@@ -1,5 +1,5 @@
-"""The elements that made the views of a layout of an app, with all their attributes: as they are written, and as they are
-resolved through resources, styles and the theme."""
+"""The elements that made the views of a layout of an app, with all their attributes: as they are written, and as they
+are resolved through resources, styles and the theme."""
 from typing import Dict, List, Optional, Tuple
 
 from ..common.failures import Failure

@@ -40,7 +40,8 @@ class Found(NamedTuple):
 
 class Lookup:
     """Finds the numbers of attributes, and styles, in the resources of an app; each is looked for once. If a
-    library of the theme is not there, `stand_ins` are its attributes that lead to those of Android, with their names."""
+    library of the theme is not there, `stand_ins` are its attributes that lead to those of Android, with their
+    names."""
 
     def __init__(self, resources: Resources, lacks_library: bool = False, stand_ins: Optional[Dict[int, str]] = None):
         self.resources = resources

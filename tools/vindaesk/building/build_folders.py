@@ -1,9 +1,9 @@
 """Rooms: folders in which crates are built side by side.
 
 The toolchain's `rt` locks the folders of a crate and of all that it uses, so that in one checkout crates that use the
-same one are built in turn. A room is a checkout in which one crate is built at a time: the sources of it and of all that
-it uses, their libraries, and the crate's own out/, which is put back when it has been built. Rooms are used again, since
-most of what a crate uses others use too.
+same one are built in turn. A room is a checkout in which one crate is built at a time: the sources of it and of all
+that it uses, their libraries, and the crate's own out/, which is put back when it has been built. Rooms are used again,
+since most of what a crate uses others use too.
 """
 import contextlib
 import fcntl
@@ -69,8 +69,8 @@ def locked(folders: Iterable[str], pause: Callable[[], None]) -> Iterator[None]:
 
 
 def place_for(top: str) -> str:
-    """Where the rooms of a checkout are: outside of it, since `rt` refuses sources that are there twice, and on its disk
-    where that can be. It is the same place each time, so that what a build left that was killed is found again."""
+    """Where the rooms of a checkout are: outside of it, since `rt` refuses sources that are there twice, and on its
+    disk where that can be. It is the same place each time, so that what a build left that was killed is found again."""
     disk = os.stat(top).st_dev
     places = [tempfile.gettempdir(), os.path.dirname(top)]
     fit = [it for it in places if os.stat(it).st_dev == disk and os.access(it, os.W_OK)]
@@ -107,7 +107,8 @@ class Rooms:
             remove(os.path.join(self.place, room))
 
     def enter(self, crate: Crate, used: List[Crate]) -> str:
-        """Makes a room ready for a crate and the libraries of all that it uses, and returns the folder to build it in."""
+        """Makes a room ready for a crate and the libraries of all that it uses, and returns the folder to build it
+        in."""
         if not self.empty:
             self.empty.append(tempfile.mkdtemp(dir=self.place))
         room = self.taken[crate.name] = self.empty.pop()

@@ -6,9 +6,9 @@
     FOLDER/lib/libvindaesk.a, libvindaesk.so, libvindaesk.so.0
     FOLDER/lib/pkgconfig/vindaesk.pc
 
-Both libraries have the one object of the crate, the one of the kit that asks the C library for memory and what these need
-of libgcc, and show no symbol but those of the header. The kit's own tools make them, so that they are the same bytes wherever that is done.
-Crates that are not built yet are proved first.
+Both libraries have the one object of the crate, the one of the kit that asks the C library for memory and what these
+need of libgcc, and show no symbol but those of the header. The kit's own tools make them, so that they are the same
+bytes wherever that is done. Crates that are not built yet are proved first.
 """
 import functools
 import os

@@ -7,8 +7,8 @@ are put in place, and each class becomes one of the six that the program has; do
 Without --out, --picture and so on it prints how many views are exact, and with --report what is not. --out writes for
 each layout NAME.xml, compiled, and NAME.script, and for all of them ids.txt and app.json.
 
-The status is 1 where a layout cannot be made, or with --strict where a view is not exact, or where --lint finds something; the others are made all
-the same. It is 2 where the app cannot be read; then nothing is written."""
+The status is 1 where a layout cannot be made, or with --strict where a view is not exact, or where --lint finds
+something; the others are made all the same. It is 2 where the app cannot be read; then nothing is written."""
 import argparse
 import json
 from typing import List, Optional, Sequence, Tuple

@@ -25,8 +25,8 @@ class ShowVersion(argparse.Action):
 
 
 class Formatter(argparse.RawDescriptionHelpFormatter):
-    """Writes a docstring as it is. argparse makes one for each argument that is added, and loads `shutil` for the width of
-    the terminal, which takes a tenth of a start."""
+    """Writes a docstring as it is. argparse makes one for each argument that is added, and loads `shutil` for the width
+    of the terminal, which takes a tenth of a start."""
 
     def __init__(self, prog: str, **others: Any):
         super().__init__(prog, **{"width": columns() - 2, **others})

@@ -1,6 +1,6 @@
 """What a refusal or a fault means, by its number or its name; or a line, by its first word; or an attribute of a layout
-file; or a rule of lint, by its name or Android's; or what becomes of a class or an attribute of Android that the program
-does not take. Without a word, all that can be explained is listed, except names of Android.
+file; or a rule of lint, by its name or Android's; or what becomes of a class or an attribute of Android that the
+program does not take. Without a word, all that can be explained is listed, except names of Android.
 
 The status is 0, or 2 where a word means nothing.
 """
@@ -26,7 +26,8 @@ def reader() -> argparse.ArgumentParser:
 
 
 def explained(tables: explanations.Tables, word: str) -> str:
-    """What there is to say of a word; nothing where it means nothing. What names of Android need is loaded for these alone."""
+    """What there is to say of a word; nothing where it means nothing. What names of Android need is loaded for these
+    alone."""
     found = explanations.explained(tables, word) or sections.explained(word)
     if found:
         return found

@@ -1,8 +1,8 @@
 """A language server for editors, over standard input and output.
 
-It has the messages of `check` for scripts (.script, .lines, .stack) and those of `axml` for the sources of layouts (.xml);
-explanations of lines, words and attributes; completion of lines, views, ids, files, attributes and values; the places of
-views and resources; and an outline. docs/EDITORS.md says how editors start it.
+It has the messages of `check` for scripts (.script, .lines, .stack) and those of `axml` for the sources of layouts
+(.xml); explanations of lines, words and attributes; completion of lines, views, ids, files, attributes and values; the
+places of views and resources; and an outline. docs/EDITORS.md says how editors start it.
 
 The status is 0 where the editor has ended it by `shutdown` and `exit`, and 1 where it ended without.
 """

@@ -2,12 +2,12 @@
 their parents, constraints without effect, and what Android's lint finds in sources.
 
 PATH is a script; a layout, compiled or as a source; an app as tools/app takes it, of which --layout names layouts; or a
-folder of scripts and layouts. A finding is a line FILE:LINE:COLUMN: severity rule: sentence, with the configurations in which it
-holds in parentheses. --density, --width, --night and --rtl lay all out in each combination.
+folder of scripts and layouts. A finding is a line FILE:LINE:COLUMN: severity rule: sentence, with the configurations in
+which it holds in parentheses. --density, --width, --night and --rtl lay all out in each combination.
 
---list prints the rules, and --explain RULE what one means, with an example in which it finds something and one in which it
-finds nothing. --rules adds rules of your own; docs/LINT.md shows how to write one. `tools:ignore` in a source
-has a rule passed over at an element and in it, and so has a comment `# tools:ignore RULE` before a line of a script.
+--list prints the rules, and --explain RULE what one means, with an example in which it finds something and one in which
+it finds nothing. --rules adds rules of your own; docs/LINT.md shows how to write one. `tools:ignore` in a source has a
+rule passed over at an element and in it, and so has a comment `# tools:ignore RULE` before a line of a script.
 
 The status is 0 where nothing is found, and 1 where something is, or a line of a script is refused, or something has no
 layout that can be looked at; refused lines are reported on standard error.

@@ -1,5 +1,5 @@
-"""What the paths of a call of lint mean. A path may mean many layouts; each is a unit, which is looked at by itself, in a
-process of its own where there are many."""
+"""What the paths of a call of lint mean. A path may mean many layouts; each is a unit, which is looked at by itself, in
+a process of its own where there are many."""
 import argparse
 import contextlib
 import difflib

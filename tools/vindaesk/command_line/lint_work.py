@@ -22,8 +22,8 @@ VIEW = re.compile(r"\bv[0-9]+\b")
 
 
 class Outcome(NamedTuple):
-    """How a unit ended: what was found, the status, what was said on standard error, and why it could not be looked at, or
-    which of its lines were refused."""
+    """How a unit ended: what was found, the status, what was said on standard error, and why it could not be looked at,
+    or which of its lines were refused."""
 
     found: List[Finding]
     status: int

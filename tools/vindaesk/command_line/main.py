@@ -42,7 +42,8 @@ def run() -> NoReturn:
 
 
 def leave(status: int) -> NoReturn:
-    """Ends the process at once: what Python does at its end takes some milliseconds, and nothing is left to be written."""
+    """Ends the process at once: what Python does at its end takes some milliseconds, and nothing is left to be
+    written."""
     try:
         sys.stderr.flush()
     except OSError:

@@ -45,7 +45,8 @@ Work = Callable[[Input], int]
 
 
 def add(found: argparse.ArgumentParser, out: str = "") -> None:
-    """The arguments of a tool that takes many scripts. `out` is what --out DIR gets of each; without it there is none."""
+    """The arguments of a tool that takes many scripts. `out` is what --out DIR gets of each; without it there is
+    none."""
     found.add_argument("scripts", metavar="SCRIPT", nargs="+",
                        help="a script, - for standard input, or a folder: the scripts in it and in those below")
     arguments.add_of_script(found)

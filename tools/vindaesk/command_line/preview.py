@@ -5,8 +5,8 @@ the layout. The source of a layout in a folder `res/layout` is shown as one of t
 only layout of an app; with --ids, or ids.txt or resources.lines beside it, as the program alone takes it.
 
 The page has the picture in several configurations, the views with their facts, what lint finds, and touches by the
-mouse. It is at 127.0.0.1 alone, at an address with a random key, which is printed. With --write a value that is edited in
-the page is written back to its file. Ctrl-C ends it, with the status 0.
+mouse. It is at 127.0.0.1 alone, at an address with a random key, which is printed. With --write a value that is edited
+in the page is written back to its file. Ctrl-C ends it, with the status 0.
 """
 import argparse
 import webbrowser

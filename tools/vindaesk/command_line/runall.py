@@ -163,8 +163,8 @@ def tasks_of(given: argparse.Namespace, mine: List[Case]) -> List[Task]:
 
 
 class Texts:
-    """Writes how cases went: as they end; where answers are accepted in the order of the cases, so that two calls print the
-    same."""
+    """Writes how cases went: as they end; where answers are accepted in the order of the cases, so that two calls print
+    the same."""
 
     def __init__(self, whole: Suite, is_ordered: bool, line: progress.Line):
         self.line = line

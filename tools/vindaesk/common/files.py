@@ -30,8 +30,8 @@ def read(path: str, limit: int = MAX_BYTES) -> bytes:
 
 
 def created(folder: str, start: str) -> Tuple[int, str]:
-    """A new file of a folder, whose name begins so and was that of no file: opened for writing, and its path. `tempfile`
-    does the same, but takes as long to be loaded as a small script takes to be run."""
+    """A new file of a folder, whose name begins so and was that of no file: opened for writing, and its path.
+    `tempfile` does the same, but takes as long to be loaded as a small script takes to be run."""
     while True:
         path = os.path.join(folder, start + os.urandom(6).hex())
         try:

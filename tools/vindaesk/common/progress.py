@@ -60,8 +60,8 @@ def clear() -> None:
 
 
 def counted(things: Iterable[T], of: int, what: str, line: Optional[Line] = None) -> Iterator[T]:
-    """Things as they come, with a line of how many of them there were, from the third second on. `what` is what they are,
-    as `frames`."""
+    """Things as they come, with a line of how many of them there were, from the third second on. `what` is what they
+    are, as `frames`."""
     line = line or Line()
     begun = shown = time.monotonic()
     # of several threads the one that waits for them shows a line

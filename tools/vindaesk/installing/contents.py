@@ -113,8 +113,8 @@ def beside(program: str, name: str) -> str:
 
 
 def for_c(program: str) -> Contents:
-    """What programs in C are compiled with, below a prefix that has lib/vindaesk too, where the libraries are beside the
-    program."""
+    """What programs in C are compiled with, below a prefix that has lib/vindaesk too, where the libraries are beside
+    the program."""
     if not all(os.path.exists(beside(program, it)) for it in (ARCHIVE, LIBRARY_OF_C)):
         return {}
     description = files.read(os.path.join(TOP, DESCRIPTION))

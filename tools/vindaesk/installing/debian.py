@@ -101,7 +101,8 @@ def documents(date: int) -> Contents:
 
 
 def of_machine(for_c: Contents) -> Contents:
-    """The files for programs in C, with what `pkg-config` reads in the folder of this kind of machine, as Debian has it."""
+    """The files for programs in C, with what `pkg-config` reads in the folder of this kind of machine, as Debian has
+    it."""
     found = dict(for_c)
     described = found.pop(DESCRIPTION, None)
     if described:

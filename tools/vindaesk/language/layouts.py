@@ -225,7 +225,8 @@ def at(text: Text, found: Analysis, number: int, place: int) -> Optional[At]:
 
 
 def definitions(text: Text, found: Analysis, number: int, place: int) -> Iterator[Json]:
-    """Where the resource is that a value names: in the project, in this source, in resources.lines, in the list of ids."""
+    """Where the resource is that a value names: in the project, in this source, in resources.lines, in the list of
+    ids."""
     there = at(text, found, number, place)
     named = symbols.NAME.fullmatch(there.value) if there and there.value else None
     if there is None or there.value is None or not there.value.startswith("@"):

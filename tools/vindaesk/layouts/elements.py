@@ -7,8 +7,8 @@ from .documents import ANDROID, DIMENSION, NULL, REFERENCE, End, Node, Start, Va
 
 
 class Element(NamedTuple):
-    """An element: the place of the one around it, the last part of its name, its attributes of Android, its whole name, and
-    its line in the source."""
+    """An element: the place of the one around it, the last part of its name, its attributes of Android, its whole name,
+    and its line in the source."""
 
     parent: Optional[int]
     name: str

@@ -34,9 +34,9 @@ NO_XML = re.compile(
 
 
 class ScreenSubject(Subject):
-    """A layout of an app that was made for a device. `shown` is the path of the app as findings have it, empty where they
-    have the paths in the app; `as_file` of a single source the path that is meant by the file in the app; `files` those
-    of the app, where resources that they lack are to be found."""
+    """A layout of an app that was made for a device. `shown` is the path of the app as findings have it, empty where
+    they have the paths in the app; `as_file` of a single source the path that is meant by the file in the app; `files`
+    those of the app, where resources that they lack are to be found."""
 
     def __init__(
         self, screen: Screen, shown: str = "", as_file: Optional[str] = None, files: Optional[AppFiles] = None

@@ -1,6 +1,6 @@
-"""A baseline: the findings that a project has already, so that only new ones are reported. Each entry is a rule, a file and
-a view by a name that edits elsewhere do not change, with how often it is found; lines and numbers are in none. Paths start
-from the folder of the baseline."""
+"""A baseline: the findings that a project has already, so that only new ones are reported. Each entry is a rule, a file
+and a view by a name that edits elsewhere do not change, with how often it is found; lines and numbers are in none.
+Paths start from the folder of the baseline."""
 import json
 import os
 import posixpath

@@ -21,8 +21,8 @@ def cycle(it: Seen, page: Page) -> Iterator[str]:
 
 
 def found_in(laid: Laid, subject: Subject) -> Iterator[Finding]:
-    """The cycles for which lines were refused. What is in one is named as the program does: `vN` for a view, and `eN` for
-    the N-th element of the file."""
+    """The cycles for which lines were refused. What is in one is named as the program does: `vN` for a view, and `eN`
+    for the N-th element of the file."""
     for number, refusal in laid.cycles.items():
         members = [(kind.decode(), int(at)) for kind, at in MEMBER.findall(refusal.text)]
         axis = AXIS.search(refusal.text)

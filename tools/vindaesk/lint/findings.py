@@ -38,8 +38,8 @@ class Finding(NamedTuple):
 
 
 def stable_name(view: View) -> str:
-    """A name of a view that an edit elsewhere does not change: its class with its id, else the way to it from the nearest
-    view with an id, or from the root: `@id/list LinearLayout[2] TextView[1]`."""
+    """A name of a view that an edit elsewhere does not change: its class with its id, else the way to it from the
+    nearest view with an id, or from the root: `@id/list LinearLayout[2] TextView[1]`."""
     if view.id:
         return "%s %s" % (view.kind, view.id_name or "@%x" % view.id)
     if view.parent is None:

@@ -32,8 +32,8 @@ def failed_case(suite: Element, number: int, why: str) -> None:
 
 
 def written(found: Sequence[Finding], rules: Rules, failed: Sequence[str] = ()) -> str:
-    """A report in the form of JUnit: each rule with each file in which it finds something is a test that fails, each rule
-    that finds nothing one that passes, and what could not be looked at an error."""
+    """A report in the form of JUnit: each rule with each file in which it finds something is a test that fails, each
+    rule that finds nothing one that passes, and what could not be looked at an error."""
     by_rule: Dict[str, Dict[str, List[Finding]]] = {name: {} for name in rules}
     for it in found:
         by_rule[it.rule].setdefault(it.place.file, []).append(it)

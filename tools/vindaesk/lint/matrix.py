@@ -8,9 +8,9 @@ RTL = "rtl"
 
 
 class Configuration(NamedTuple):
-    """A configuration: the density in dots an inch, and the width of the window in dp, None where they are the subject's
-    own; whether it is night; the direction, empty where it is the subject's own; and of an app further qualifiers of the
-    device, as `de-land`."""
+    """A configuration: the density in dots an inch, and the width of the window in dp, None where they are the
+    subject's own; whether it is night; the direction, empty where it is the subject's own; and of an app further
+    qualifiers of the device, as `de-land`."""
 
     density: Optional[int] = None
     width: Optional[int] = None

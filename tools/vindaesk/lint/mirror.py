@@ -8,8 +8,8 @@ from .asking import FRAMES, Run
 
 
 def mirrored(run: Run, placed: List[Placed]) -> Dict[int, Placed]:
-    """The views where the root runs from right to left, or from left to right if it ran the other way, by their numbers;
-    none where no frame settles there."""
+    """The views where the root runs from right to left, or from left to right if it ran the other way, by their
+    numbers; none where no frame settles there."""
     if not placed:
         return {}
     root = placed[0].view

@@ -1,5 +1,5 @@
-"""All that rules may ask of what is laid out in one configuration. What takes another run of the program is asked when a
-rule first needs it."""
+"""All that rules may ask of what is laid out in one configuration. What takes another run of the program is asked when
+a rule first needs it."""
 import math
 from functools import cached_property
 from typing import Dict, FrozenSet, List, Optional, Tuple

@@ -1,7 +1,7 @@
 """What the pixels of a frame say: they are the program's, of the same tree in other colours.
 
-Colours change no bounds. So after the script, backgrounds and inks get colours that count or name views, and the program
-paints: `#01ff0000` over black adds one to the red of a pixel each time, up to 127 times.
+Colours change no bounds. So after the script, backgrounds and inks get colours that count or name views, and the
+program paints: `#01ff0000` over black adds one to the red of a pixel each time, up to 127 times.
 """
 from typing import Callable, Dict, Iterator, List, NamedTuple, Optional, Tuple
 
@@ -102,7 +102,8 @@ def rows_of(answer: Answer) -> List[bytes]:
 
 
 def painted(run: Run, placed: List[Placed], window: Window) -> Optional[Painted]:
-    """What the pixels say; None where lines after the last frame would change the picture, or a background is unknown."""
+    """What the pixels say; None where lines after the last frame would change the picture, or a background is
+    unknown."""
     if any(it.view.background is None for it in placed):
         return None
     asked = frames.asked(window)

@@ -54,7 +54,8 @@ def contrast(it: Seen, page: Page) -> Iterator[str]:
 
 @rule("overdraw", Severity.WARNING, "Overdraw")
 def overdraw(it: Seen, page: Page) -> Iterator[str]:
-    """A pixel is filled at most twice: where this view is the last that fills it, at most 5 % of the window are more."""
+    """A pixel is filled at most twice: where this view is the last that fills it, at most 5 % of the window are
+    more."""
     found = page.painted.filled.get(it.view.number) if page.painted else None
     if not found:
         return

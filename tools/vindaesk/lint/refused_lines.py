@@ -1,5 +1,5 @@
-"""Which lines of a script are refused: where, and why. Of a layout file, which element and attribute of it. What says why is
-loaded where a line is refused, since that takes half of a start."""
+"""Which lines of a script are refused: where, and why. Of a layout file, which element and attribute of it. What says
+why is loaded where a line is refused, since that takes half of a start."""
 from __future__ import annotations
 
 from typing import TYPE_CHECKING, Iterator, List, NamedTuple, Optional
@@ -20,8 +20,8 @@ SETTINGS = (b"dpi", b"res")
 
 
 class Finding(NamedTuple):
-    """A line that is refused: its file and number, the column of the word that is meant, both from 1, number and name of
-    the refusal, and why."""
+    """A line that is refused: its file and number, the column of the word that is meant, both from 1, number and name
+    of the refusal, and why."""
 
     file: str
     line: int

@@ -27,8 +27,8 @@ class Severity(IntEnum):
 
 
 class Rule(NamedTuple):
-    """A rule: its name, the function that yields a sentence for each finding at a view, the ids that Android's tools have
-    for it, and whether it goes by bounds, which may not be exact."""
+    """A rule: its name, the function that yields a sentence for each finding at a view, the ids that Android's tools
+    have for it, and whether it goes by bounds, which may not be exact."""
 
     name: str
     function: Function

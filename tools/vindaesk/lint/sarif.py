@@ -1,4 +1,5 @@
-"""Findings as SARIF 2.1.0 (OASIS), the form that code hosts and editors read. Section numbers are those of the standard."""
+"""Findings as SARIF 2.1.0 (OASIS), the form that code hosts and editors read. Section numbers are those of the
+standard."""
 import hashlib
 import json
 import os

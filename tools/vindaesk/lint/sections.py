@@ -1,5 +1,6 @@
-"""What each rule of lint means, with an example in which it finds something and one in which it finds nothing: the sections
-of rules.md, which ci/lint_rules.py tries. Read without the rules themselves, which take longer to be loaded."""
+"""What each rule of lint means, with an example in which it finds something and one in which it finds nothing: the
+sections of rules.md, which ci/lint_rules.py tries. Read without the rules themselves, which take longer to be
+loaded."""
 import os
 import re
 from typing import Dict, List, NamedTuple, Tuple
@@ -16,9 +17,9 @@ Files = Dict[str, str]
 
 
 class Section(NamedTuple):
-    """A rule's section: its name, the line with its severity and Android's names, these names, what it means; an example
-    in which it finds something, with what it finds, and the files that differ in one in which it finds nothing; and the
-    lines as they are printed."""
+    """A rule's section: its name, the line with its severity and Android's names, these names, what it means; an
+    example in which it finds something, with what it finds, and the files that differ in one in which it finds nothing;
+    and the lines as they are printed."""
 
     name: str
     weight: str

@@ -1,5 +1,5 @@
-"""What is broken in sources of layouts, by the report of how they were made: values that do not fit, sizes and resources
-that are missing. Only what an element itself writes counts: what a style of a library has is not known."""
+"""What is broken in sources of layouts, by the report of how they were made: values that do not fit, sizes and
+resources that are missing. Only what an element itself writes counts: what a style of a library has is not known."""
 from typing import FrozenSet, Iterator, List, NamedTuple, Tuple
 
 from ..apps import boxes, draft

@@ -1,5 +1,5 @@
-"""What is linted: a script, or a compiled layout; app_subjects.py has layouts of apps. Each is laid out in one configuration
-after the other."""
+"""What is linted: a script, or a compiled layout; app_subjects.py has layouts of apps. Each is laid out in one
+configuration after the other."""
 import contextlib
 import os
 import tempfile
@@ -23,8 +23,8 @@ CYCLE = 18
 
 class Laid(NamedTuple):
     """A subject in a configuration: the page, none where the tree was refused; the name of the configuration; what was
-    refused for a cycle, by the number of its line; the sources of views that are known without lines; and what is broken
-    in sources."""
+    refused for a cycle, by the number of its line; the sources of views that are known without lines; and what is
+    broken in sources."""
 
     page: Optional[Page]
     name: str

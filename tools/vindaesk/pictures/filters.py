@@ -1,7 +1,7 @@
 """The rows of a PNG file without the filters by which they are stored, by Pillow where it is installed, or row by row.
 
-A row is stored as the differences to a guess: 0 none, 1 the pixel before, 2 the one above, 3 the mean of both, 4 that of
-both and of the one between them that is nearest to the plane through them. Both ways have the same rows.
+A row is stored as the differences to a guess: 0 none, 1 the pixel before, 2 the one above, 3 the mean of both, 4 that
+of both and of the one between them that is nearest to the plane through them. Both ways have the same rows.
 """
 import re
 import zlib
@@ -42,8 +42,8 @@ def below(left: int, up: int, corner: int) -> int:
 
 
 def on_planes(line: bytes, above: bytes, step: int) -> bytes:
-    """A row from its differences to what `below` chooses. Where a pixel is the one above, so are the next ones as long as
-    the differences are 0; all others are calculated one by one, by `below` as it is written out here."""
+    """A row from its differences to what `below` chooses. Where a pixel is the one above, so are the next ones as long
+    as the differences are 0; all others are calculated one by one, by `below` as it is written out here."""
     row = bytearray(above)
     at, size = 0, len(line)
     while True:

@@ -67,8 +67,8 @@ def picture_of(frame: Frame) -> Picture:
 
 
 def composed(made: Script, refused: Refused, size: Window) -> Picture:
-    """The picture of this size, from the point 0 0 on, that the windows of a stack make after a script. Refused lines are
-    reported."""
+    """The picture of this size, from the point 0 0 on, that the windows of a stack make after a script. Refused lines
+    are reported."""
     parts = [Part(made.lines, 1), Part(asked(size, b"compose"))]
     (part, answer), (_, last) = replies.answers(parts, made.folder, "stack")
     refused.add_all(part, answer)

@@ -30,8 +30,8 @@ def is_here() -> bool:
 
 
 def rows(plain: bytes, size: int, step: int) -> List[bytes]:
-    """The rows of a picture, each of which has its filter and `size` bytes: Pillow is given the file anew, without anything
-    that could change a byte of its pixels."""
+    """The rows of a picture, each of which has its filter and `size` bytes: Pillow is given the file anew, without
+    anything that could change a byte of its pixels."""
     from PIL import Image
 
     mode, form = MODES[step]
@@ -56,7 +56,8 @@ def distances(before: bytes, after: bytes) -> bytes:
 
 
 def dimmed(before: bytes, marks: bytes, dark: bytes) -> bytes:
-    """A picture in which each channel is replaced by what `dark` has for it, and each pixel that is marked by a red one."""
+    """A picture in which each channel is replaced by what `dark` has for it, and each pixel that is marked by a red
+    one."""
     from PIL import Image
 
     size = (len(marks), 1)

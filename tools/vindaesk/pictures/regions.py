@@ -94,8 +94,8 @@ def touching(above: List[Tuple[Run, int]], run: Run) -> Iterator[int]:
 
 
 def regions_in(rows: List[bytes]) -> Tuple[Region, ...]:
-    """The regions of a picture whose rows are bytes 0, and 1 for pixels that are marked: from the top, then from the left.
-    Cells that touch, at a corner too, are in one."""
+    """The regions of a picture whose rows are bytes 0, and 1 for pixels that are marked: from the top, then from the
+    left. Cells that touch, at a corner too, are in one."""
     found = Joined()
     above: List[Tuple[Run, int]] = []
     for top in range(0, len(rows), CELL):

@@ -21,7 +21,8 @@ MOST = 100
 @dataclass
 class Drawn:
     """A script that was carried out: its window, its views, its picture as a PNG file with the digest that names it;
-    the refused lines; the views that lines `add` made, by the numbers of the lines, from 1; and why there is no picture."""
+    the refused lines; the views that lines `add` made, by the numbers of the lines, from 1; and why there is no
+    picture."""
 
     window: Optional[Window] = None
     views: List[Placed] = field(default_factory=list)

@@ -1,5 +1,5 @@
-"""What lint finds of a layout, at its views. Lint is given up once a file changes, since its work would make the new picture
-late."""
+"""What lint finds of a layout, at its views. Lint is given up once a file changes, since its work would make the new
+picture late."""
 from typing import Callable, Dict, Iterator, List
 
 from ..common.failures import Failure
@@ -34,7 +34,8 @@ def until(is_stale: IsStale, rule: Rule) -> Rule:
 
 
 def found_in(layout: Layout, is_stale: IsStale) -> List[Finding]:
-    """The findings that lint reports without options. A layout of an app is looked at with the elements of its source."""
+    """The findings that lint reports without options. A layout of an app is looked at with the elements of its
+    source."""
     chosen = {name: until(is_stale, it) for name, it in rules.RULES.items() if it.severity >= Severity.WARNING}
     if layout.screen:
         return linter.found_in(ScreenSubject(layout.screen), [Configuration(direction=layout.direction)], chosen)

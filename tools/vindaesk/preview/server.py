@@ -1,7 +1,8 @@
 """The preview over HTTP, on this machine alone.
 
-Each address begins with a random key, so that only who was given it can read or write. The name in the header `Host` has
-to be this machine's, so that no other name can lead a browser here; and what writes has to come from the page itself.
+Each address begins with a random key, so that only who was given it can read or write. The name in the header `Host`
+has to be this machine's, so that no other name can lead a browser here; and what writes has to come from the page
+itself.
 """
 import hmac
 import json

@@ -64,8 +64,8 @@ class Layout:
     direction: str = ""
 
     def refused(self, found: Sequence[refused_lines.Finding]) -> List[str]:
-        """What the program refuses, with its places: of a layout's source those of its elements alone, since no user has
-        written the lines that lay it out."""
+        """What the program refuses, with its places: of a layout's source those of its elements alone, since no user
+        has written the lines that lay it out."""
         if self.places and not self.screen:
             return [text for text in map(self.refused_element, found) if text]
         return ["%s:%d:%d: %s: %s" % it for it in found]

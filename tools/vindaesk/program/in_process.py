@@ -1,8 +1,8 @@
 """What the program would write, from the library beside it, without another process (native.py).
 
-A call of the library can't be ended from outside. So each is made in a thread of its own, and one that takes longer than
-PATIENCE is given up: its thread goes on until this process ends, and from then on all is left to the program, which a
-signal ends. To the program is also left what would likely take long, and what the library can't do.
+A call of the library can't be ended from outside. So each is made in a thread of its own, and one that takes longer
+than PATIENCE is given up: its thread goes on until this process ends, and from then on all is left to the program,
+which a signal ends. To the program is also left what would likely take long, and what the library can't do.
 """
 import os
 import queue
@@ -105,8 +105,8 @@ os.register_at_fork(after_in_child=WORKERS.forked)
 
 
 def answered(words: List[str], given: bytes, folder: str) -> Optional[Answer]:
-    """What the program would write for these words over a script in a folder, and its status: 0 or 1. None where that is
-    left to the program."""
+    """What the program would write for these words over a script in a folder, and its status: 0 or 1. None where that
+    is left to the program."""
     if WORKERS.is_closed or len(given) > MAX_SCRIPT:
         return None
     found = native.path() if calls.has_form(words) else None

@@ -3,8 +3,8 @@
     >>> native.library().run(b"window 9 9\\nadd root View 4 3\\nframe\\nbounds\\n")
     (b'v1\\nsettled 0\\nv1 0 0 4 3\\n', 0)
 
-It writes the same bytes as the program, and ends with the same status. include/vindaesk.h says what a call does; several
-threads may call at once.
+It writes the same bytes as the program, and ends with the same status. include/vindaesk.h says what a call does;
+several threads may call at once.
 """
 import ctypes
 import functools

@@ -40,8 +40,9 @@ def ran(words: List[str], given: bytes, folder: str) -> Tuple[bytes, int]:
 
 
 def answered(words: List[str], given: bytes, folder: str) -> Optional[Tuple[bytes, int]]:
-    """What the library beside the program says in its place, where it can (in_process.py). The first run is the program's,
-    since the library takes longer to be loaded; not where a variable names one, so that a wrong one is said at once."""
+    """What the library beside the program says in its place, where it can (in_process.py). The first run is the
+    program's, since the library takes longer to be loaded; not where a variable names one, so that a wrong one is said
+    at once."""
     if next(RUNS) == 0 and not os.environ.get("VINDAESK_LIBRARY"):
         return None
     from . import in_process

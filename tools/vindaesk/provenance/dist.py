@@ -49,8 +49,8 @@ def read() -> dict[str, list[str]]:
 
 
 def is_of(listing: Listing) -> bool:
-    """Whether the program of dist/ is of these sources: by their checksum where it is known, else by git, which knows it
-    sooner than all files are read, and else by that of the files."""
+    """Whether the program of dist/ is of these sources: by their checksum where it is known, else by git, which knows
+    it sooner than all files are read, and else by that of the files."""
     if not is_there():
         return False
     wanted = read()

@@ -23,8 +23,8 @@ KEPT = "sources"
 
 
 def inside(top: str, path: str) -> list[tuple[str, os.DirEntry[str]]]:
-    """What is in a folder, except what a build makes, each with its path below the top. The path of a folder ends with a
-    slash, as the given one does."""
+    """What is in a folder, except what a build makes, each with its path below the top. The path of a folder ends with
+    a slash, as the given one does."""
     with os.scandir(os.path.join(top, path)) as found:
         return [(path + it.name + "/" * it.is_dir(), it) for it in found if it.name != MADE]
 
@@ -35,8 +35,8 @@ def is_timed(path: str) -> bool:
 
 
 def entry_of(path: str, found: os.stat_result) -> tuple[str, int, int, int, int]:
-    """The path of a file or folder below the top, its size, its times in nanoseconds, and its number. The time of a folder
-    is the one at which it last got or lost something."""
+    """The path of a file or folder below the top, its size, its times in nanoseconds, and its number. The time of a
+    folder is the one at which it last got or lost something."""
     return path, found.st_size if path[-1] != "/" else 0, found.st_mtime_ns, found.st_ctime_ns, found.st_ino
 
 
@@ -73,8 +73,8 @@ class Listing:
         return sorted(found)
 
     def recall(self) -> bool:
-        """Takes the entries whose checksum is kept, if all are as they were. A folder is not read where its time says that
-        the same files are in it."""
+        """Takes the entries whose checksum is kept, if all are as they were. A folder is not read where its time says
+        that the same files are in it."""
         result, kept = memory.read(KEPT)
         try:
             entries, *others = marshal.loads(kept)
@@ -108,8 +108,8 @@ class Listing:
         return not any(it[2] > time and is_read(it[0]) for it in self.entries)
 
     def state(self) -> bytes:
-        """The entries, and what else there is, as bytes. Form 2 has the same bytes for equal values, which later ones do
-        not have."""
+        """The entries, and what else there is, as bytes. Form 2 has the same bytes for equal values, which later ones
+        do not have."""
         return marshal.dumps([self.entries, self.untimed(), self.beside()], 2)
 
     def kept(self) -> str | None:

@@ -72,8 +72,8 @@ PHONE = derived(replace(HARDWARE, language="en", region="US", width=360, height=
 
 def device(qualifiers: str = "", base: Configuration = PHONE, more: str = "") -> Configuration:
     """A device: the base (a phone of 360 by 640 dp at 480 dpi, in US English, with API 23) with what qualifiers as
-    `de-rDE-land-night` say, and further ones, which a user has beside them. Failure where they are wrong, in another order
-    than Android's, or say a density that no screen has."""
+    `de-rDE-land-night` say, and further ones, which a user has beside them. Failure where they are wrong, in another
+    order than Android's, or say a density that no screen has."""
     whole = "-".join(filter(None, (qualifiers, more)))
     wanted = parse_qualifiers(whole, is_ordered=False)
     if wanted.density in (ANYDPI, NODPI):

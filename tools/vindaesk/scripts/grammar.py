@@ -1,8 +1,8 @@
 """The forms of lines, and where a line does not fit them.
 
-FORMS has the forms of the table of docs/SCRIPT.md, word for word, and what may be in the place of each word in capitals.
-ci/grammar.py compares it with that page, and with what the program refuses: so that no tool has an opinion of its own
-about which lines are refused.
+FORMS has the forms of the table of docs/SCRIPT.md, word for word, and what may be in the place of each word in
+capitals. ci/grammar.py compares it with that page, and with what the program refuses: so that no tool has an opinion of
+its own about which lines are refused.
 """
 import difflib
 import functools

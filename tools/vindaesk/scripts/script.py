@@ -60,8 +60,8 @@ def read(path: str, ids: Optional[str] = None) -> Script:
 
 
 def named(lines: Sequence[Line], path: str, ids: Optional[str] = None, is_strict: bool = True) -> Script:
-    """The script of lines that were written, with ids in the place of their names. A name without an id is a failure, or
-    stays, if the call is not strict."""
+    """The script of lines that were written, with ids in the place of their names. A name without an id is a failure,
+    or stays, if the call is not strict."""
     own = os.path.dirname(path) if path != "-" else ""
     known = names.beside(own, ids)
     made = [known.expanded(line.text) for line in lines]

@@ -80,7 +80,8 @@ def app(
     seconds: float = SECONDS,
 ) -> Iterator[AppSession]:
     """A session over a layout of an app, for as long as it is used: an APK, several split ones, or a folder.
-    `config` has further qualifiers of the device, as `v30`, in the order of Android's folders; `states` are names, as "pressed,checked" or a list. What is wrong with the app or the layout is a Failure."""
+    `config` has further qualifiers of the device, as `v30`, in the order of Android's folders; `states` are names, as
+    "pressed,checked" or a list. What is wrong with the app or the layout is a Failure."""
     wanted = device(qualifiers_of(locale, night, land, density), more=config)
     request = Request(wanted, theme, named(states), options, maps, in_pixels=pixels)
     with apps.opened([path] if isinstance(path, str) else list(path), framework) as opened:

@@ -1,5 +1,5 @@
-"""Walks of the focus: which view gets it next, by what `vindaesk focus` says over a copy of what a session did. Where the
-library is beside the program, it is asked in this process."""
+"""Walks of the focus: which view gets it next, by what `vindaesk focus` says over a copy of what a session did. Where
+the library is beside the program, it is asked in this process."""
 import subprocess
 from typing import Dict, List, Optional, Sequence, Tuple
 
@@ -46,8 +46,8 @@ def next_view(copy: bytes, folder: str, side: str, view: str, seconds: float) ->
 
 
 def walk(copy: bytes, folder: str, sides: Sequence[str], view: str, seconds: float) -> List[Optional[str]]:
-    """The view that has the focus after each key; where no view gets it, None, and it stays where it was. A question that
-    comes again is not asked again."""
+    """The view that has the focus after each key; where no view gets it, None, and it stays where it was. A question
+    that comes again is not asked again."""
     for side in sides:
         if side not in calls.SIDES:
             raise ValueError("'%s' is no side; the sides are %s" % (side, ", ".join(calls.SIDES)))

@@ -1,6 +1,6 @@
 """Which cases have passed, by their keys: an empty file each in 256 folders, so that several processes and machines can
-write at once, and a run that was ended has kept what it knew. Failures are not kept: they may be the machine's, and each
-run shows how they differ."""
+write at once, and a run that was ended has kept what it knew. Failures are not kept: they may be the machine's, and
+each run shows how they differ."""
 import contextlib
 import os
 import time

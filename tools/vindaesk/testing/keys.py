@@ -55,8 +55,8 @@ def of_tools() -> bytes:
 
 
 def stamp_of(path: str) -> Optional[Stamp]:
-    """By what it is seen that a file or a folder has changed; None where there is none, or where it has changed so lately
-    that another change might not be seen by it."""
+    """By what it is seen that a file or a folder has changed; None where there is none, or where it has changed so
+    lately that another change might not be seen by it."""
     try:
         found = os.stat(path)
     except FileNotFoundError:

@@ -1,4 +1,5 @@
-"""What the attributes of an element of a layout file set of its view, and their texts (facts.py has the words of these)."""
+"""What the attributes of an element of a layout file set of its view, and their texts (facts.py has the words of
+these)."""
 import struct
 from typing import Dict, Mapping
 
@@ -87,7 +88,8 @@ def rules_of(found: Dict[str, Value]) -> Dict[str, str]:
 
 
 def attributes_of(found: Dict[str, Value], names: Names, resolved: Mapping[int, str]) -> Dict[str, Attribute]:
-    """The attributes of an element of a compiled file, with the names of resources, and the texts of these by their ids."""
+    """The attributes of an element of a compiled file, with the names of resources, and the texts of these by their
+    ids."""
     made = {}
     for name, value in found.items():
         text = values.shown(value, attributes.form_of(ANDROID, name), names)

@@ -43,9 +43,9 @@ class Place(NamedTuple):
 
 
 class Attribute(NamedTuple):
-    """An attribute of an element: its text as the source has it, the text of the value that it leads to through resources
-    and the theme, the names of the resources on that way, and where it is from: `element`, or `style`, `class style` or
-    `theme`."""
+    """An attribute of an element: its text as the source has it, the text of the value that it leads to through
+    resources and the theme, the names of the resources on that way, and where it is from: `element`, or `style`, `class
+    style` or `theme`."""
 
     written: str
     resolved: str
@@ -54,9 +54,9 @@ class Attribute(NamedTuple):
 
 
 class Source(NamedTuple):
-    """The element of a layout, or the line of a script, that made a view: its name; its place, and after it those of the
-    elements and lines that include its file, from the innermost; its attributes by their keys, as `android:text`; the
-    rules of lint that are to pass over it; whether the view was added for an element that has another one; whether
+    """The element of a layout, or the line of a script, that made a view: its name; its place, and after it those of
+    the elements and lines that include its file, from the innermost; its attributes by their keys, as `android:text`;
+    the rules of lint that are to pass over it; whether the view was added for an element that has another one; whether
     bounds and picture are those that Android gives."""
 
     element: str
@@ -70,8 +70,8 @@ class Source(NamedTuple):
 
 class Origin(NamedTuple):
     """What made a view: the line; of a view of a layout file the path of this, its element, the element of an app's
-    source of which `tools/app` made that, the texts of the resources that it names by their ids, and the names of a list;
-    the rules of lint that a comment names."""
+    source of which `tools/app` made that, the texts of the resources that it names by their ids, and the names of a
+    list; the rules of lint that a comment names."""
 
     line: Line
     file: str = ""

@@ -1,5 +1,5 @@
-"""The views that a line `inflate` makes, with what the attributes of their elements say. Loaded where a script has a layout
-file, since that takes a third of a start."""
+"""The views that a line `inflate` makes, with what the attributes of their elements say. Loaded where a script has a
+layout file, since that takes a third of a start."""
 import os
 from typing import Dict, Optional
 
@@ -12,7 +12,8 @@ from .view_tree import VISIBILITIES, Tree, View
 
 
 def inflate(tree: Tree, name: str, place: Optional[View], first: int, last: int) -> None:
-    """Adds the views of a layout file, which have the numbers from the first to the last, below a view or as the root."""
+    """Adds the views of a layout file, which have the numbers from the first to the last, below a view or as the
+    root."""
     read = elements.read(name, tree.folder)
     if len(read) != last - first + 1:
         raise Failure("the layout file %s changed in the meantime" % name)

@@ -94,14 +94,14 @@ def id_of(view: View) -> Optional[str]:
 
 
 def quoted(text: str) -> str:
-    """A text as JSON has it, with all characters that it can have as they are. `json` does the same, but takes a tenth of
-    a start to be loaded."""
+    """A text as JSON has it, with all characters that it can have as they are. `json` does the same, but takes a tenth
+    of a start to be loaded."""
     return '"%s"' % text.translate(ESCAPES)
 
 
 def title(view: View, most: int = MAX_TEXT, kind: str = "") -> str:
-    """Number, class, or what is given for it, id and text of a view, as messages have them; a text of more characters than
-    some is cut."""
+    """Number, class, or what is given for it, id and text of a view, as messages have them; a text of more characters
+    than some is cut."""
     whole = view.text or ""
     text = quoted(whole if len(whole) <= most else whole[:most] + " ..") if whole else None
     return " ".join(filter(None, ["v%d" % view.number, kind or view.kind, id_of(view), text]))

@@ -29,8 +29,8 @@ Fact = Tuple[int, str]
 
 
 class View:
-    """A view. A text is None where its class shows none, a background where a hook may have set it. `given` has what lines
-    and attributes set of it, and `rules` for each verb `yes` or the id of a sibling (facts.py)."""
+    """A view. A text is None where its class shows none, a background where a hook may have set it. `given` has what
+    lines and attributes set of it, and `rules` for each verb `yes` or the id of a sibling (facts.py)."""
 
     def __init__(self, number: int, parent: Optional["View"], kind: str):
         self.number = number
