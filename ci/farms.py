@@ -110,7 +110,8 @@ def accepts_in_order() -> str:
         wanted = ["accepted: ./s%02d.script" % number for number in range(7)]
         call = started(it, ".", "--accept", "--no-cache", "--jobs", "4", **slow)
         end = time.monotonic() + SECONDS
-        while not all(it.read("s%02d.answer" % number) == ANSWER.encode() for number in range(7)) and time.monotonic() < end:
+        names = ["s%02d.answer" % number for number in range(7)]
+        while any(it.read(name) != ANSWER.encode() for name in names) and time.monotonic() < end:
             time.sleep(0.05)
         time.sleep(0.5)
         call.send_signal(signal.SIGTERM)
@@ -514,8 +515,8 @@ def fits_schemas() -> str:
 
 def checks() -> Checks:
     yield from named("farms", (
-        fits_schemas, accepts_in_order, a_process_dies, is_told_to_end, is_killed, goes_on_after_a_kill, few_files, breaks_of_cases,
-        broken_cases, full_disk, results_as_they_end, follows_links, shows_odd_names, parts_by_names, protocol_of_bazel,
+        fits_schemas, accepts_in_order, a_process_dies, is_told_to_end, is_killed, goes_on_after_a_kill, few_files,
+        breaks_of_cases, broken_cases, full_disk, results_as_they_end, follows_links, shows_odd_names, parts_by_names, protocol_of_bazel,
         merges_parts,
         keeps_what_passed, keeps_no_failures, changes_meanwhile, several_at_once
     ))

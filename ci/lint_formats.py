@@ -59,7 +59,8 @@ def wrong_log(whole: Dict[str, Any]) -> str:
         for at in result["locations"] + result.get("relatedLocations", []):
             artifact = at["physicalLocation"]["artifactLocation"]
             uri, base = artifact["uri"], artifact.get("uriBaseId")
-            if (base in run["originalUriBaseIds"]) == uri.startswith("file:///") or (base is None) != uri.startswith("file:///"):
+            is_whole = uri.startswith("file:///")
+            if (base in run["originalUriBaseIds"]) == is_whole or (base is None) != is_whole:
                 return "the base of %s is %s" % (uri, base)
             if ".." in uri.split("/"):
                 return "the URI is %s" % uri
@@ -77,7 +78,8 @@ def writes_sarif() -> str:
         why = wrong_log(log)
         result = log["runs"][0]["results"][0]
         where = result["locations"][0]["physicalLocation"]
-        wanted = {"artifactLocation": {"uri": "a%20%26%20b%2Cc%3A%25.script", "uriBaseId": "%SRCROOT%"}, "region": {"startLine": 3, "startColumn": 1}}
+        wanted = {"artifactLocation": {"uri": "a%20%26%20b%2Cc%3A%25.script", "uriBaseId": "%SRCROOT%"},
+                  "region": {"startLine": 3, "startColumn": 1}}
         why = why or ("" if where == wanted else "%s" % where)
         app = sarif(it, os.path.join(EXAMPLES, "trips", "trips.apk"), "--layout", "home", "--only", "duplicate-id")
         around = app["runs"][0]["results"][0]["relatedLocations"][0]["physicalLocation"]

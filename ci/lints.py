@@ -5,6 +5,7 @@ from typing import Dict, List, Tuple
 
 from running import Checks, named
 from tools import EXAMPLES, first, place, unlike
+from vindaesk.lint import rules
 
 FAULTS = """window 320 200
 add root FrameLayout match match
@@ -137,7 +138,8 @@ def takes_apps() -> str:
         if not all(starts) or len(of_source) != len(lines) or len(of_file) != len(lines):
             return "of a source: %s; of a file: %s" % (of_source, of_file)
         why = unlike(it.call("lint", trips, "--layout", "setting"), 2, b"", "did you mean 'settings'?")
-        return why or unlike(it.call("lint", trips, "--config", "night-de"), 2, b"", "in Android's order it is 'de-night'")
+        other = it.call("lint", trips, "--config", "night-de")
+        return why or unlike(other, 2, b"", "in Android's order it is 'de-night'")
 
 
 BROKEN = '''<LinearLayout xmlns:android="http://schemas.android.com/apk/res/android"
@@ -175,11 +177,12 @@ def finds_broken_sources() -> str:
 
 
 ROW = "add v1 FrameLayout 10 10\n"
-LEAF = b"row.lines:1:1: warning useless-leaf: v2 FrameLayout: it has no child, no background and no id (160 dpi, 320 dp)\n"
+LEAF = (b"row.lines:1:1: warning useless-leaf: v2 FrameLayout: it has no child, no background and no id "
+        b"(160 dpi, 320 dp)\n")
 
 
-CIRCLE = ('app/res/layout/m.xml:2:5: error missing-resource: v3 View: android:layout_width="@dimen/a": app: references lead in a '
-          "circle: app:dimen/a, app:dimen/b, app:dimen/a")
+WAY = "app: references lead in a circle: app:dimen/a, app:dimen/b, app:dimen/a"
+CIRCLE = 'app/res/layout/m.xml:2:5: error missing-resource: v3 View: android:layout_width="@dimen/a": ' + WAY
 
 
 def names_circles() -> str:
@@ -187,7 +190,8 @@ def names_circles() -> str:
     with place() as it:
         for folder in ("res/layout", "res/values"):
             os.makedirs(os.path.join(it.folder, "app", folder))
-        it.put("app/res/values/v.xml", '<resources><dimen name="a">@dimen/b</dimen><dimen name="b">@dimen/a</dimen></resources>')
+        dimens = '<dimen name="a">@dimen/b</dimen><dimen name="b">@dimen/a</dimen>'
+        it.put("app/res/values/v.xml", "<resources>%s</resources>" % dimens)
         it.put("app/res/layout/m.xml", '<FrameLayout xmlns:android="http://schemas.android.com/apk/res/android" '
                'android:layout_width="match_parent" android:layout_height="match_parent">\n'
                '    <View android:layout_width="@dimen/a" android:layout_height="9dp" />\n</FrameLayout>\n')
@@ -195,7 +199,7 @@ def names_circles() -> str:
         report = it.call("app", "app", "m", "--report")[1].decode()
     if [line.rpartition(" (")[0] for line in found] != [CIRCLE]:
         return "%s" % found
-    wanted = "View android:layout_width: left out (bounds): app: references lead in a circle: app:dimen/a, app:dimen/b, app:dimen/a\n"
+    wanted = "View android:layout_width: left out (bounds): %s\n" % WAY
     return "" if wanted in report else report
 
 
@@ -227,12 +231,14 @@ def takes_folders_of_sources() -> str:
     source = BROKEN.replace("7xx", "7dp").replace("@string/none", "@null")
     with place() as it:
         os.makedirs(os.path.join(it.folder, "all", "more"))
-        for name, text in {"all/a.xml": source, "all/more/b.xml": source, "all/c.xml": "<a", "all/d.xml": "<resources/>",
-                           "all/e.xml": '<vector xmlns:android="http://schemas.android.com/apk/res/android" android:width="1dp"/>'}.items():
-            it.put(name, text)
+        vector = '<vector xmlns:android="http://schemas.android.com/apk/res/android" android:width="1dp"/>'
+        for name, text in (("a.xml", source), ("more/b.xml", source), ("c.xml", "<a"), ("d.xml", "<resources/>"),
+                           ("e.xml", vector)):
+            it.put("all/" + name, text)
         status, out, said = it.call("lint", "all", "--only", "content-description")
         found = [line.partition(":")[0] for line in out.decode().splitlines()]
-        return "" if (status, found, said) == (1, ["all/a.xml", "all/more/b.xml"], "") else "%d, %r, '%s'" % (status, out, said)
+        is_right = (status, found, said) == (1, ["all/a.xml", "all/more/b.xml"], "")
+        return "" if is_right else "%d, %r, '%s'" % (status, out, said)
 
 
 def own_rules() -> str:
@@ -254,7 +260,10 @@ def own_rules() -> str:
             (("--width", ""), 2, b"", "'' is no number from 1 to 16384"),
             (("--night", "--only", "outside"), 1, b"", "a script has no night of its own"),
         ]
-        return first(unlike(it.call("lint", "a.script", *words), status, out, said) for words, status, out, said in calls)
+        why = first(unlike(it.call("lint", "a.script", *words), status, out, said) for words, status, out, said in calls)
+        # the tool ran in this process, where the rule is still
+        rules.RULES.pop("no-id", None)
+        return why
 
 
 def wrong_scripts() -> str:

@@ -124,9 +124,11 @@ def ends_with_its_workers() -> str:
 def names_the_tool_for_it() -> str:
     """What is no script is said to be that, by its content or the end of its name, and by which tool it is taken."""
     said = {
-        "a.xml": (b"\3\0\x08\0\0", "a.xml is no script: it is a compiled layout: "), "b.xml": (b"\xef\xbb\xbf\n <a/>", "b.xml is no script: it is XML: "),
+        "a.xml": (b"\3\0\x08\0\0", "a.xml is no script: it is a compiled layout: "),
+        "b.xml": (b"\xef\xbb\xbf\n <a/>", "b.xml is no script: it is XML: "),
         "c.apk": (b"PK\3\4", "c.apk is no script: it is an archive: "),
-        "d.stack": (b"at 0 0 0\nin 0 window 9 9\nin 0 add rot\n", "d.stack is no script: it is a script of a stack of windows: "),
+        "d.stack": (b"at 0 0 0\nin 0 window 9 9\nin 0 add rot\n",
+                    "d.stack is no script: it is a script of a stack of windows: "),
     }
     with place() as it:
         for name, (body, why) in said.items():
@@ -143,6 +145,6 @@ def names_the_tool_for_it() -> str:
 
 def checks() -> Checks:
     yield from named("many scripts", (
-        goes_on_after_failures, refuses_before_it_writes, takes_standard_input_too, names_the_tool_for_it, survives_a_worker,
-        ends_with_its_workers,
+        goes_on_after_failures, refuses_before_it_writes, takes_standard_input_too, names_the_tool_for_it,
+        survives_a_worker, ends_with_its_workers,
     ))

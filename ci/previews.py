@@ -224,7 +224,8 @@ def source_of(count: int, text: str = "item") -> str:
         '        android:text="%s %d" android:background="#%06x" />\n' % (text, number, number * 7919 % (1 << 24))
         for number in range(2, count + 1))
     return ('<LinearLayout xmlns:android="http://schemas.android.com/apk/res/android" android:orientation="vertical"\n'
-            '    android:layout_width="match_parent" android:layout_height="match_parent">\n%s</LinearLayout>\n' % items)
+            '    android:layout_width="match_parent" android:layout_height="match_parent">\n%s'
+            "</LinearLayout>\n" % items)
 
 
 def single_sources_are_those_of_app() -> str:
@@ -239,13 +240,14 @@ def single_sources_are_those_of_app() -> str:
         for path in ("Single-one.xml", "app/res/layout/one.xml"):
             with previewed(it, path) as page:
                 row = page.row(lambda row: row["picture"] or row["messages"], "phone")
-                view = page.state("phone")["views"][2]
-                found.append((row["messages"], row["picture"], view["element"]["file"], view["element"]["name"], view["element"]["line"]))
+                element = page.state("phone")["views"][2]["element"]
+                found.append((row["messages"], row["picture"], element["file"], element["name"], element["line"]))
                 if path == "Single-one.xml":
                     page.row(lambda row: row["findings"] is not None, "phone")
                     rules = {one["rule"] for one in page.state("phone")["found"]}
     picture = found[1][1]
-    wanted: List[Tuple[object, ...]] = [([], picture, name, "Button", 5) for name in ("Single-one.xml", "app/res/layout/one.xml")]
+    names = ("Single-one.xml", "app/res/layout/one.xml")
+    wanted: List[Tuple[object, ...]] = [([], picture, name, "Button", 5) for name in names]
     return "" if found == wanted and picture and "hard-coded-text" in rules else "%s, %s" % (found, rules)
 
 
@@ -366,7 +368,8 @@ def writes_back() -> str:
             ("c.xml", SOURCE, 3, "android:text", "\"'<&>", SOURCE.replace("A &amp; &lt;b&gt;", "&quot;'&lt;&amp;>")),
             ("d.xml", SOURCE, 2, "android:layout_height", "wrap_content",
              SOURCE.replace("='match_parent'", "='wrap_content'")),
-            ("e.xml", SOURCE.replace("\n", "\r\n"), 3, "android:padding", "9dp", SOURCE.replace("\n", "\r\n").replace("8dp", "9dp")),
+            ("e.xml", SOURCE.replace("\n", "\r\n"), 3, "android:padding", "9dp",
+             SOURCE.replace("\n", "\r\n").replace("8dp", "9dp")),
             (home, app_text, 2, "android:layout_height", "300dp",
              app_text[: old_name.start(1)] + "300dp" + app_text[old_name.end(1) :]),
         ):
@@ -684,9 +687,9 @@ def says_why_there_is_no_picture() -> str:
         with previewed(it, "a.script") as page:
             browser.go(page.address)
             browser.until("state !== null && summary.configurations.length === 7")
-            said = [browser.value("document.getElementById('size').textContent"), *texts(browser, "#configurations .wrong")]
-            wanted = ["There is no picture: " + why, *[why] * 5, "night: locale and night choose files of values, and there is no "
-                      "resources-night.lines", why]
+            said = [*texts(browser, "#size"), *texts(browser, "#configurations .wrong")]
+            night = "night: locale and night choose files of values, and there is no resources-night.lines"
+            wanted = ["There is no picture: " + why, *[why] * 5, night, why]
             buttons = browser.value("[...document.querySelectorAll('main button')].every(it => it.disabled)")
             hidden = browser.value("getComputedStyle(document.getElementById('stage')).display")
             found = texts(browser, "#found li")

@@ -42,7 +42,8 @@ FORMS = {
         "language contents isComprehensive localizedDataSemanticVersion minimumRequiredLocalizedDataSemanticVersion "
         "associatedComponent translationMetadata supportedTaxonomies properties"),
     "reportingDescriptor": form(
-        "3.49", "id", {"id": str, "shortDescription": "multiformatMessageString", "fullDescription": "multiformatMessageString",
+        "3.49", "id", {"id": str, "shortDescription": "multiformatMessageString",
+                       "fullDescription": "multiformatMessageString",
                        "defaultConfiguration": "reportingConfiguration", "properties": dict},
         "deprecatedIds guid deprecatedGuids name deprecatedNames messageStrings helpUri help relationships"),
     "multiformatMessageString": form("3.12", "text", {"text": str}, "markdown properties"),

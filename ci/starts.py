@@ -16,8 +16,8 @@ OF_PYTHON = frozenset(
 OWN = frozenset(
     "command_line.arguments command_line.many command_line.uses common.ending common.failures "
     "common.files common.messages common.places common.progress program.process program.statuses provenance.built "
-    "provenance.choice provenance.dist provenance.memory provenance.sources scripts.names scripts.others scripts.replies "
-    "scripts.resource_names scripts.script views.facts".split(" "))
+    "provenance.choice provenance.dist provenance.memory provenance.sources scripts.names scripts.others "
+    "scripts.replies scripts.resource_names scripts.script views.facts".split(" "))
 # those of each tool beside them
 OF_TOOLS = {
     "tree": ("command_line.tree", "views.placement", "views.view_tree"),

@@ -63,7 +63,8 @@ def reader() -> argparse.ArgumentParser:
     found.add_argument("--jobs", metavar="N", type=arguments.count(1, 512), default=os.cpu_count() or 1,
                        help="of many layouts, how many at once; as many as there are processors")
     found.add_argument("--list", action="store_true", help="prints the rules and ends")
-    found.add_argument("--explain", metavar="RULE,..", type=arguments.names, help="prints what rules mean and ends; Android's ids too")
+    found.add_argument("--explain", metavar="RULE,..", type=arguments.names,
+                       help="prints what rules mean and ends; Android's ids too")
     return found
 
 

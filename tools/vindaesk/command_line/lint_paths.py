@@ -78,8 +78,9 @@ def in_folder(path: str) -> List[str]:
     found = []
     for place, folders, names in os.walk(path):
         folders.sort()
-        paths = [os.path.join(place, it) for it in sorted(names)]
-        found += [it for it in paths if it.endswith(SCRIPT) or layout_files.is_compiled(it) or layout_files.is_source(it)]
+        for path in (os.path.join(place, it) for it in sorted(names)):
+            if path.endswith(SCRIPT) or layout_files.is_compiled(path) or layout_files.is_source(path):
+                found.append(path)
     if not found:
         raise Failure("%s has no script, no layout and no app" % path, NOT_RUN)
     return found

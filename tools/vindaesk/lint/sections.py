@@ -64,7 +64,8 @@ def section_of(name: str, lines: List[str]) -> Section:
             finds += line + "\n"
         elif block:
             at[block] = at.get(block, "") + line + "\n"
-    return Section(name, weight, tuple(ANDROID.findall(weight)), LINK.sub(r"\1", " ".join(meaning)), fails, finds, passes, lines)
+    plain = LINK.sub(r"\1", " ".join(meaning))
+    return Section(name, weight, tuple(ANDROID.findall(weight)), plain, fails, finds, passes, lines)
 
 
 def read() -> Dict[str, Section]:

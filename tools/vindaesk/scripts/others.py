@@ -12,7 +12,7 @@ def what_else(path: str, text: bytes, is_stack: bool = False) -> str:
     """That a file is no script, and which tools take it; nothing where it may be one. A script of a stack of windows is
     known by the end of its name, and is right where the tool takes such scripts, and no other one is then known."""
     if text.startswith(COMPILED):
-        what = "a compiled layout: {lint} and {preview} take it, {axml} --text makes a source of it, and `inflate NAME` in a script shows it"
+        what = "a compiled layout: {lint} and {preview} take it, and {axml} --text makes a source of it"
     elif text.startswith(ARCHIVE):
         what = "an archive: {app}, {lint} and {preview} take an APK"
     elif text[len(MARK) * text.startswith(MARK) :].lstrip().startswith(b"<"):

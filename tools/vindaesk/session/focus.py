@@ -26,7 +26,8 @@ def answered(words: List[str], copy: bytes, folder: str, seconds: float) -> Tupl
         return found
     try:
         ended = subprocess.run(
-            [process.path(), *words], input=copy, stdout=subprocess.PIPE, stderr=subprocess.DEVNULL, cwd=folder, timeout=seconds
+            [process.path(), *words], input=copy, stdout=subprocess.PIPE, stderr=subprocess.DEVNULL, cwd=folder,
+            timeout=seconds
         )
     except subprocess.TimeoutExpired:
         raise NoAnswer(" ".join(words), seconds)

@@ -25,8 +25,8 @@ def inflate(tree: Tree, name: str, place: Optional[View], first: int, last: int)
         view.of_app = of_app.get(number - first + 1)
         if view.origin:
             view.origin = view.origin._replace(
-                file=os.path.join(tree.beside, name), element=element, of_app=view.of_app, resolved=resolved(tree, element),
-                names=tree.ids.listed)
+                file=os.path.join(tree.beside, name), element=element, of_app=view.of_app,
+                resolved=resolved(tree, element), names=tree.ids.listed)
 
 
 def dress(tree: Tree, view: View, element: Element) -> None:
