@@ -1,5 +1,6 @@
 """The state of a preview: what each configuration shows, kept up to date by a thread as files change."""
 import os
+import sys
 import threading
 from dataclasses import dataclass, field, replace
 from typing import Dict, List, Optional, Tuple
@@ -20,6 +21,9 @@ from .touches import Live
 PICTURES = 64
 # how long no file changes before lint looks at it, in seconds
 QUIET = 0.3
+# how long a thread of Python may go on while others wait, in seconds: what draws reads from the program piece by piece,
+# and would wait ten times as long for each as lint works
+SWITCH = 0.0005
 
 Record = Dict[str, object]
 
@@ -94,6 +98,7 @@ class Preview:
 
     def start(self) -> None:
         """Begins to follow the files."""
+        sys.setswitchinterval(SWITCH)
         for it in self.threads:
             it.start()
 
