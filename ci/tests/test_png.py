@@ -53,6 +53,19 @@ def test_palette_and_alpha() -> None:
     assert png.parsed(file_of(head, bytes([0, 255, 0, 100, 128, 9, 9, 9, 0]))).rows == [bytes([128, 0, 50, 0, 0, 0])]
 
 
+def test_translucent_pictures() -> None:
+    """Each value with each alpha, by whole rows and by Pillow where it is here: times alpha over 255, to the nearest."""
+    row = bytes(it for alpha in range(256) for value in range(256) for it in (value, 255 - value, 7, alpha))
+    wanted = bytes((it * row[k - k % 4 + 3] + 127) // 255 for k, it in enumerate(row) if k % 4 < 3)
+    file = file_of(struct.pack(">IIBBBBB", 65536, 1, 8, 6, 0, 0, 0), b"\0" + row)
+    assert png.parsed(file).rows == [wanted]
+    before, by_pillow.MANY = by_pillow.MANY, 0
+    try:
+        assert png.parsed(file).rows == [wanted]
+    finally:
+        by_pillow.MANY = before
+
+
 def test_other_chunks_are_passed_over() -> None:
     head = struct.pack(">IIBBBBB", 1, 1, 8, 0, 0, 0, 0)
     extra = [part(b"tEXt", b"Comment\0x"), part(b"gAMA", (45455).to_bytes(4, "big"))]

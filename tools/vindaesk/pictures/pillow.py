@@ -44,6 +44,20 @@ def rows(plain: bytes, size: int, step: int) -> List[bytes]:
     return [whole[at : at + size] for at in range(0, len(whole), size)]
 
 
+def over_black(whole: bytes) -> bytes:
+    """Red, green and blue of pixels of four bytes, the last of them alpha, over black: each times alpha over 255, to the
+    nearest, as `bytewise.Wide` has it."""
+    from PIL import Image
+
+    size = (len(whole) // 4, 1)
+    *bands, alpha = Image.frombytes("RGBA", size, whole).split()
+    image = Image.new("RGB", size)
+    # `ImageChops.multiply` rounds down
+    image.paste(Image.merge("RGB", bands), mask=alpha)
+    found: bytes = image.tobytes()
+    return found
+
+
 def distances(before: bytes, after: bytes) -> bytes:
     """The greatest difference of a channel at each pixel of two pictures."""
     from PIL import Image, ImageChops

@@ -6,7 +6,7 @@ from typing import Iterator, List, NamedTuple, Tuple
 
 from ..common import progress
 from ..common.failures import Failure, NOT_RUN
-from . import filters
+from . import filters, pillow
 from .bytewise import Wide, interleaved, stretched
 from .chunks import SIGNATURE, chunk
 
@@ -89,6 +89,15 @@ def colours(row: bytes, form: int, palette: bytes) -> bytes:
     return interleaved((red, green, blue))
 
 
+def opaque(rows: List[bytes], size: int) -> List[bytes]:
+    """Rows of `size` bytes of rows with alpha, over black: by Pillow, where it is installed and something is translucent."""
+    is_plain = all(row[3::4] == b"\xff" * (len(row) // 4) for row in rows)
+    if is_plain or not pillow.is_here():
+        return [over_black(row, 4) for row in rows]
+    whole = pillow.over_black(b"".join(rows))
+    return [whole[at : at + size] for at in range(0, len(whole), size)]
+
+
 def parsed(file: bytes) -> Picture:
     """The picture of a file. What is wrong with it is a `ValueError`."""
     if not file.startswith(SIGNATURE):
@@ -104,6 +113,8 @@ def parsed(file: bytes) -> Picture:
     if not 0 < width * height <= MAX_PIXELS:
         raise ValueError("it has no pixel, or more than %d" % MAX_PIXELS)
     rows = progress.counted(filters.rows(b"".join(body), width, height, BYTES[form]), height, "rows of a picture")
+    if form == 6 and 4 * width * height > pillow.MANY:
+        return Picture(width, height, opaque(list(rows), 3 * width))
     return Picture(width, height, [colours(row, form, palette) for row in rows])
 
 
