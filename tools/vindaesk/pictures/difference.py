@@ -8,6 +8,8 @@ from .regions import Box, Region, regions_in
 
 # how many bytes are calculated with at once: pixels, and what fits into the memory near the processor
 AT_ONCE = 3 << 13
+# how many bytes are compared one by one
+FEW = 1 << 16
 QUARTER = bytes(it // 4 for it in range(256))
 
 
@@ -54,8 +56,9 @@ def dimmed(before: bytes, marks: bytes) -> bytes:
 
 
 def greatest_of(most: bytes) -> int:
-    """The greatest of some bytes, each value looked for from the top: `max` takes ten times as long."""
-    return next((it for it in range(255, 0, -1) if it in most), 0)
+    """The greatest of some bytes. Of many, each value is looked for from the top: `max` takes ten times as long."""
+    rest = most.translate(None, b"\0")
+    return max(rest, default=0) if len(rest) < FEW else next(it for it in range(255, 0, -1) if it in rest)
 
 
 def rows_of(whole: bytes, width: int) -> List[bytes]:
