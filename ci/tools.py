@@ -262,7 +262,7 @@ def lacks_files() -> str:
             ("screenshot", "a.script", "--frames", "made", "--stack", "9x9"): "--stack takes OUT.png or --out DIR, and no --frames",
             ("tree", "no.script"): "no.script cannot be read: No such file",
             ("check", "no.script"): "no.script cannot be read: No such file",
-            ("check", "folder"): "there is no *.script in folder",
+            ("check", "folder"): "there is no *.script or *.stack in folder",
             ("tree", "folder"): "there is no *.script in folder",
             ("picdiff", "a.script", "a.script"): "a.script is no PNG file that can be read: it does not begin as one",
             ("picdiff", "no.png", "a.script"): "no.png cannot be read: No such file",
