@@ -536,12 +536,14 @@ def wrong_calls() -> str:
     with place() as it:
         it.put("a.script", TOUCHED)
         it.put("a.apk", "no")
+        it.put("a.stack", "at 0 0 0\n")
         started = it.start("tools/preview", "--help")
         out, _ = started.communicate(timeout=SECONDS)
         if started.returncode or not out.startswith(b"usage: preview "):
             return "--help: status %d, %r" % (started.returncode, out)
         for words, status, said in (
             (("no.script",), 2, "preview: no.script cannot be read: No such file or directory\n"),
+            (("a.stack",), 2, "a.stack is no script: it is a script of a stack of windows: "),
             ((".",), 2, "of an app one layout is shown: name it after ."),
             (("a.script", "home"), 2, "a.script is no app, so that no layout of it has the name 'home'"),
             ((os.path.join(EXAMPLES, "trips", "trips.apk"), "hom"), 2, "the app has no layout 'hom'; did you mean 'home'?"),

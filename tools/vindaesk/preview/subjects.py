@@ -13,8 +13,9 @@ from ..common import files
 from ..common.failures import NOT_RUN, WRONG, Failure
 from ..layouts import compiler, source_reader
 from ..lint import refused_lines
+from ..program.statuses import MAX_SCRIPT
 from ..resources.devices import device
-from ..scripts import names, script
+from ..scripts import names, others, script
 from ..scripts.grammar import NAME
 from ..scripts.names import Ids
 from ..scripts.resource_names import Names
@@ -346,6 +347,9 @@ def subject(
         raise Failure("%s is no app, so that no layout of it has the name '%s'" % (path, names_of[0]), NOT_RUN)
     if path.endswith(".xml"):
         return of_file(path, ids, theme, framework)
+    why = others.what_else(path, files.read(path, MAX_SCRIPT))
+    if why:
+        raise Failure(why, NOT_RUN)
     return ScriptSubject(path, ids)
 
 
