@@ -13,7 +13,7 @@ use Rattle.whole_tool.specs.Run.{HasCarriedOut}
 use Rattle.whole_tool.specs.Session.{HasRun, IsAnswered, after_script, answer_to, has_line_feed, max_lines, with_line}
 use Rattle.whole_tool.specs.Tally.{Tally, watching_first}
 use Rattle.whole_tool.specs.Transcript.{ScriptProgress, after_line, after_lines, after_from, after_reply, line_text, reply_text, reply_to_line, transcript}
-use Rattle.whole_tool.specs.Works.{Trace, raised_by}
+use Rattle.whole_tool.specs.Works.{Trace}
 use Rattle.whole_tool.specs.declared.carrier.Carrier.{Carrier}
 use Rattle.whole_tool.specs.declared.run.LineRunner.{LineRunner}
 use Rattle.whole_tool.specs.declared.session.Session.{Session}
@@ -76,7 +76,7 @@ text_more files script line ended none =
 
 -- the lines so far without what was written for them
 abbrev pub unwritten : ScriptProgress → ScriptProgress
-unwritten progress = record { lines = progress.lines; carried = progress.carried; text = []; refused = progress.refused; asked = 0 }
+unwritten progress = record { lines = progress.lines; carried = progress.carried; text = []; refused = progress.refused; asked = [] }
 
 -- a line does the same after these, and its text is all that is written
 pub record DoesSame (after alone : ScriptProgress) (all : List ℕ) : Type 0 where
@@ -120,7 +120,6 @@ runs_nothing files session carrier lines left refused same start first = record 
 -- what a run of lines says of a session that has run a script, seen from this moment
 pub at_line : (files : Files) (script : List ℕ) (session : Session) (now : Trace) (has : HasRun files script session)
     → HasCarriedOut now now session.runner (unwritten (after_script files script)) (record { watched = has.watching; costs = no_costs })
-unfolding raised_by
 at_line files script session now has = record {
   lines = has.lines;
   carried = has.carried;
