@@ -126,9 +126,9 @@ class Release:
         """What a command prints there."""
         return subprocess.run(words, cwd=self.folder, stdout=subprocess.PIPE).stdout.decode()
 
-    def release(self) -> str:
+    def release(self, *options: str) -> str:
         """Calls ci/release, and returns what goes wrong."""
-        status, said = self.script("ci/release", "log")
+        status, said = self.script("ci/release", *options, "log")
         return said if status else ""
 
     def wrong(self) -> str:
@@ -182,7 +182,7 @@ def says_of_which_sources() -> str:
 def command_of_sources() -> str:
     """The command by which the docs say how the checksum over the sources is made."""
     with open(os.path.join(TOP, "docs", "INSTALL.md"), encoding="utf-8") as file:
-        found = re.search(r"^`(find crates crates.txt HANDLES .*)`[.]$", file.read(), re.M)
+        found = re.search(r"`(find crates crates.txt HANDLES [^`]*)`", file.read())
     return found[1] if found else "exit 1"
 
 
@@ -210,6 +210,20 @@ def refuses() -> str:
             if part not in text:
                 return "in place of '%s' it says '%s'" % (part, text)
         return "dist/ is there" if os.path.exists(it.path("dist")) else ""
+
+
+def takes_proofs_alone() -> str:
+    """A run that has proved each crate and has not tried each edit that must fail; one that lacks a crate is refused."""
+    with release(is_made=False) as it:
+        put(it.path("log"), "rt: low proved\nrt: low: trying its must-fail edits (3)\n")
+        said = it.release("--proofs")
+        if "view_tool" not in said:
+            return "of a crate that is not proved it says '%s'" % said
+        put(it.path("log"), "rt: low proved\nrt: view_tool is kept: an earlier run\n")
+        said = it.release("--proofs")
+        lines = it.repository.read("dist/PROVENANCE").splitlines() if not said else []
+        wanted = "ci proofs of all 2 crates; the gate tries the edits that must fail"
+        return said or ("" if lines[-1] == wanted else "PROVENANCE ends with '%s'" % lines[-1])
 
 
 def runs_at_once() -> str:
@@ -314,8 +328,8 @@ def checks() -> Iterator[Tuple[str, Callable[[], str]]]:
     """The checks of this file."""
     for check in OWN:
         yield "release: " + check.__name__.replace("_", " "), check
-    for check in (says_of_which_sources, refuses, runs_at_once, finds_another_program, finds_another_source,
-                  proves_where_it_is_asked, finds_another_build, finds_an_old_release):
+    for check in (says_of_which_sources, takes_proofs_alone, refuses, runs_at_once, finds_another_program,
+                  finds_another_source, proves_where_it_is_asked, finds_another_build, finds_an_old_release):
         yield "release: " + check.__name__.replace("_", " "), check
 
 
