@@ -3,7 +3,7 @@
 //! `include/vindaesk.h` declares what is exported: `vindaesk_run`, `vindaesk_stack`, `vindaesk_focus`, `vindaesk_dump`
 //! and `vindaesk_lookup`. `packing` reads the files of a call out of one buffer, and `shelf` has them at hand. `words`
 //! and `questions` have the words that the tool is called with, `page` has it write a page in memory, `answer` puts
-//! that into the caller's buffer, and `fault` says why there is none. A call keeps nothing for the next one, but for
+//! that into the caller's buffer, and `fault` says why there is none. A call keeps nothing for the next one, except
 //! those of `sessions`, of scripts whose lines come one at a time: `open_session` is such a script, and `handle` is
 //! what C holds of it, a box that is `loose`.
 //!
