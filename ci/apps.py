@@ -53,7 +53,7 @@ def page_attributes() -> Iterator[Tuple[str, str]]:
     """The names of the table of docs/FORMATS.md, and of each whether it takes a reference that is an id."""
     with open(os.path.join(TOP, "docs", "FORMATS.md"), encoding="utf-8") as file:
         text = file.read()
-    table = text[text.index("| name | takes | sets |") :].split("\n\n")[0]
+    table = text[text.index("|name|takes|sets|") :].split("\n\n")[0]
     for row in table.split("\n")[2:]:
         cells = [cell.strip() for cell in row.strip("|").split("|")]
         stem = ""

@@ -32,9 +32,9 @@ def page_rows() -> Iterator[Tuple[List[str], str]]:
     """The forms of each row of the page's table, and its text."""
     with open(PAGE, encoding="utf-8") as file:
         text = file.read()
-    table = text[text.index("| line | effect | reply |") :].split("\n\n")[0]
+    table = text[text.index("|line|effect|reply|") :].split("\n\n")[0]
     for row in table.split("\n")[2:]:
-        line, effect, _ = re.split(r" (?<!\\)\| ", row.strip("| ") + " ", 2)
+        line, effect, _ = re.split(r"(?<!\\)\|", row.strip("|"), 2)
         yield re.findall(r"`([^`]+)`", line), effect.replace("\\|", "|")
 
 
@@ -49,7 +49,7 @@ def has_page_words() -> str:
     """The page has each word that may be in a place of a form in a row of forms that begin alike, and its bounds."""
     with open(PAGE, encoding="utf-8") as file:
         page = file.read()
-    before = page[page.index("\n## Lines") : page.index("| line | effect | reply |")]
+    before = page[page.index("\n## Lines") : page.index("|line|effect|reply|")]
     whole = before + "".join(effect for _, effect in page_rows())
     texts: Dict[str, str] = {}
     for forms, effect in page_rows():
@@ -125,7 +125,7 @@ def has_page_refusals() -> str:
     named = set()
     for page in ("SCRIPT.md", "FORMATS.md"):
         with open(os.path.join(TOP, "docs", page), encoding="utf-8") as file:
-            named |= set(re.findall(r"^\| (\d+) \| ([A-Z]\w+) \|", file.read(), re.M))
+            named |= set(re.findall(r"^\|(\d+)\|([A-Z]\w+)\|", file.read(), re.M))
     found = {(str(number), it.name) for number, it in refusals.REFUSALS.items()}
     return "" if found | NO_LINES == named else "they differ: %s" % sorted(found ^ named)
 
