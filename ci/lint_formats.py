@@ -228,10 +228,9 @@ def goes_on() -> str:
 def page_has_all() -> str:
     """The table of docs/LINT.md has each rule, with its severity."""
     with open(os.path.join(TOP, "docs", "LINT.md"), encoding="utf-8") as file:
-        rows = [[cell.strip() for cell in line.split("|")[1:-1]] for line in file if line.startswith("| `")]
-    words = [severity.word for severity in Severity]
-    found = {row[0].strip("`"): row[1] for row in rows if len(row) == 3 and row[1] in words}
-    wanted = {name: it.severity.word for name, it in rules.RULES.items()}
+        rows = [[cell.strip() for cell in line.split("|")[1:-1]] for line in file if line.startswith(("| `", "|`"))]
+    found = {row[0].strip("`"): row[1:3] for row in rows if len(row) == 4}
+    wanted = {name: [it.severity.word, ", ".join(it.android)] for name, it in rules.RULES.items()}
     return "" if found == wanted else "differ: %s" % sorted(
         name for name in {**found, **wanted} if found.get(name) != wanted.get(name))
 

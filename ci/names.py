@@ -190,7 +190,7 @@ def problem(page: str) -> str:
 
 
 def tools_without_row() -> str:
-    rows = [line for _, line in plain_lines(text_of("docs/TOOLS.md")) if line.startswith("| [")]
+    rows = [line for _, line in plain_lines(text_of("docs/TOOLS.md")) if line.startswith(("| [", "|["))]
     tools = [*(it.name for it in catalogue.tools()), *catalogue.CHECKOUT_ALONE]
     missing = [name for name in tools if not any("`tools/%s" % name in row for row in rows)]
     return "docs/TOOLS.md has no row of %s" % ", ".join(missing) if missing else ""
