@@ -1,6 +1,6 @@
 #!/bin/sh
-# The stored cases of a folder as an array of Slurm: slurm.sh PARTS OUT DIR; OUT and DIR are at the same place on each node.
-# A part whose node is lost is queued again. The last job waits for all parts, whatever became of them.
+# Stored cases as an array of Slurm: slurm.sh PARTS OUT DIR; OUT and DIR are at one place on each node. A part whose node
+# is lost is queued again. The last job waits for all.
 runall=${RUNALL:-vindaesk-runall}
 mkdir -p "$2"
 array=$(sbatch --parsable --requeue --array="1-$1" --output="$2/%a.log" --wrap \
