@@ -9,7 +9,7 @@ import sarif_form
 from lints import FAULTS
 from running import TOP, Checks, Skipped, named
 from tools import EXAMPLES, Place, first, place, unlike
-from vindaesk.lint import Severity, findings, formats, github, rules
+from vindaesk.lint import findings, formats, github, rules
 from vindaesk.views.view_tree import View
 
 ONLY = ("--only", "text-cut,outside,overlap")
@@ -226,7 +226,7 @@ def goes_on() -> str:
 
 
 def page_has_all() -> str:
-    """The table of docs/LINT.md has each rule, with its severity."""
+    """The table of docs/LINT.md has each rule, with its severity and Android's names of it."""
     with open(os.path.join(TOP, "docs", "LINT.md"), encoding="utf-8") as file:
         rows = [[cell.strip() for cell in line.split("|")[1:-1]] for line in file if line.startswith(("| `", "|`"))]
     found = {row[0].strip("`"): row[1:3] for row in rows if len(row) == 4}
