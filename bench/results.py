@@ -61,11 +61,12 @@ class Both:
 
 
 @contextlib.contextmanager
-def kept():
-    """What is printed goes also to a new file; at the end it is compared with the newest file before it."""
+def kept(kind=""):
+    """What is printed goes also to a new file, whose name begins with their kind; rows of no kind are compared with the newest
+    file before it."""
     os.makedirs(FOLDER, exist_ok=True)
-    before = sorted(glob.glob(os.path.join(FOLDER, "*.txt")))
-    name = "%s-%s.txt" % (datetime.datetime.now().strftime("%Y-%m-%d-%H%M%S"), commit())
+    before = sorted(glob.glob(os.path.join(FOLDER, "[0-9]*.txt")))
+    name = "%s%s-%s.txt" % (kind, datetime.datetime.now().strftime("%Y-%m-%d-%H%M%S"), commit())
     with open(os.path.join(FOLDER, name), "w") as file:
         file.write("commit %s; %s\n" % (commit(), machine()))
         printed, sys.stdout = sys.stdout, Both(sys.stdout, file)
@@ -74,7 +75,7 @@ def kept():
         finally:
             sys.stdout = printed
     print("kept in bench/results/" + name)
-    if before:
+    if before and not kind:
         with open(before[-1]) as old, open(os.path.join(FOLDER, name)) as new:
             found = list(changes(old.read(), new.read()))
         print("\n".join(["since " + os.path.basename(before[-1]) + ":", *(found or ["no row differs by a tenth"])]))

@@ -1,0 +1,109 @@
+"""What scripts cost a program, or the library in a process of Python: instructions by callgrind where valgrind is there,
+and processor time."""
+import glob
+import hashlib
+import os
+import re
+import resource
+import shutil
+import subprocess
+import sys
+import tempfile
+from typing import List, NamedTuple, Sequence
+
+FOLDER = os.path.dirname(os.path.realpath(__file__))
+COLLECTED = re.compile(r"Collected : (\d+)")
+SUMMARY = re.compile(r"^summary: (\d+)", re.M)
+# the function of the library that a call of it carries a script out by
+CALL = "vindaesk_c::page::page_for"
+# the best of so many runs, where time is measured
+RUNS = 5
+
+
+class Cost(NamedTuple):
+    """Instructions or seconds, and the digest of what was written."""
+
+    spent: float
+    digest: str
+
+
+class Failed(Exception):
+    """A run that did not reach its end."""
+
+
+def has_callgrind() -> bool:
+    return shutil.which("valgrind") is not None
+
+
+def callgrind(out: str, *more: str) -> List[str]:
+    return ["valgrind", "--tool=callgrind", "--callgrind-out-file=" + out, *more]
+
+
+def digest(written: bytes) -> str:
+    return hashlib.sha256(written).hexdigest()
+
+
+def run(command: Sequence[str], script: bytes) -> "subprocess.CompletedProcess[bytes]":
+    """A run over a script, which has to be carried out without a refusal."""
+    with tempfile.TemporaryFile() as given:
+        given.write(script)
+        given.seek(0)
+        ended = subprocess.run(command, stdin=given, stdout=subprocess.PIPE, stderr=subprocess.PIPE)
+    if ended.returncode != 0:
+        raise Failed("%s ended with status %d: %s" % (" ".join(command), ended.returncode, ended.stderr.decode()[-500:]))
+    return ended
+
+
+def instructions(command: Sequence[str], script: bytes) -> Cost:
+    """The instructions of one run."""
+    ended = run([*callgrind("/dev/null"), *command], script)
+    found = COLLECTED.search(ended.stderr.decode())
+    if found is None:
+        raise Failed("callgrind counted nothing: " + ended.stderr.decode()[-500:])
+    return Cost(int(found[1]), digest(ended.stdout))
+
+
+def seconds(command: Sequence[str], script: bytes) -> Cost:
+    """The least processor time of some runs."""
+    best, written = float("inf"), b""
+    for _ in range(RUNS):
+        before = of_children()
+        written = run(command, script).stdout
+        best = min(best, of_children() - before)
+    return Cost(best, digest(written))
+
+
+def of_children() -> float:
+    """The processor time of all processes that were started here and have ended."""
+    usage = resource.getrusage(resource.RUSAGE_CHILDREN)
+    return usage.ru_utime + usage.ru_stime
+
+
+def calls(library: str, scripts: Sequence[bytes], counts: bool) -> List[Cost]:
+    """What calls of the library cost, one after the other in one process: instructions, or else the least processor time
+    of some calls."""
+    with tempfile.TemporaryDirectory() as folder:
+        paths = [os.path.join(folder, "%d.script" % number) for number in range(len(scripts))]
+        for path, script in zip(paths, scripts):
+            with open(path, "wb") as file:
+                file.write(script)
+        # the path of Python itself: the command may be a script that starts it
+        command = [sys.executable, "-I", "-S", os.path.join(FOLDER, "call_library.py"), library, str(1 if counts else RUNS)]
+        out = os.path.join(folder, "out")
+        only = callgrind(out, "--collect-atstart=no", "--toggle-collect=" + CALL, "--dump-after=" + CALL)
+        rows = run([*(only if counts else []), *command, *paths], b"").stdout.decode().splitlines()
+        # a first call of each script takes its memory anew, a second one what the first has given back
+        spent = dumped(out)[1::2] if counts else [float(row.split()[0]) for row in rows]
+    if len(spent) != len(scripts):
+        raise Failed("callgrind saw %d calls of %s in %s, and not %d" % (len(spent), CALL, library, len(scripts)))
+    return [Cost(cost, row.split()[1]) for cost, row in zip(spent, rows)]
+
+
+def dumped(out: str) -> List[float]:
+    """The instructions of each part that callgrind has written, without the one of the end."""
+    found: List[float] = []
+    for number in range(1, 1 + len(glob.glob(out + ".*"))):
+        with open("%s.%d" % (out, number), encoding="utf-8") as file:
+            summary = SUMMARY.search(file.read())
+        found.append(float(summary[1]) if summary else float("nan"))
+    return found
