@@ -16,7 +16,7 @@ COLLECTED = re.compile(r"Collected : (\d+)")
 SUMMARY = re.compile(r"^summary: (\d+)", re.M)
 # the function of the library that a call of it carries a script out by
 CALL = "vindaesk_c::page::page_for"
-# the best of so many runs, where time is measured
+# where time is measured, it is the least of this many runs
 RUNS = 5
 
 

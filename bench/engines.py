@@ -181,23 +181,37 @@ def engines_of(program: str, library: Optional[str], beside: Optional[str], some
     return engines + ([process_engine("other", [*shlex.split(beside), "run"])] if beside else [])
 
 
-def main(words: Sequence[str], program: str, library: Optional[str]) -> int:
-    """Prints the rows whose name has one of the words, all if there are none; after `--beside` comes another program."""
+class Asked(NamedTuple):
+    """The command of another program, and the rows to print."""
+
+    beside: Optional[str]
+    rows: List[Row]
+
+
+def asked(words: Sequence[str]) -> Optional[Asked]:
+    """What words ask for: `--beside` and a command, and parts of the names of rows, all rows if there are none. None where
+    a word names no row, which is said."""
     beside = words[1] if words[:1] == ["--beside"] and len(words) > 1 else None
     words = words[2:] if beside else words
-    chosen = [row for row in rows() if not words or any(word in row.name for word in words)]
-    if not chosen:
-        print("bench/run engines: no row is named so; the names are\n" + "\n".join(it.name for it in rows()), file=sys.stderr)
-        return 2
+    for word in words:
+        if not any(word in row.name for row in rows()):
+            names = "\n".join(row.name for row in rows())
+            print("bench/run engines: no row is named by '%s'; the names are\n%s" % (word, names), file=sys.stderr)
+            return None
+    return Asked(beside, [row for row in rows() if not words or any(word in row.name for word in words)])
+
+
+def measure(what: Asked, program: str, library: Optional[str]) -> bool:
+    """Prints the table, and answers whether all engines wrote the same pages."""
     counts = costs.has_callgrind()
     try:
-        engines = engines_of(program, library, beside, chosen, counts)
+        engines = engines_of(program, library, what.beside, what.rows, counts)
         print("instructions of an edit and its frame" if counts else "microseconds of an edit and its frame")
         print(FORM % ("", "views", "program", "line", "library", "other", "ratio", "growth"), flush=True)
-        good = all([print_row(row, engines, counts) for row in chosen])
-        if {row.name for row in kept_rows()} <= {row.name for row in chosen}:
-            print_kept(engines_of(program, library, beside, kept_rows(), False))
+        good = all([print_row(row, engines, counts) for row in what.rows])
+        if {row.name for row in kept_rows()} <= {row.name for row in what.rows}:
+            print_kept(engines_of(program, library, what.beside, kept_rows(), False))
     except costs.Failed as failed:
         print("bench/run engines: %s" % failed, file=sys.stderr)
-        return 1
-    return 0 if good else 1
+        return False
+    return good

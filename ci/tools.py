@@ -590,8 +590,11 @@ def closed_streams() -> str:
 def unknown_words() -> str:
     """The checks and the benchmark, by a word that names nothing."""
     with place() as it:
-        for command, name in (("ci/checks", "stored cases: examples"), ("bench/run", "bounds, 4096 views")):
-            tries = ((["no such"], 2, name), (["bounds", "no such"], 2, name), (["--help"], 0, command))
+        commands: Tuple[Tuple[str, List[str], str], ...] = (
+            ("ci/checks", [], "stored cases: examples"), ("bench/run", [], "bounds, 4096 views"),
+            ("bench/run", ["engines"], "scrolled by a pixel"))
+        for command, first, name in commands:
+            tries = ((first + ["no such"], 2, name), (first + ["bounds", "no such"], 2, name), (["--help"], 0, command))
             for words, status, shown in tries:
                 started = it.start(command, *words)
                 out, said = started.communicate(timeout=SECONDS)
