@@ -50,7 +50,9 @@ def run(command: Sequence[str], script: bytes) -> "subprocess.CompletedProcess[b
         given.seek(0)
         ended = subprocess.run(command, stdin=given, stdout=subprocess.PIPE, stderr=subprocess.PIPE)
     if ended.returncode != 0:
-        raise Failed("%s ended with status %d: %s" % (" ".join(command), ended.returncode, ended.stderr.decode()[-500:]))
+        refused = [line.decode() for line in ended.stdout.splitlines() if b" refused " in line]
+        said = refused[0] if refused else ended.stderr.decode()[-500:]
+        raise Failed("%s ended with status %d: %s" % (" ".join(command), ended.returncode, said))
     return ended
 
 

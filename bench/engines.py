@@ -157,25 +157,23 @@ def kept_rows() -> List[Row]:
     return [row for name in names for row in rows() if row.name == name]
 
 
-def print_kept(engines: Sequence[Engine]) -> None:
-    """Prints the processor time of a frame of each engine, and the kept figures of others."""
+def print_kept(engines: Sequence[Engine], some: Sequence[Scene]) -> None:
+    """Prints the processor time of a frame of these scenes by each engine, and the kept figures of others."""
     print(KEPT_FORM % ("microseconds a frame, 1049 views", "wrap, leaf", "wrap, anew", "fixed, leaf", "fixed, anew"))
-    scenes_of = [row.made(row.sizes[0]) for row in kept_rows()]
     for engine in engines:
-        print(KEPT_FORM % (engine.name, *(shown(figures(engine, it, False).whole, False) for it in scenes_of)), flush=True)
+        print(KEPT_FORM % (engine.name, *(shown(figures(engine, it, False).whole, False) for it in some)), flush=True)
     for name, kept in KEPT:
         print(KEPT_FORM % (name, *kept))
     print(KEPT_NOTE)
 
 
-def scripts_of(some: Sequence[Row], counts: bool) -> List[bytes]:
+def scripts_of(some: Sequence[Scene], counts: bool) -> List[bytes]:
     """The scripts that the library is asked for."""
-    made = [row.made(size) for row in some for size in row.sizes[:None if counts else 1]]
-    return [it for scene in made for it in scripts(scene, edits_in(scene, counts))[:2]]
+    return [it for scene in some for it in scripts(scene, edits_in(scene, counts))[:2]]
 
 
-def engines_of(program: str, library: Optional[str], beside: Optional[str], some: Sequence[Row], counts: bool) -> List[Engine]:
-    """The engines that there are."""
+def engines_of(program: str, library: Optional[str], beside: Optional[str], some: Sequence[Scene], counts: bool) -> List[Engine]:
+    """The engines that there are, for these scenes."""
     engines = [process_engine("program", [program, "run"])]
     engines += [library_engine(library, scripts_of(some, counts), counts)] if library else []
     return engines + ([process_engine("other", [*shlex.split(beside), "run"])] if beside else [])
@@ -205,12 +203,14 @@ def measure(what: Asked, program: str, library: Optional[str]) -> bool:
     """Prints the table, and answers whether all engines wrote the same pages."""
     counts = costs.has_callgrind()
     try:
-        engines = engines_of(program, library, what.beside, what.rows, counts)
+        some = [row.made(size) for row in what.rows for size in row.sizes]
+        engines = engines_of(program, library, what.beside, some, counts)
         print("instructions of an edit and its frame" if counts else "microseconds of an edit and its frame")
         print(FORM % ("", "views", "program", "line", "library", "other", "ratio", "growth"), flush=True)
         good = all([print_row(row, engines, counts) for row in what.rows])
         if {row.name for row in kept_rows()} <= {row.name for row in what.rows}:
-            print_kept(engines_of(program, library, what.beside, kept_rows(), False))
+            some = [row.made(row.sizes[0]) for row in kept_rows()]
+            print_kept(engines_of(program, library, what.beside, some, False), some)
     except costs.Failed as failed:
         print("bench/run engines: %s" % failed, file=sys.stderr)
         return False
