@@ -18,7 +18,7 @@ from scenes import Scene, Tree
 # how many edits come before those that are measured; from then on there is nothing new in the edits of a tree
 WARM = 4
 # how many lines of edits are measured at least, by callgrind and by the clock
-COUNTED, TIMED = 8, 2000
+COUNTED, TIMED = 8, 1000
 
 FORM = "%-38s %6s %10s %8s %10s %10s %6s %12s"
 Made = Callable[[int], Scene]
