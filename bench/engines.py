@@ -2,7 +2,7 @@
 
 A row is a tree and an edit (scenes.py) at two sizes. Its figures are the difference between a script with some more edits,
 a frame after each, and the same script without these, a pair: instructions by callgrind, or microseconds of processor time
-where valgrind is not there. `line` is the part of the program's figure that the edit takes without its frame, `below` the
+where valgrind is not there. `line` is the part of the program's figure that the edit takes without its frame, `ratio` the
 program's figure by that of the other program, and `growth` the figure by that of the size before, the other program's in
 brackets. All have to write the same bytes.
 """
@@ -15,7 +15,7 @@ import scenes
 from costs import Cost
 from scenes import Scene, Tree
 
-# how many edits come before those that are measured; from then on there is nothing new in the edits of a tree
+# how many edits come before those that are measured
 WARM = 4
 # how many lines of edits are measured at least, by callgrind and by the clock
 COUNTED, TIMED = 8, 1000
@@ -33,7 +33,7 @@ class Row(NamedTuple):
 Scened = Callable[[Tree, bytes, bool], Scene]
 LINEAR, FRAME, RELATIVE = b"LinearLayout", b"FrameLayout", b"RelativeLayout"
 GROUPS = (("wrap", False), ("fixed", True))
-# the tree whose figures there are of other engines
+# the tree of which there are figures of other engines; it has 16 rows at the second size
 GRID = "8 rows, groups %s, %s"
 
 
