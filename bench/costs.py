@@ -1,6 +1,5 @@
 """What scripts cost a program, or the library in a process of Python: instructions by callgrind where valgrind is there,
 and processor time."""
-import glob
 import hashlib
 import os
 import re
@@ -13,7 +12,6 @@ from typing import List, NamedTuple, Sequence
 
 FOLDER = os.path.dirname(os.path.realpath(__file__))
 COLLECTED = re.compile(r"Collected : (\d+)")
-SUMMARY = re.compile(r"^summary: (\d+)", re.M)
 # the function of the library that a call of it carries a script out by
 CALL = "vindaesk_c::page::page_for"
 # where time is measured, it is the least of this many runs
@@ -82,7 +80,7 @@ def of_children() -> float:
 
 
 def calls(library: str, scripts: Sequence[bytes], counts: bool) -> List[Cost]:
-    """What calls of the library cost, one after the other in one process: instructions, or else the least processor time
+    """What calls of the library cost, one after the other: instructions, or else the least processor time
     of some calls."""
     with tempfile.TemporaryDirectory() as folder:
         paths = [os.path.join(folder, "%d.script" % number) for number in range(len(scripts))]
@@ -90,22 +88,13 @@ def calls(library: str, scripts: Sequence[bytes], counts: bool) -> List[Cost]:
             with open(path, "wb") as file:
                 file.write(script)
         # the path of Python itself: the command may be a script that starts it
-        command = [sys.executable, "-I", "-S", os.path.join(FOLDER, "call_library.py"), library, str(1 if counts else RUNS)]
-        out = os.path.join(folder, "out")
-        only = callgrind(out, "--collect-atstart=no", "--toggle-collect=" + CALL, "--dump-after=" + CALL)
-        rows = run([*(only if counts else []), *command, *paths], b"").stdout.decode().splitlines()
-        # a first call of each script takes its memory anew, a second one what the first has given back
-        spent = dumped(out)[1::2] if counts else [float(row.split()[0]) for row in rows]
-    if len(spent) != len(scripts):
-        raise Failed("callgrind saw %d calls of %s in %s, and not %d" % (len(spent), CALL, library, len(scripts)))
+        command = [sys.executable, "-I", "-S", os.path.join(FOLDER, "call_library.py"), library, str(0 if counts else RUNS)]
+        only = callgrind("/dev/null", "--collect-atstart=no", "--toggle-collect=" + CALL)
+        ended = run([*(only if counts else []), *command, *paths], b"")
+    rows = ended.stdout.decode().splitlines()
+    # each call has a process of its own; the last one has none
+    counted = [float(it) for it in COLLECTED.findall(ended.stderr.decode())][:-1]
+    spent = counted if counts else [float(row.split()[0]) for row in rows]
+    if len(spent) != len(scripts) or 0 in spent:
+        raise Failed("callgrind did not see all calls of %s in %s" % (CALL, library))
     return [Cost(cost, row.split()[1]) for cost, row in zip(spent, rows)]
-
-
-def dumped(out: str) -> List[float]:
-    """The instructions of each part that callgrind has written, without the one of the end."""
-    found: List[float] = []
-    for number in range(1, 1 + len(glob.glob(out + ".*"))):
-        with open("%s.%d" % (out, number), encoding="utf-8") as file:
-            summary = SUMMARY.search(file.read())
-        found.append(float(summary[1]) if summary else float("nan"))
-    return found
