@@ -399,6 +399,7 @@ def refuses_to_write() -> str:
     """Nothing is written without --write, into a file that changed meanwhile, or what does not fit."""
     with place() as it:
         it.put("a.xml", SOURCE)
+        it.put("b.xml", SOURCE.replace("android:padding", 'android:theme="?a" android:padding'))
         it.put("a.script", TOUCHED)
         with previewed(it, "a.xml") as page:
             page.row(lambda row: row["picture"])
@@ -411,6 +412,8 @@ def refuses_to_write() -> str:
             ("a.script", 3, "orient", "verticl", "'verticl' does not fit; did you mean 'vertical'?"),
             ("a.script", 1, "bg", "@color/x", "@color/x has no id"),
             ("a.xml", 3, "android:text", "\ud800", "half of a character"),
+            ("a.xml", 3, "android:padding", "", "android:padding: '' does not fit"),
+            ("b.xml", 3, "android:theme", "", "android:theme cannot be empty; take it out of b.xml in an editor"),
         ):
             before = it.read(name)
             with previewed(it, name, "--write") as page:
@@ -641,17 +644,23 @@ def is_used_by_keys(browser: chromium.Browser) -> str:
 
 
 def is_edited(browser: chromium.Browser, it: Place) -> str:
-    """A value is edited: one that does not fit, and one that is written."""
+    """A value is edited: one that is left without Enter, one that does not fit, and one that is written."""
     field = "[...document.querySelectorAll('#values li')].find(it => it.textContent.startsWith('text')).querySelector('input')"
-    browser.value("choose(4, false); %s.focus(); %s.select()" % (field, field))
+    for leave in ("document.getElementById('tap').focus()", ""):
+        browser.value("choose(4, false); %s.focus(); %s.select()" % (field, field))
+        browser.write("Left")
+        browser.value(leave) if leave else browser.press("Escape")
+        if browser.value("%s.value" % field) != "Send" or it.read("a.script") != TOUCHED.encode():
+            return "what is left without Enter stays, or is written"
+    browser.value("%s.focus(); %s.select()" % (field, field))
     browser.write("a\\q")
-    browser.value("%s.dispatchEvent(new Event('change'))" % field)
+    browser.press("Enter")
     browser.until("document.querySelector('#values .wrong:not(:empty)') !== null")
     if it.read("a.script") != TOUCHED.encode():
         return "what does not fit is written"
     browser.value("%s.select()" % field)
     browser.write("Archive")
-    browser.value("%s.dispatchEvent(new Event('change'))" % field)
+    browser.press("Enter")
     browser.until("viewOf(4).text === 'Archive'")
     wanted = TOUCHED.replace("Send", "Archive")
     it.put("b.script", it.read("a.script"))

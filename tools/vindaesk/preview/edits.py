@@ -15,6 +15,8 @@ from ..scripts.resource_names import Names
 from . import spots
 
 PREFIX = "android:"
+# attributes that are a text, which may be empty, beside those whose form is known
+TEXTS = frozenset(("hint", "contentDescription", "tooltipText", "tag"))
 # a value that begins so names something, which only the app knows
 NAMING = ("@", "?")
 ESCAPES = {"&": "&amp;", "<": "&lt;", "\n": "&#10;", "\t": "&#9;", "\r": "&#13;"}
@@ -24,6 +26,9 @@ QUOTES = {'"': "&quot;", "'": "&apos;"}
 def check_attribute(spot: Spot, text: str) -> None:
     """A value that an attribute cannot have is a failure."""
     name = spot.name[len(PREFIX) :]
+    may_be_empty = spot.name.startswith(PREFIX) and (name in attributes.KNOWN or name in TEXTS)
+    if not text.strip() and not may_be_empty:
+        raise Failure("%s cannot be empty; take it out of %s in an editor" % (spot.name, spot.file), WRONG)
     if not spot.name.startswith(PREFIX) or text.strip().startswith(NAMING) or name not in attributes.KNOWN:
         return
     try:
