@@ -387,6 +387,25 @@ def writes_back() -> str:
     return ""
 
 
+def writes_again() -> str:
+    """Values that are written right after one another, before the page has seen the new file; and a file that becomes
+    what it was."""
+    texts = (("android:text", "A & <b>", "much longer"), ("android:padding", "8dp", "12dp"), ("android:padding", "12dp", "9dp"),
+             ("android:text", "much longer", ""), ("android:layout_height", "wrap_content", "20dp"))
+    wanted = SOURCE.replace("8dp", "9dp").replace("A &amp; &lt;b&gt;", "").replace('height="wrap_content"', 'height="20dp"')
+    with place() as it:
+        it.put("a.xml", SOURCE)
+        with previewed(it, "a.xml", "--write") as page:
+            page.row(lambda row: row["picture"])
+            asked = {name: value_of(page, 3, name) for name, _, _ in texts}
+            found = [page.post("edit", {**asked[name], "old": old, "text": new}) for name, old, new in texts]
+            if found != [(200, {})] * len(texts) or it.read("a.xml").decode() != wanted:
+                return "%s, %r" % (found, it.read("a.xml"))
+            it.put("a.xml", SOURCE)
+            status, _ = page.post("edit", {**asked["android:padding"], "text": "7dp"})
+            return "" if status == 200 and it.read("a.xml").decode() == SOURCE.replace("8dp", "7dp") else "%d after that" % status
+
+
 def value_of(page: Page, view: int, name: str) -> Dict[str, Any]:
     """The request that writes a value of a view of the first configuration, less the new text."""
     first = page.state(page.first)
@@ -730,7 +749,7 @@ def checks() -> Checks:
     yield from named("the preview", (
         pictures_are_those_of_other_tools, configurations, findings_are_those_of_lint, places_are_those_of_the_source,
         single_sources_are_those_of_app, changes_come_in_time, broken_files_keep_the_picture,
-        touches_are_answered, writes_back, refuses_to_write, hostile_requests, ends_cleanly, wrong_calls,
+        touches_are_answered, writes_back, writes_again, refuses_to_write, hostile_requests, ends_cleanly, wrong_calls,
     ))
     yield "browser: shows a preview", shows
     yield "browser: says why there is no picture", says_why_there_is_no_picture

@@ -2,6 +2,9 @@
 import os
 import shutil
 import tempfile
+import threading
+from dataclasses import dataclass, replace
+from typing import Dict, Tuple
 
 from ..common import files
 from ..common.failures import NOT_RUN, WRONG, Failure
@@ -69,15 +72,64 @@ def edited(body: bytes, spot: Spot, text: str, ids: Ids) -> bytes:
     return body[: spot.start] + text.encode() + body[spot.end :]
 
 
-def write(spot: Spot, text: str, known: str, ids: Ids) -> None:
-    """Writes a value. The file has to be the one of this digest still."""
-    body = files.read(spot.file)
-    if spots.digest(body) != known:
-        raise Failure("%s changed meanwhile; nothing is written" % spot.file, NOT_RUN)
-    replace(spot.file, edited(body, spot, text, ids))
+@dataclass(frozen=True)
+class Change:
+    """What a write changed in a file: where the value was, its text and its number of bytes since then, and the digest
+    of the file after it."""
+
+    start: int
+    end: int
+    text: str
+    length: int
+    after: str
+
+    def moved(self, spot: Spot) -> Spot:
+        """Where a value of the file is after it."""
+        if spot.start == self.start:
+            return replace(spot, text=self.text, end=self.start + self.length)
+        shift = self.length - (self.end - self.start) if spot.start >= self.end else 0
+        return replace(spot, start=spot.start + shift, end=spot.end + shift)
 
 
-def replace(path: str, body: bytes) -> None:
+class Writer:
+    """Writes values, one after another. What it wrote itself is no change by others: values that were found before then
+    are found again."""
+
+    def __init__(self) -> None:
+        # by the file and its digest before
+        self.changes: Dict[Tuple[str, str], Change] = {}
+        self.writing = threading.Lock()
+
+    def caught_up(self, spot: Spot, known: str, now: str) -> Tuple[Spot, str]:
+        """Where a value is after what was written since a file had a digest, and the digest that it has then."""
+        path = os.path.realpath(spot.file)
+        while known != now and (path, known) in self.changes:
+            change = self.changes[path, known]
+            spot, known = change.moved(spot), change.after
+        return spot, known
+
+    def write(self, spot: Spot, old: str, text: str, known: str, ids: Ids) -> None:
+        """Writes a value that had another text. The file has to be the one of a digest still, but for what was written
+        here."""
+        with self.writing:
+            body = files.read(spot.file)
+            now = spots.digest(body)
+            spot, known = self.caught_up(spot, known, now)
+            if known != now:
+                raise Failure("%s changed meanwhile; nothing is written" % spot.file, NOT_RUN)
+            if spot.text != old:
+                raise Failure("the view has no such value any more; nothing is written", WRONG)
+            made = edited(body, spot, text, ids)
+            put(spot.file, made)
+            after, path = spots.digest(made), os.path.realpath(spot.file)
+            if after != now:
+                length = len(made) - len(body) + spot.end - spot.start
+                self.changes[path, now] = Change(spot.start, spot.end, text, length, after)
+            # what the file has now comes after all others
+            self.changes.pop((path, after), None)
+
+
+def put(path: str, body: bytes) -> None:
     """Puts a text in the place of a file's, whose rights stay; it is never half written."""
     path = os.path.realpath(path)
     place = None

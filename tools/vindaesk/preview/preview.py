@@ -88,6 +88,7 @@ class Preview:
         self.changed = threading.Condition()
         # what has to be carried out one after another: reading, and what the live program is asked
         self.reading, self.asking = threading.Lock(), threading.Lock()
+        self.writer = edits.Writer()
         self.live: Optional[Live] = None
         # of which layout, up to which of its frames, the live program is
         self.live_of: Tuple[Optional[Layout], int] = (None, 0)
@@ -313,7 +314,7 @@ class Preview:
             raise Failure("nothing is written without --write", WRONG)
         shown = self.of(name)
         of_view = shown.spots.of_views.get(view, [])
-        if not 0 <= place < len(of_view) or of_view[place].text != old or shown.layout is None:
+        if not 0 <= place < len(of_view) or shown.layout is None:
             raise Failure("the view has no such value any more; nothing is written", WRONG)
         spot = of_view[place]
-        edits.write(spot, text, shown.spots.digests[spot.file], shown.layout.script.ids)
+        self.writer.write(spot, old, text, shown.spots.digests[spot.file], shown.layout.script.ids)
