@@ -1,6 +1,7 @@
 """Tries each rule of tools/lint over the examples of tools/vindaesk/lint/rules.md: one in which it finds what is noted
-there, by line and column, and one in which it finds nothing. What is noted was worked out by hand from docs/LAYOUT.md,
-docs/PAINTING.md and docs/FOCUS.md; contrasts are those that WebAIM's checker says of these colours."""
+there, by line and column, and one in which it finds nothing, each by itself and as it is printed. What is noted was
+worked out by hand from docs/LAYOUT.md, docs/PAINTING.md and docs/FOCUS.md; contrasts are those that WebAIM's checker says
+of these colours."""
 import os
 from functools import partial
 
@@ -26,10 +27,26 @@ def tries(it: Section) -> str:
     """Why an example is not as it should be."""
     if it.finds.count(" %s: " % it.name) != 1 or it.finds.count("\n") != 1:
         return "it finds %r" % it.finds
-    if not it.passes or not set(it.passes) <= set(it.fails) or it.passes == it.fails:
+    fails, passes = (printed(it.text(), words) for words in (sections.FAILS, sections.PASSES))
+    if (fails, passes) != (it.fails, it.passes):
+        return "the examples are printed as %s and %s" % (fails, passes)
+    if list(passes) != list(fails) or passes == fails:
         return "the examples are the same, or have other files"
-    why = unlike_in(it.name, it.fails, it.finds)
-    return why or unlike_in(it.name, {**it.fails, **it.passes}, "")
+    return unlike_in(it.name, fails, it.finds) or unlike_in(it.name, passes, "")
+
+
+def printed(text: str, words: str) -> Files:
+    """The files of an example as `--explain` prints it below some words: each below its name, indented."""
+    found: Files = {}
+    below, name = "", ""
+    for line in text.split("\n"):
+        if line in (sections.FAILS, sections.PASSES):
+            below = line
+        elif line.startswith("    ") and below == words and name != "It finds":
+            found[name] = found.get(name, "") + line[4:] + "\n"
+        elif line.endswith(":"):
+            name = line[:-1]
+    return found
 
 
 def page_has_all() -> str:
