@@ -4,7 +4,7 @@ import re
 from typing import Dict, List, Tuple
 
 from running import Checks, named
-from tools import EXAMPLES, first, place, unlike
+from tools import EXAMPLES, Place, first, place, unlike
 from vindaesk.lint import rules
 
 FAULTS = """window 320 200
@@ -204,8 +204,8 @@ def names_circles() -> str:
 
 
 def finds_once() -> str:
-    """What several scripts include is found once, where it is the same, and a line of it that is refused is said once;
-    of a script that includes it twice the second one is found too."""
+    """What scripts and layouts include is found once, where it is the same, also of one that includes it twice; and a
+    line of it that is refused is said once."""
     start = "window %d 200\nadd root FrameLayout match match\n"
     with place() as it:
         it.put("row.lines", ROW)
@@ -216,7 +216,7 @@ def finds_once() -> str:
         why = unlike(it.call("lint", "a.script", "b.script", *words), 1, wanted, "")
         it.put("b.script", start % 320 + "include row.lines\n" * 2 + "frame\n")
         twice = it.call("lint", "a.script", "b.script", *words)[1].count(b"row.lines:1:1: ")
-        why = why or ("" if twice == 2 else "%d of a file that is included twice" % twice)
+        why = why or ("" if twice == 1 else "%d of a file that is included twice" % twice) or of_layouts(it)
         it.put("row.lines", ROW + "foo\n")
         refused = "row.lines:2:1: 31 Syntax: no line begins with 'foo'\n"
         for jobs in ("1", "2"):
@@ -224,6 +224,19 @@ def finds_once() -> str:
             of_check = it.call("check", "a.script", "b.script", "--quiet", "--jobs", jobs)[1].decode()
             why = why or ("" if (said, of_check) == ("lint: " + refused, refused) else "%r, %r" % (said, of_check))
         return why
+
+
+def of_layouts(it: Place) -> str:
+    """The same of a layout that is looked at by itself too."""
+    root = '<LinearLayout xmlns:android="http://schemas.android.com/apk/res/android" android:orientation="vertical"\n' \
+           '    android:layout_width="match_parent" android:layout_height="match_parent">\n%s</LinearLayout>\n'
+    image = '    <ImageView android:layout_width="48dp" android:layout_height="48dp" android:src="@drawable/none" />\n'
+    os.makedirs(os.path.join(it.folder, "app", "res", "layout"))
+    it.put("app/res/layout/a.xml", root % ('    <include layout="@layout/b" />\n' * 2))
+    it.put("app/res/layout/b.xml", (root % image).replace('height="match_parent"', 'height="wrap_content"'))
+    found = [line.split(" v")[0] for line in it.call("lint", "app")[1].decode().splitlines()]
+    b = "app/res/layout/b.xml:3:5: "
+    return "" if found == [b + "error missing-resource:", b + "warning content-description:"] else "of layouts: %s" % found
 
 
 def takes_folders_of_sources() -> str:

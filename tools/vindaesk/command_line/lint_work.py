@@ -32,21 +32,22 @@ class Outcome(NamedTuple):
 
 
 class Known:
-    """What was found of several scripts. A line of a file that they include is found in each, and kept once, with the
-    configurations of all; so is what is found on several devices."""
+    """What was found of several scripts. What is written in a file that they include is found in each, or several times
+    in one, and kept once, with the configurations of all; so is what is found on several devices."""
 
     def __init__(self) -> None:
         self.found: List[Finding] = []
         self.known: Dict[Tuple[object, ...], List[Finding]] = {}
 
     def add(self, found: Sequence[Finding]) -> None:
-        """Adds what was found of one of them: of equal findings, which may be at several views of it, as many as it has
-        more than those before."""
+        """Adds what was found of one of them. Where files have no columns, a place may be that of several views: of equal
+        findings as many are kept as one way to the place has."""
         counts: Dict[Tuple[object, ...], int] = {}
         for it in found:
-            key = (it.rule, it.places, VIEW.sub("v", it.name), VIEW.sub("v", it.sentence))
+            is_one = it.place.column > 0
+            key = (it.rule, it.place, "" if is_one else VIEW.sub("v", it.name), VIEW.sub("v", it.sentence))
             same = self.known.setdefault(key, [])
-            place = counts[key] = counts.get(key, -1) + 1
+            place = counts[key, it.places] = 0 if is_one else counts.get((key, it.places), -1) + 1
             if place < len(same):
                 known = same[place].configurations
                 known += [name for name in it.configurations if name not in known]
