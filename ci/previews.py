@@ -191,15 +191,23 @@ def configurations() -> str:
 
 
 def findings_are_those_of_lint() -> str:
-    """Of a layout of an app as many as lint has, and of these rules; an element that says so is passed over."""
+    """Of a layout of an app those that lint has, at views of the same names; what is included twice is at both views. An
+    element that says so is passed over."""
     with place() as it:
         shutil.copytree(os.path.join(EXAMPLES, "trips", "res"), os.path.join(it.folder, "app", "res"))
         home = "app/res/layout/home.xml"
-        rules = sorted(re.findall(r": warning ([\w-]+): (v[0-9]+)", it.call("lint", home)[1].decode()))
+        lines = it.call("lint", home)[1].decode()
+        names, places = (set(re.findall(form, lines, re.M)) for form in (
+            r": warning ([\w-]+: v[0-9]+ \w+)", r"^(.*:[0-9]+:[0-9]+: warning [\w-]+:)"))
         with previewed(it, home) as page:
             page.row(lambda row: row["findings"] is not None, "phone")
-            found = sorted((one["rule"], "v%d" % one["view"]) for one in page.state("phone")["found"])
-    return "" if found == rules and rules else "lint has %s, the preview %s" % (rules, found)
+            state = page.state("phone")
+        views = {view["number"]: view for view in state["views"]}
+        shown = {"%s: v%d %s" % (one["rule"], one["view"], views[one["view"]]["kind"]) for one in state["found"]}
+        elements = [(views[one["view"]]["element"], one["rule"]) for one in state["found"]]
+        at = {"%s:%d:%d: warning %s:" % (element["file"], element["line"], element["column"], rule) for element, rule in elements}
+    is_same = names and names <= shown and at == places
+    return "" if is_same else "lint has %s at %s, the preview %s at %s" % (names, places, shown, at)
 
 
 def places_are_those_of_the_source() -> str:

@@ -51,7 +51,8 @@ def view_record(it: Placed, shown: Shown) -> Record:
     values = [{"name": spot.name, "value": spot.text, "file": spot.file, "line": spot.line} for spot in of_view]
     element = {"name": place.element, "file": shown_path(place.file), "line": place.line, "column": place.column,
                "notes": list(place.notes)} if place else None
-    return {**placement.record(it), "answer": it.view.answer, "padding": it.view.given.get("padding", ""),
+    kind = place.element.rpartition(".")[2] if place else it.view.kind
+    return {**placement.record(it), "kind": kind, "answer": it.view.answer, "padding": it.view.given.get("padding", ""),
             "margins": it.view.given.get("margins", ""), "element": element, "values": values}
 
 
