@@ -37,7 +37,6 @@ FIGURES = {
     "the time of the gate": r"(?:From|from) nothing,? (?:it takes )?([\w ]+?) on 4 cores",
     "frames beside Android": r"of ([\d ]+) (?:random )?frames with edits between",
     "frames as Android has them": r"([\d ]+) are as Android has them",
-    "questions for the focus": r"(?:Of|of) (\d+) (?:random )?questions",
     "layouts of apps that are made": r"(?:of (\d+) layouts in|\d+ of (\d+); six)",
     "views of apps": r"(?:of their (\d+) views|\d+ of (\d+) \(\d+ %\))",
     "the share of exact views": r"(?:and (\d+) % of their|\((\d+) %\)\|)",
