@@ -11,17 +11,17 @@ from running import TOP, Checks
 PAGE = os.path.join(TOP, "docs", "PROMISES.md")
 HEAD = """# Promises
 
-`ci/promises` makes this page of the sources: a sentence is the comment above a clause or a call, a link leads to its line. A clause is proved
-for all arguments, whatever was called before; its terms are in the `specs/` of its crate. [PROOFS](PROOFS.md) says what is trusted, and
-what is promised nowhere.
+`ci/promises` makes this page of the sources: sentences are the comments above clauses and calls, links lead to their lines. A clause is proved
+for all arguments, whatever was called before; its crate's `specs/` has its terms. [PROOFS](PROOFS.md) says what is trusted, and what is
+promised nowhere.
 
-Any call may report that it is out of memory, and then only what a clause says of that is promised. A clause that reads a script or files has
-as its premise that contracts see these bytes, as those of objects in memory.
+Any call may run out of memory; then only what a clause says of that is promised. A clause that reads a script or files presumes that contracts see
+these bytes, as those of objects in memory.
 """
 TOOL = """
 ## The call `tool`
 
-The program and the library of C are this call.
+Program and library of C are this call.
 
 |promise|clauses|
 |---|---|
@@ -29,9 +29,10 @@ The program and the library of C are this call.
 CALLS = """
 ## The calls of the crates
 
-What crates export, the lowest crate first: a function with its clauses; a type with what always holds of its values, and its calls.
+What crates export, the lowest first: functions, what they are for (of long sentences the beginning), and their clauses; types, what always holds of
+their values, and their calls.
 
-|call|promise|clauses or calls|
+|call|what for|clauses or calls|
 |---|---|---|
 """
 TESTED = """
@@ -39,16 +40,18 @@ TESTED = """
 
 |what|where|
 |---|---|
-|The adapters over standard input, standard output and files do what their devices do: clauses say which bytes went to and came from the device|`crates/integration_tests/src/adapters.rt`|
-|`main` passes the arguments and the real objects to `tool`, and ends with its status|the stored run of `crates/view_tool`, `ci/checks`|
-|A call finds memory where there is some, and reports that there is none where a request was refused|`ci/examples.py`, `ci/out_of_memory.py`|
+|Adapters do what their devices do; clauses say which bytes passed|`crates/integration_tests/src/adapters.rt`|
+|`main` passes arguments and real objects to `tool`, and ends with its status|the stored run of `crates/view_tool`, `ci/checks`|
+|A call reports no memory exactly where a request was refused|`ci/examples.py`, `ci/out_of_memory.py`|
 |An empty script runs in 32 KiB of stack, any other in 128 KiB|`ci/memory.py`, on request|
 |A short reply is one write; how often a run measures at least|`crates/integration_tests/src/runs.rt`|
-|What is between a program and the library of C: the two functions of its header, Python, Java|`ci/native.py`, on request|
+|Between a program and the library of C: its header's two functions, Python, Java|`ci/native.py`, on request|
 |The launcher, the tools and the packages|`./vindaesk test`|
 |`dist/view_tool` is what the proof built|`.ci/run`|
 """
 UNNAMED = "clause"
+# the most words of a sentence that is whole, and the least of the part of a longer one
+LONG, LEAST = 12, 4
 # in a cell: one link a line
 BREAK = "<br>"
 
@@ -67,6 +70,14 @@ def first_sentence(text: str) -> str:
     return re.sub(r"\[(`[^`]+`)\]", r"\1", found[0] if found else text).rstrip(".:;")
 
 
+def purpose(item: Item) -> str:
+    """What a function is for: the first sentence of its comment without an article. Of one of more than `LONG` words it
+    is the part up to the first comma, if that has enough words to say something."""
+    text = re.sub(r"^(The|An?) ", "", first_sentence(item.summary))
+    short = text.split(", ")[0]
+    return cell(text if len(text.split()) <= LONG or len(short.split()) < LEAST else short)
+
+
 def clause_links(path: str, clauses: Sequence[Clause]) -> str:
     return BREAK.join(link(clause.name, path, clause.line) if clause.name
                       else "[%s](../%s#L%d)" % (UNNAMED, path, clause.line) for clause in clauses)
@@ -82,11 +93,12 @@ def rows_of_tool(call: Call) -> Iterator[str]:
 
 def row_of_item(item: Item) -> str:
     if [call.owner for call in item.calls] == [""]:
-        found = clause_links(item.path, item.calls[0].clauses)
+        what, found = purpose(item), clause_links(item.path, item.calls[0].clauses)
     else:
+        what = ""
         calls = BREAK.join(link(call.name, call.path, call.line) for call in item.calls)
         found = BREAK.join(part for part in (clause_links(item.path, item.invariants), calls) if part)
-    return "|%s|%s|%s|" % (link(item.name, item.path, item.line), cell(first_sentence(item.summary)), found)
+    return "|%s|%s|%s|" % (link(item.name, item.path, item.line), what, found)
 
 
 def rows_of_crate(crate: str) -> Iterator[str]:
