@@ -5,7 +5,7 @@ import os
 import re
 from typing import Dict, Iterator, List, Tuple
 
-from public_calls import crates
+from public_calls import beginning, crates
 from running import TOP, Checks
 
 PAGE = os.path.join(TOP, "docs", "ARCHITECTURE.md")
@@ -57,7 +57,7 @@ def table() -> str:
     rows = ["| crate | what it is |", "|---|---|"]
     for layer, members in layers().items():
         rows.append("|**%s**|%s|" % (layer, MEANING[layer]))
-        rows += ["|[`%s`](../crates/%s)|%s|" % (crate, crate, summary(crate)) for crate in members]
+        rows += ["|[`%s`](../crates/%s)|%s|" % (crate, crate, beginning(summary(crate), ": ")) for crate in members]
     return "\n".join(rows) + "\n"
 
 

@@ -5,7 +5,7 @@ import os
 import re
 from typing import Iterator, Sequence
 
-from public_calls import Call, Clause, Item, call_named, crates, items
+from public_calls import Call, Clause, Item, beginning, call_named, crates, items
 from running import TOP, Checks
 
 PAGE = os.path.join(TOP, "docs", "PROMISES.md")
@@ -50,8 +50,6 @@ TESTED = """
 |`dist/view_tool` is what the proof built|`.ci/run`|
 """
 UNNAMED = "clause"
-# the most words of a sentence that is whole, and the least of the part of a longer one
-LONG, LEAST = 12, 4
 # in a cell: one link a line
 BREAK = "<br>"
 
@@ -71,11 +69,8 @@ def first_sentence(text: str) -> str:
 
 
 def purpose(item: Item) -> str:
-    """What a function is for: the first sentence of its comment without an article. Of one of more than `LONG` words it
-    is the part up to the first comma, if that has enough words to say something."""
-    text = re.sub(r"^(The|An?) ", "", first_sentence(item.summary))
-    short = text.split(", ")[0]
-    return cell(text if len(text.split()) <= LONG or len(short.split()) < LEAST else short)
+    """What a function is for: the first sentence of its comment, or the beginning of that."""
+    return cell(beginning(first_sentence(item.summary), ", "))
 
 
 def clause_links(path: str, clauses: Sequence[Clause]) -> str:
