@@ -54,7 +54,7 @@ def summary(crate: str) -> str:
 
 
 def table() -> str:
-    rows = ["| crate | what it is |", "|---|---|"]
+    rows = ["|crate|what it is|", "|---|---|"]
     for layer, members in layers().items():
         rows.append("|**%s**|%s|" % (layer, MEANING[layer]))
         rows += ["|[`%s`](../crates/%s)|%s|" % (crate, crate, beginning(summary(crate), ": ")) for crate in members]

@@ -19,7 +19,7 @@ def rows() -> Iterator[List[str]]:
     with open(os.path.join(TOP, *PAGE.split("/")), encoding="utf-8") as file:
         for line in file:
             cells = [it.strip() for it in line.strip().strip("|").split("|")]
-            if line.startswith("| `") and len(cells) == 3:
+            if line.startswith("|`") and len(cells) == 3:
                 yield cells
 
 
