@@ -45,7 +45,7 @@ fn a_screen_is_moved_byte_by_byte(rt: HostRuntime) -> Result<(), Fail> {
 
 #[test]
 fn a_screen_ends_at_each_write_that_fails(rt: HostRuntime) -> Result<(), Fail> {
-    let mut failed = 0;
+    let mut failed: u64 = 0;
     for k in 1..=3 * REPLIES {
         let call = Call {
             words: &["run"],
@@ -59,7 +59,7 @@ fn a_screen_ends_at_each_write_that_fails(rt: HostRuntime) -> Result<(), Fail> {
         let is_whole = gone.len() == ANSWER.len();
         assert!(rt; ANSWER.starts_with(gone.as_slice()));
         assert_eq!(rt; status, if is_whole { 0 } else { 4 });
-        failed += u64::from(!is_whole);
+        failed = failed.saturating_add(u64::from(!is_whole));
     }
     // Each answer is a write of its own at least, and all writes are among those that failed.
     assert!(rt; REPLIES <= failed && failed < 3 * REPLIES);
