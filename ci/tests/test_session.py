@@ -329,6 +329,17 @@ def test_says_why_none_takes_over() -> None:
         assert s.renew() == "" and s.renewals == 1
 
 
+def test_a_message_has_the_beginning_of_a_long_line() -> None:
+    with Session() as s:
+        try:
+            s.line("foo " + "x" * 60000)
+        except LineRefused as refused:
+            assert str(refused).endswith(": foo %s .. (59804 characters more)" % ("x" * 196))
+            assert len(refused.line) == 60004
+        else:
+            raise AssertionError("it is taken")
+
+
 # stacks and the focus
 
 

@@ -266,6 +266,6 @@ def run(work: Work, found: Sequence[Input], given: argparse.Namespace, wrong: st
     failed, others = sum(it.is_failed for it in ended), sum(it.status != 0 and not it.is_failed for it in ended)
     if not given.quiet and failed + others:
         sums = ["%d %s" % pair for pair in ((failed, "failed"), (others, wrong)) if pair[0]]
-        say("%d scripts: %s" % (len(ended), ", ".join(sums)))
+        say("%d script%s: %s" % (len(ended), "s"[len(ended) == 1 :], ", ".join(sums)))
     return failures.WRONG if any(it.status for it in ended) else 0
 

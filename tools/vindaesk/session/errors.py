@@ -4,11 +4,20 @@ from typing import Optional, Tuple
 from ..common.failures import WRONG, Failure
 
 
+# how many characters of a line a message has
+MOST = 200
+
+
+def shortened(line: str) -> str:
+    """A line as messages have it: what is cut off a long one is counted."""
+    return line if len(line) <= MOST else "%s .. (%d characters more)" % (line[:MOST], len(line) - MOST)
+
+
 class LineRefused(Exception):
     """A line was refused: the line, the number and the name of the reason, and what follows these."""
 
     def __init__(self, line: str, number: int, name: str, detail: str):
-        super().__init__("refused %d %s%s: %s" % (number, name, detail, line))
+        super().__init__("refused %d %s%s: %s" % (number, name, detail, shortened(line)))
         self.line = line
         self.number = number
         self.name = name
