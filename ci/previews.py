@@ -36,6 +36,8 @@ answer v4 click
 add v3 View match 200
 frame
 """
+# what the page says of findings while a file is broken
+OF_OLD = "none in the last good picture; lint has not looked at the files since"
 SOURCE = """<?xml version="1.0" encoding="utf-8"?>
 <!-- é -->
 <LinearLayout xmlns:android="http://schemas.android.com/apk/res/android"
@@ -726,7 +728,7 @@ def says_why_there_is_no_picture() -> str:
             browser.go(page.address)
             browser.until("state !== null && summary.configurations.length === 7")
             said = [*texts(browser, "#size"), *texts(browser, "#configurations .wrong")]
-            night = "night: locale and night choose files of values, and there is no resources-night.lines"
+            night = "locale and night choose files of values, and there is no resources-night.lines"
             wanted = ["There is no picture: " + why, *[why] * 5, night, why]
             buttons = browser.value("[...document.querySelectorAll('main button')].every(it => it.disabled)")
             hidden = browser.value("getComputedStyle(document.getElementById('stage')).display")
@@ -738,7 +740,17 @@ def says_why_there_is_no_picture() -> str:
             it.put("a.script", TOUCHED.replace("frame\n", ""))
             browser.until("summary.configurations[0].old")
             old = texts(browser, "#configurations .wrong")[0]
-            return looks(browser, False) or ("" if old == "old: " + why else "of an old picture it says '%s'" % old)
+            browser.value("state.found = []; summary.configurations[0].findings = 0; fillFound()")
+            found = texts(browser, "#found li")
+            if (old, found) != ("old: " + why, [OF_OLD]):
+                return "of an old picture it says '%s', findings %s" % (old, found)
+            return looks(browser, False)
+
+
+SIZES = """[...document.querySelectorAll("#facts dt, #facts dd, .values label, .values .name, .values input, .values .value")]
+    .map(it => getComputedStyle(it).fontSize)"""
+CUT = "[...document.querySelectorAll('#configurations .wrong')].filter(it => it.scrollHeight > it.clientHeight).length"
+EMPTY = "!document.querySelector('#log li') && getComputedStyle(document.getElementById('log'), '::before').content === 'none'"
 
 
 def looks(browser: chromium.Browser, is_dark: bool) -> str:
@@ -748,6 +760,9 @@ def looks(browser: chromium.Browser, is_dark: bool) -> str:
     back = browser.value("getComputedStyle(document.body).backgroundColor")
     if (back == "rgb(15, 19, 24)") != is_dark:
         return "its background is %s" % back
+    sizes, cut, is_empty = (browser.value(it) for it in (SIZES, CUT, EMPTY))
+    if len(set(sizes)) > 1 or cut or is_empty:
+        return "letters of %s, %d reasons that are cut, an empty box: %s" % (sorted(set(sizes)), cut, is_empty)
     unnamed = browser.value("[...document.querySelectorAll('button, input, [role=tree], [role=radiogroup]')].filter(it => "
                             "!it.ariaLabel && !it.getAttribute('aria-labelledby') && !(it.labels || []).length && !it.textContent).length")
     return "%d parts have no name" % unnamed if unnamed else ""
