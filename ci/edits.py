@@ -1,17 +1,13 @@
-"""The edits that must fail, crates/*/must-fail/*.edit: each says what a user would see were it taken (`# why:`), and where
-the prover refuses it (`# clause:`). What `rt ci` printed of them is compared with that, so that an edit which is refused
-elsewhere, by a type error for example, is found. `ci/edits LOG` writes the second lines from such a log."""
+"""The edits that must fail, crates/*/must-fail/*.edit: each says what a user would see were it taken (`# why:`). `ci/edits`
+prints where the prover refused each, from what `rt ci` printed."""
 import glob
 import os
 import re
-from functools import partial
 from typing import Dict, Iterator, List, NamedTuple, Tuple
 
-from running import TOP, Checks, Skipped
+from running import TOP, Checks
 
-WHY, CLAUSE = "# why: ", "# clause: "
-# the variable that names a file with what `rt ci` printed
-LOG = "VINDAESK_PROOFS_LOG"
+WHY = "# why: "
 # what `rt ci` prints of an edit: its crate, its name, and where it was refused
 REFUSED = re.compile(r"must-fail (\w+)/([\w.-]+)\.edit: refused, as it must be(?: \([^)]*\))?: (?:note: )?(?:\./)?(\S+?):(\d+):\d+: (.*)")
 FUNCTION = re.compile(r"\s*(?:pub(?:\([a-z]+\))? )?(?:const )?fn (\w+)")
@@ -27,9 +23,9 @@ class Edit(NamedTuple):
     name: str
     lines: List[str]
 
-    def all_of(self, word: str) -> List[str]:
-        """What its lines say that begin with a word."""
-        return [line[len(word):].strip() for line in self.lines if line.startswith(word)]
+    def reasons(self) -> List[str]:
+        """What its lines say that begin with `# why:`."""
+        return [line[len(WHY):].strip() for line in self.lines if line.startswith(WHY)]
 
 
 def path_of(crate: str, name: str) -> str:
@@ -67,33 +63,11 @@ def refusals(log: str) -> Dict[Tuple[str, str], str]:
     return {(it[1], it[2]): place(it[1], it[3], int(it[4]), it[5]) for it in found if it}
 
 
-def explained(word: str) -> str:
-    """Names the edits that have not just one line that begins with a word and says something."""
-    wrong = ["%s/%s" % (it.crate, it.name) for it in edits() if [bool(text) for text in it.all_of(word)] != [True]]
-    return "not one line '%s..': %s" % (word, " ".join(wrong)) if wrong else ""
-
-
-def refused_elsewhere(log: str) -> List[str]:
-    """Says of each edit that a log has at another place than the edit's own line, or not at all."""
-    found = refusals(log)
-    wrong = []
-    for it in edits():
-        said, where = found.get((it.crate, it.name)), it.all_of(CLAUSE)
-        if said is None or [said] != where:
-            wrong.append("%s/%s: refused at '%s', not at '%s'" % (it.crate, it.name, said or "no place", " ".join(where)))
-    return wrong
-
-
-def as_logged() -> str:
-    """Compares the edits with what `rt ci` printed before these checks."""
-    path = os.environ.get(LOG)
-    if not path:
-        raise Skipped(LOG, "%s names no output of 'rt ci'" % LOG)
-    with open(path, encoding="utf-8", errors="replace") as file:
-        return "\n".join(refused_elsewhere(file.read()))
+def explained() -> str:
+    """Names the edits that have not just one line that says why."""
+    wrong = ["%s/%s" % (it.crate, it.name) for it in edits() if [bool(text) for text in it.reasons()] != [True]]
+    return "not one line '%s..': %s" % (WHY, " ".join(wrong)) if wrong else ""
 
 
 def checks() -> Checks:
-    for word in (WHY, CLAUSE):
-        yield "edits: each has its line '%s'" % word.strip("# :"), partial(explained, word)
-    yield "edits: each is refused at its clause", as_logged
+    yield "edits: each has its line 'why'", explained

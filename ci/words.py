@@ -175,9 +175,9 @@ def example() -> str:
 MOST, MOST_OF_REFERENCES, README_LINES = 3500, 5000, 150
 REFERENCES = ("docs/SCRIPT.md", "docs/LAYOUT.md", "docs/FORMATS.md")
 # the most words of all pages; it may only become lower
-MOST_OF_ALL = 46300
-# the most columns of a line of prose, 200 but for one line; a row of a table can't be broken
-WIDEST = 231
+MOST_OF_ALL = 36800
+# the most columns of a line of prose; a row of a table can't be broken
+WIDEST = 200
 
 
 def too_long(lengths: Dict[str, int]) -> str:

@@ -18,9 +18,6 @@ class Refusals(unittest.TestCase):
             ("view_model", "two"): "proofs/NumberLaws.antt refusals",
         })
 
-    def test_each_edit_that_a_log_lacks_is_said(self) -> None:
-        self.assertEqual(len(edits.refused_elsewhere(LOG)), len(list(edits.edits())))
-
 
 if __name__ == "__main__":
     unittest.main()
