@@ -109,7 +109,7 @@ class Writer:
         return spot, known
 
     def write(self, spot: Spot, old: str, text: str, known: str, ids: Ids) -> None:
-        """Writes a value that had another text. The file has to be the one of a digest still, but for what was written
+        """Writes a value that had another text. The file has to be the one of a digest still, except what was written
         here."""
         with self.writing:
             body = files.read(spot.file)
