@@ -134,7 +134,7 @@ def knows_its_names() -> str:
 
 
 def reports_a_lost_process() -> str:
-    kills = EXAMPLES.replace('return ""', "os.kill(os.getpid(), signal.SIGKILL)")
+    kills = EXAMPLES.replace("return why", "os.kill(os.getpid(), signal.SIGKILL)")
     for way in options("2"):
         with copied(kills) as folder:
             status, lines = ended(folder, *way, "a: passes")

@@ -268,17 +268,20 @@ def changes_come_in_time() -> str:
         return "between two looks at the files there are %g s" % watcher.PAUSE
     with place() as it:
         os.makedirs(os.path.join(it.folder, "res", "layout"))
-        for name, made in (("a.script", of_views), ("res/layout/a.xml", source_of)):
+        # of a layout, tools/app has to be asked too, which takes as long as the program where others use the machine
+        for name, made, share in (("a.script", of_views, SHARE), ("res/layout/a.xml", source_of, 3 * SHARE)):
             it.put(name, made(200))
             with previewed(it, name) as page:
-                quickest = quickest_change(it, page, name, made)
+                quickest = quickest_change(it, page, (name, made), share)
             if quickest:
                 return "%s: the quickest change took %d ms" % (name, 1000 * quickest)
     return ""
 
 
-def quickest_change(it: Place, page: Page, name: str, made: Callable[[int, str], str]) -> float:
-    """Of some changes of a file the quickest, in seconds, since others use the machine too; 0 if it was in time."""
+def quickest_change(it: Place, page: Page, changed: Tuple[str, Callable[[int, str], str]], share: float) -> float:
+    """Of some changes of a file the quickest, in seconds, since others use the machine too; 0 if it was in time, which
+    is a share of what the program alone takes."""
+    name, made = changed
     old = page.row(lambda row: row["picture"] and row["findings"] is not None)["picture"]
     times = []
     for number in range(TRIES):
@@ -291,7 +294,7 @@ def quickest_change(it: Place, page: Page, name: str, made: Callable[[int, str],
         page.read("picture/%s.png" % row["picture"])
         times.append(time.monotonic() - begun)
         old = row["picture"]
-        if times[-1] <= max(MOST, SHARE * alone):
+        if times[-1] <= max(MOST, share * alone):
             return 0
     return min(times)
 
