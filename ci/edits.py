@@ -1,13 +1,17 @@
-"""The edits that must fail, crates/*/must-fail/*.edit: each says what a user would see were it taken (`# why:`). `ci/edits`
-prints where the prover refused each, from what `rt ci` printed."""
+"""The edits that must fail, crates/*/must-fail/*.edit: each says what a user would see were it taken (`# why:`), and where
+the prover has to refuse it (`# clause:`). `ci/edits` prints where it refused each, from what `rt ci` printed, and writes the
+lines `# clause:`."""
 import glob
 import os
 import re
 from typing import Dict, Iterator, List, NamedTuple, Tuple
 
-from running import TOP, Checks
+from running import TOP, Checks, Skipped
 
 WHY = "# why: "
+CLAUSE = "# clause: "
+# the variable that names the file with what `rt ci` printed, which `.ci/run` sets
+LOG = "VINDAESK_PROOFS_LOG"
 # what `rt ci` prints of an edit: its crate, its name, and where it was refused
 REFUSED = re.compile(r"must-fail (\w+)/([\w.-]+)\.edit: refused, as it must be(?: \([^)]*\))?: (?:note: )?(?:\./)?(\S+?):(\d+):\d+: (.*)")
 FUNCTION = re.compile(r"\s*(?:pub(?:\([a-z]+\))? )?(?:const )?fn (\w+)")
@@ -23,9 +27,15 @@ class Edit(NamedTuple):
     name: str
     lines: List[str]
 
-    def reasons(self) -> List[str]:
-        """What its lines say that begin with `# why:`."""
-        return [line[len(WHY):].strip() for line in self.lines if line.startswith(WHY)]
+    def said(self, mark: str) -> List[str]:
+        """What its lines say that begin with a mark."""
+        return [line[len(mark):].strip() for line in self.lines if line.startswith(mark)]
+
+    def with_clause(self, clause: str) -> List[str]:
+        """Its lines with one line `# clause:`, after the one that says why."""
+        lines = [line for line in self.lines if not line.startswith(CLAUSE)]
+        after = next((number for number, line in enumerate(lines, 1) if line.startswith(WHY)), 0)
+        return [*lines[:after], CLAUSE + clause, *lines[after:]]
 
 
 def path_of(crate: str, name: str) -> str:
@@ -63,11 +73,37 @@ def refusals(log: str) -> Dict[Tuple[str, str], str]:
     return {(it[1], it[2]): place(it[1], it[3], int(it[4]), it[5]) for it in found if it}
 
 
-def explained() -> str:
-    """Names the edits that have not just one line that says why."""
-    wrong = ["%s/%s" % (it.crate, it.name) for it in edits() if [bool(text) for text in it.reasons()] != [True]]
-    return "not one line '%s..': %s" % (WHY, " ".join(wrong)) if wrong else ""
+def without_one(mark: str) -> str:
+    """Names the edits that have not just one line with a mark, or nothing."""
+    wrong = ["%s/%s" % (it.crate, it.name) for it in edits() if [bool(text) for text in it.said(mark)] != [True]]
+    return "not one line '%s..': %s" % (mark, " ".join(wrong)) if wrong else ""
+
+
+def refused_elsewhere(places: Dict[Tuple[str, str], str]) -> str:
+    """Names the edits that were not refused at the clause that they name, or nothing."""
+    wrong = []
+    for it in edits():
+        place = places.get((it.crate, it.name), "nowhere that the log says")
+        if it.said(CLAUSE) != [place]:
+            wrong.append("%s/%s: refused at %s, not at %s" % (it.crate, it.name, place, " ".join(it.said(CLAUSE))))
+    return "; ".join(wrong)
+
+
+def read_log(path: str) -> Dict[Tuple[str, str], str]:
+    """Where each edit was refused, by the file with what `rt ci` printed."""
+    with open(path, encoding="utf-8", errors="replace") as file:
+        return refusals(file.read())
+
+
+def refused_at_their_clauses() -> str:
+    """Which edits were not refused where they say, in the run of `rt ci` that the variable names."""
+    path = os.environ.get(LOG, "")
+    if not path:
+        raise Skipped(LOG, "%s names no file with what rt ci printed; .ci/run sets it" % LOG)
+    return refused_elsewhere(read_log(path))
 
 
 def checks() -> Checks:
-    yield "edits: each has its line 'why'", explained
+    yield "edits: each has its line 'why'", lambda: without_one(WHY)
+    yield "edits: each has its line 'clause'", lambda: without_one(CLAUSE)
+    yield "edits: each is refused at its clause", refused_at_their_clauses
