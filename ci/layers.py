@@ -5,7 +5,7 @@ import os
 import re
 from typing import Dict, Iterator, List, Tuple
 
-from public_calls import beginning, crates
+from public_calls import crates
 from running import TOP, Checks
 
 PAGE = os.path.join(TOP, "docs", "ARCHITECTURE.md")
@@ -22,6 +22,8 @@ MEANING = {
 # the way of a line's bytes, by the crates that it passes: an edit, the frame after it, and its reply
 WAY = ("view_tool", "tool_io", "whole_tool", "script_lines", "view_world", "seen_edits", "tree_edits", "view_tree", "traversal",
        "measure_pass", "linear_layout", "tree_painter", "pixel_raster", "text_lines")
+# the most words of a sentence that the table has whole, and the least of the part of a longer one
+LONG, ENOUGH = 12, 4
 # of the drawing, in pixels
 WIDTH, MARGIN, LEFT, BOX, GAP, ROW, LEAST = 960, 12, 190, 22, 6, 30, 58
 
@@ -53,11 +55,20 @@ def summary(crate: str) -> str:
     return ""
 
 
+def beginning(sentence: str) -> str:
+    """A sentence without the article at its head; of one of more than `LONG` words the part up to a colon, if that has
+    enough words to say something."""
+    text = re.sub(r"^(The|An?) ", "", sentence)
+    short = text.split(": ")[0]
+    chosen = text if len(text.split()) <= LONG or len(short.split()) < ENOUGH else short
+    return chosen[:1].upper() + chosen[1:]
+
+
 def table() -> str:
     rows = ["|crate|what it is|", "|---|---|"]
     for layer, members in layers().items():
         rows.append("|**%s**|%s|" % (layer, MEANING[layer]))
-        rows += ["|[`%s`](../crates/%s)|%s|" % (crate, crate, beginning(summary(crate), ": ")) for crate in members]
+        rows += ["|[`%s`](../crates/%s)|%s|" % (crate, crate, beginning(summary(crate))) for crate in members]
     return "\n".join(rows) + "\n"
 
 

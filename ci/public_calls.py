@@ -12,8 +12,6 @@ BLOCK = re.compile(r"(?:impl|trait|pub trait)(?:<[^{]*?>)? (.*)")
 TYPE = re.compile(r"pub (?:struct|enum|trait|type) (\w+)")
 CLAUSE = re.compile(r" *ensures(?: (\w+))? \{")
 INVARIANT = re.compile(r"    (?:pub )?ghost (\w+): \{")
-# the most words of a sentence that is whole, and the least of the part of a longer one
-LONG, LEAST = 12, 4
 EXPORTED = re.compile(r"^pub use ([^;]+);", re.M)
 
 
@@ -116,14 +114,6 @@ class Source:
             if found:
                 invariants = tuple(self.invariants(number)) if "struct" in line else ()
                 yield Item(found[1], self.path, number + 1, self.comment_above(number), invariants)
-
-
-def beginning(sentence: str, mark: str) -> str:
-    """A sentence without the article at its head; of one of more than `LONG` words the part up to the first mark, if
-    that has enough words to say something."""
-    text = re.sub(r"^(The|An?) ", "", sentence)
-    short = text.split(mark)[0]
-    return text if len(text.split()) <= LONG or len(short.split()) < LEAST else short
 
 
 def sources(crate: str) -> Iterator[Source]:
