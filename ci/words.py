@@ -175,7 +175,7 @@ def example() -> str:
 MOST, MOST_OF_REFERENCES, README_LINES = 3500, 5000, 150
 REFERENCES = ("docs/SCRIPT.md", "docs/LAYOUT.md", "docs/FORMATS.md")
 # the most words of all pages; it may only become lower
-MOST_OF_ALL = 36800
+MOST_OF_ALL = 36000
 # the most columns of a line of prose; a row of a table can't be broken
 WIDEST = 200
 
