@@ -5,7 +5,7 @@ import os
 import re
 from typing import Dict, Iterator, List, Sequence, Tuple
 
-from public_calls import Call, Clause, Item, call_named, crates, items
+from public_calls import Call, Clause, Item, call_named, crates, items, record_named
 from running import TOP, Checks
 
 PAGE = os.path.join(TOP, "docs", "PROMISES.md")
@@ -129,12 +129,24 @@ def clause_links(path: str, clauses: Sequence[Clause]) -> str:
                       else "[%s](../%s#L%d)" % (UNNAMED, path, clause.line) for clause in clauses)
 
 
+def rows_of(path: str, clauses: Sequence[Clause]) -> Iterator[str]:
+    """A row for each comment among clauses, with the clauses after it."""
+    for promise in dict.fromkeys(clause.promise for clause in clauses):
+        same = [clause for clause in clauses if clause.promise == promise]
+        yield "|%s|%s|" % (cell(promise), clause_links(path, same))
+
+
 def rows_of_tool(call: Call) -> Iterator[str]:
-    """A row for each comment among the clauses, with the clauses after it."""
-    promises = list(dict.fromkeys(clause.promise for clause in call.clauses))
-    for promise in promises:
-        clauses = [clause for clause in call.clauses if clause.promise == promise]
-        yield "|%s|%s|" % (cell(promise), clause_links(call.path, clauses))
+    """The rows of its clauses; those of a clause that is a record of the crate's definitions are those of the record's
+    fields, after one in bold that has the clause."""
+    crate = call.path.split(os.sep)[1]
+    for clause in call.clauses:
+        record = record_named(crate, clause.head)
+        if record:
+            yield "|**%s**|%s|" % (cell(clause.promise), clause_links(call.path, [clause]))
+            yield from rows_of(record.path, record.fields)
+        else:
+            yield from rows_of(call.path, [clause])
 
 
 def row_of_item(crate: str, item: Item) -> str:

@@ -10,18 +10,30 @@ from running import TOP
 FUNCTION = re.compile(r"( *)(pub )?(?:extern \"C\" )?fn (\w+)")
 BLOCK = re.compile(r"(?:impl|trait|pub trait)(?:<[^{]*?>)? (.*)")
 TYPE = re.compile(r"pub (?:struct|enum|trait|type) (\w+)")
-CLAUSE = re.compile(r" *ensures(?: (\w+))? \{")
+CLAUSE = re.compile(r" *ensures(?: (\w+))? \{(?: (\w+))?")
+RECORD = re.compile(r"pub record (\w+)\b")
+FIELD = re.compile(r"  pub (\w+) :")
 INVARIANT = re.compile(r"    (?:pub )?ghost (\w+): \{")
 EXPORTED = re.compile(r"^pub use ([^;]+);", re.M)
 
 
 @dataclass(frozen=True)
 class Clause:
-    """A clause of a contract. `name` is "" where it has none; `line` is that of its file, from 1 on; `promise` is the
-    comment above it, which may be above several."""
+    """A clause of a contract, or a field of a record of definitions. `name` is "" where it has none; `line` is that of its
+    file, from 1 on; `promise` is the comment above it, which may be above several; `head` is the word that it begins
+    with."""
     name: str
     line: int
     promise: str
+    head: str = ""
+
+
+@dataclass(frozen=True)
+class Record:
+    """A record of a crate's definitions with its fields."""
+    name: str
+    path: str
+    fields: Tuple[Clause, ...]
 
 
 @dataclass(frozen=True)
@@ -76,7 +88,23 @@ class Source:
             is_open = words.startswith("//")
             found = CLAUSE.match(line)
             if found:
-                yield Clause(found[1] or "", number + 1, " ".join(word for word in comment if word))
+                yield Clause(found[1] or "", number + 1, " ".join(word for word in comment if word), found[2] or "")
+
+    def fields(self, at: int) -> Iterator[Clause]:
+        """The fields of the record of definitions that begins at line `at`, counted from 0."""
+        comment: List[str] = []
+        is_open = False
+        for number in range(at + 1, len(self.lines)):
+            line = self.lines[number]
+            if not line.startswith("  "):
+                return
+            words = line.strip()
+            if words.startswith("-- "):
+                comment = [*comment, words[3:]] if is_open else [words[3:]]
+            is_open = words.startswith("--")
+            found = FIELD.match(line)
+            if found:
+                yield Clause(found[1], number + 1, " ".join(comment))
 
     def owners(self) -> Iterator[Tuple[int, str, str]]:
         """Each line with its number from 0 on and the type or trait in whose block it is."""
@@ -116,10 +144,19 @@ class Source:
                 yield Item(found[1], self.path, number + 1, self.comment_above(number), invariants)
 
 
-def sources(crate: str) -> Iterator[Source]:
-    for path in sorted(glob.glob(os.path.join(TOP, "crates", crate, "src", "**", "*.rt"), recursive=True)):
+def files(crate: str, folder: str, ending: str) -> Iterator[Source]:
+    """The files of a folder of a crate."""
+    for path in sorted(glob.glob(os.path.join(TOP, "crates", crate, folder, "**", "*" + ending), recursive=True)):
         with open(path, encoding="utf-8") as file:
             yield Source(os.path.relpath(path, TOP), file.read().split("\n"))
+
+
+def sources(crate: str) -> Iterator[Source]:
+    return files(crate, "src", ".rt")
+
+
+def definitions(crate: str) -> Iterator[Source]:
+    return files(crate, "specs", ".antt")
 
 
 def exported(crate: str) -> Set[str]:
@@ -155,6 +192,16 @@ def items(crate: str) -> List[Item]:
 def call_named(crate: str, name: str) -> Optional[Call]:
     """The public function of a crate, which is in no block."""
     return next((call for source in sources(crate) for call in source.calls() if call.name == name and not call.owner), None)
+
+
+def record_named(crate: str, name: str) -> Optional[Record]:
+    """The record of this name among the definitions of a crate, if there is one."""
+    for source in definitions(crate):
+        for number, line in enumerate(source.lines):
+            found = RECORD.match(line)
+            if found and found[1] == name:
+                return Record(name, source.path, tuple(source.fields(number)))
+    return None
 
 
 def crates() -> List[str]:

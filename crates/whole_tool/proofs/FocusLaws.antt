@@ -23,7 +23,6 @@ use Rattle.whole_tool.specs.Script.{RunsTo}
 use Rattle.whole_tool.specs.Tally.{costs_of_script}
 use Rattle.whole_tool.specs.Tool.{RunsWith, status_of}
 use Rattle.whole_tool.specs.Transcript.{after_lines, carried_lines, has_refusal, max_script, transcript}
-use Rattle.whole_tool.specs.Usage.{Usage, Focus}
 use Rattle.whole_tool.specs.Works.{Trace, WorksPartFrom}
 use Rattle.whole_tool.specs.WorksWith.{WorksWithFrom}
 use Rattle.whole_tool.proofs.CostLaws.{works_with}
@@ -212,7 +211,3 @@ asks_with files script question left first last (Err end) (inl runs) =
     asks_unended files script question left first last (status_of (Err end)) (unended end) (runs_with (Alone empty_world) files script left first last (Err end) runs) (works_with (Alone empty_world) files script left first last (Err end) runs)
 asks_with files script question left first last (Err end) (inr cuts) =
     subst (λ (end : End). AsksWith files script question left first last (status_of (Err end))) (sym cuts.0) (asks_cut_off files script question left first last cuts.1)
-
--- one form of words has one question
-pub same_question : (usage : Usage) (question asked : Question) → Focus question ≡ usage → usage ≡ Focus asked → question ≡ asked
-same_question usage question asked form words = let both : Focus question ≡ Focus asked = form ∙ words in cc

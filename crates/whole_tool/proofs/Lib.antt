@@ -18,3 +18,4 @@ pub mod TallyLaws
 pub mod ToolLaws
 pub mod WatchedLaws
 pub mod WorkLaws
+mod promises

@@ -20,9 +20,9 @@ use Rattle.whole_tool.specs.Numbers.{last_refusal}
 use Rattle.whole_tool.specs.Refusals.{refused_text}
 use Rattle.whole_tool.specs.Script.{RunsTo, WorksTaken}
 use Rattle.whole_tool.specs.Tally.{costs_of_script}
-use Rattle.whole_tool.specs.Tool.{IsComplete, Writes}
+use Rattle.whole_tool.specs.Tool.{Given, IsComplete, Writes}
 use Rattle.whole_tool.specs.Transcript.{after_lines, carried_lines, cut_transcript, has_refusal, max_script, transcript}
-use Rattle.whole_tool.specs.Usage.{Usage, Focus}
+use Rattle.whole_tool.specs.Usage.{Focus}
 use Rattle.whole_tool.specs.Works.{HasFetched, Trace, Works, WorksBefore, WorksPart, WorksToFetch, WorksToWrite}
 use Rattle.view_world.specs.editing.Naming.{named}
 use Rattle.view_world.specs.world.Step.{Reply, Done, Refused, step}
@@ -74,11 +74,10 @@ abbrev pub refuses_focus : List ℕ → Files → Question → Bool
 refuses_focus script files question = has_refusal script files || is_err (script_answer script files question)
 
 -- a run of this script with these files and then this question
-pub record IsFocusOf (usage : Usage) (left : Option (List ℕ)) (held : Option Files) (script : List ℕ) (files : Files)
-    (question : Question) : Type 0 where
-  pub words : usage ≡ Focus question
-  pub source : left ≡ Some script
-  pub shelf : held ≡ Some files
+pub record IsFocusOf (call : Given) (script : List ℕ) (files : Files) (question : Question) : Type 0 where
+  pub words : call.usage ≡ Focus question
+  pub source : call.left ≡ Some script
+  pub shelf : call.held ≡ Some files
 
 -- all lines were carried out, and the answer was written after their texts
 pub record Answers (files : Files) (script : List ℕ) (question : Question) (first last : Trace) : Type 0 where

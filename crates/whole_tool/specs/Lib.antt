@@ -7,6 +7,7 @@ pub mod Lookup
 pub mod Names
 pub mod Numbers
 pub mod Outside
+pub mod Promises
 pub mod Refusals
 pub mod Run
 pub mod Script

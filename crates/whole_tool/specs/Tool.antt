@@ -15,30 +15,38 @@ use Rattle.whole_tool.specs.Script.{WritesTakenFrom}
 use Rattle.whole_tool.specs.Transcript.{after_from, carried_lines, max_script}
 use Rattle.whole_tool.specs.Usage.{Usage, Run, Stack, Dump, Lookup}
 
+-- what a call is given: the form of its words, and what is left of the source and the files of the shelf, if contracts
+-- see them
+pub record Given : Type 0 where
+  pub usage : Usage
+  pub left : Option (List ℕ)
+  pub held : Option Files
+
+abbrev pub given : Usage → Option (List ℕ) → Option Files → Given
+given usage left held = record { usage = usage; left = left; held = held }
+
 -- a run of this script with these files: the words are those of a run, the source has these bytes left, and the shelf
 -- holds these files
-pub record IsRunOf (usage : Usage) (left : Option (List ℕ)) (held : Option Files) (script : List ℕ) (files : Files) :
-    Type 0 where
-  pub words : usage ≡ Run
-  pub source : left ≡ Some script
-  pub shelf : held ≡ Some files
+pub record IsRunOf (call : Given) (script : List ℕ) (files : Files) : Type 0 where
+  pub words : call.usage ≡ Run
+  pub source : call.left ≡ Some script
+  pub shelf : call.held ≡ Some files
 
 -- a run of this script for a stack of windows with these files
-pub record IsStackOf (usage : Usage) (left : Option (List ℕ)) (held : Option Files) (script : List ℕ) (files : Files) :
-    Type 0 where
-  pub words : usage ≡ Stack
-  pub source : left ≡ Some script
-  pub shelf : held ≡ Some files
+pub record IsStackOf (call : Given) (script : List ℕ) (files : Files) : Type 0 where
+  pub words : call.usage ≡ Stack
+  pub source : call.left ≡ Some script
+  pub shelf : call.held ≡ Some files
 
 -- the print of the file of this name, with these files
-pub record IsDumpOf (usage : Usage) (held : Option Files) (name : List ℕ) (files : Files) : Type 0 where
-  pub words : usage ≡ Dump name
-  pub shelf : held ≡ Some files
+pub record IsDumpOf (call : Given) (name : List ℕ) (files : Files) : Type 0 where
+  pub words : call.usage ≡ Dump name
+  pub shelf : call.held ≡ Some files
 
 -- the print of what the resources of these ids hold in the table of the file of this name, with these files
-pub record IsLookupOf (usage : Usage) (held : Option Files) (name ids : List ℕ) (files : Files) : Type 0 where
-  pub words : usage ≡ Lookup name ids
-  pub shelf : held ≡ Some files
+pub record IsLookupOf (call : Given) (name ids : List ℕ) (files : Files) : Type 0 where
+  pub words : call.usage ≡ Lookup name ids
+  pub shelf : call.held ≡ Some files
 
 -- a call that ended by itself: all was done, and nothing or something was refused
 abbrev pub IsComplete : ℕ → Type 0

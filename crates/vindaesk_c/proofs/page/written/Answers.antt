@@ -9,14 +9,7 @@ returns-then-is_complete-clause-text c =
     page_from (usage c.args.words.now) c.new-source.result.bytes c.args.script.now c.args.shelf.now
     c.new-sink.result.gone c.tool-status.new.sink.gone c.tool-status.result
     (ap (λ s. s.bytes) c.new-source.ensures ∙ c.in_ok-from_slice.ensures.items) (ap (λ s. s.gone) c.new-sink.ensures)
-    (record {
-      run = c.tool-status.ensures.headline;
-      stack = c.tool-status.ensures.stack;
-      dump = c.tool-status.ensures.dump;
-      load = c.tool-status.ensures.load;
-      lookup = c.tool-status.ensures.lookup;
-      focus = c.tool-status.ensures.focus;
-    })
+    c.tool-status.ensures.headline c.tool-status.ensures.written
     c.requires.known c.requires.short (c.is_complete.ensures.0 c.if-is_complete.true)
 
 pub returns-then-is_complete-clause-refusing : goal.returns-then-is_complete-clause-refusing
@@ -24,12 +17,5 @@ returns-then-is_complete-clause-refusing c =
     refusing_of (refuses (usage c.args.words.now) c.args.script.now c.args.shelf.now) c.tool-status.result
     (status_from (usage c.args.words.now) c.new-source.result.bytes c.args.script.now c.args.shelf.now c.tool-status.result
     (ap (λ s. s.bytes) c.new-source.ensures ∙ c.in_ok-from_slice.ensures.items)
-    (record {
-      run = c.tool-status.ensures.refused;
-      stack = c.tool-status.ensures.stack_refused;
-      dump = c.tool-status.ensures.dump_refused;
-      load = c.tool-status.ensures.gen_accepts;
-      lookup = c.tool-status.ensures.lookup_refused;
-      focus = c.tool-status.ensures.focus_refused;
-    })
+    c.tool-status.ensures.refusals
     c.requires.known c.requires.short (c.is_complete.ensures.0 c.if-is_complete.true))

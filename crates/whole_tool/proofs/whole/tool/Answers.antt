@@ -1,114 +1,134 @@
-use Rattle.std.proofs.Common.{◌≡◌, List, subst, arith, ◌∙◌}
-use Rattle.std.specs.Io.KnownBytes.{Appends}
-use Rattle.script_lines.specs.cutting.Lines.{Line}
-use Rattle.stack_worlds.specs.PlainStack.{empty_stack}
-use Rattle.whole_tool.specs.Carried.{Stacked}
-use Rattle.whole_tool.specs.Tool.{Writes}
-use Rattle.whole_tool.specs.Usage.{Run, Unknown}
-use Rattle.whole_tool.specs.Transcript.{after_from, after_lines}
-use Rattle.whole_tool.proofs.FocusLaws.{same_question}
-use Rattle.whole_tool.proofs.LongScriptLaws.{carried_long, carried_short}
-use Rattle.whole_tool.proofs.StackPageLaws.{page_isolated}
+use Rattle.std.proofs.Common.{refl, sym}
+use Rattle.whole_tool.proofs.promises.Load
+use Rattle.whole_tool.proofs.promises.LookUp
+use Rattle.whole_tool.proofs.promises.NoForm
+use Rattle.whole_tool.proofs.promises.Print
+use Rattle.whole_tool.proofs.promises.Question
+use Rattle.whole_tool.proofs.promises.Run
+use Rattle.whole_tool.proofs.promises.Stack
 use Rattle.whole_tool.proofs.whole.tool.Goals as goal
 
-pub returns-in-Some-Run-clause-headline : goal.returns-in-Some-Run-clause-headline
-returns-in-Some-Run-clause-headline g c = λ script files run short.
-    subst (λ (lines : List Line). Writes c.run.result (g.K.Sink.state c.args.sink.now).gone (g.K.Sink.state c.run.new.sink).gone (after_lines files lines).text)
-    (carried_short script short) (c.run.ensures.runs files script run.shelf run.source).writes
+pub returns-in-Some-Run : goal.returns-in-Some-Run
+returns-in-Some-Run g c =
+    let form = rw c.in-Some-Run.field-0-is at (rw c.in-Some-Run.is at c.form_of.ensures.form) in
+    let is = sym form in
+    let made = c.run.ensures in
+    record {
+      headline = Run.run_headline made.runs;
+      written = Run.run_pages is made.runs;
+      refusals = Run.run_refusals is made.runs;
+      statuses = Run.run_statuses is made.runs made.ended.known;
+      failed = Run.run_failures is made.runs made.ended;
+      stopped = Run.run_stops is made.runs;
+      alone = Run.run_alone is made.ended.known;
+      left = Run.run_rest is made.ended;
+      counted = Run.run_counts is made.works made.ended.painted made.ended.measured;
+      asked = Run.run_asked is made.works;
+    }
 
-pub returns-in-Some-Run-clause-long : goal.returns-in-Some-Run-clause-long
-returns-in-Some-Run-clause-long g c = λ script files run long.
-    let runs = c.run.ensures.runs files script run.shelf run.source in
-    let lines = carried_long script long in
-    let old = (g.K.Sink.state c.args.sink.now).gone in
-    let new = (g.K.Sink.state c.run.new.sink).gone in (
-      λ ended. (let short = (runs.ended ended).0 in omega (arith, short, long)),
-      subst (λ (ls : List Line). Writes c.run.result old new (after_lines files ls).text) lines runs.writes,
-      λ cut. subst (λ (ls : List Line). Appends old new (after_lines files ls).text) lines (runs.long cut).1,
-    )
+pub returns-in-Some-Stack : goal.returns-in-Some-Stack
+returns-in-Some-Stack g c =
+    let form = rw c.in-Some-Stack.field-0-is at (rw c.in-Some-Stack.is at c.form_of.ensures.form) in
+    let is = sym form in
+    let made = c.stack.ensures in
+    record {
+      headline = λ _ _ of _. absurd (cc (is, of.words));
+      written = Stack.stack_pages is made.runs;
+      refusals = Stack.stack_refusals is made.runs;
+      statuses = Stack.stack_statuses is made.ended.known;
+      failed = Stack.stack_failures is made.runs made.ended;
+      stopped = Stack.stack_stops is made.runs;
+      alone = Stack.stack_alone is made.ended.known;
+      left = Stack.stack_rest is made.ended;
+      counted = Stack.stack_counts is made.works made.ended.painted made.ended.measured;
+      asked = Stack.stack_asked is made.works;
+    }
 
-pub returns-in-Some-Run-clause-long_only : goal.returns-in-Some-Run-clause-long_only
-returns-in-Some-Run-clause-long_only g c = λ script files run cut. ((c.run.ensures.runs files script run.shelf run.source).long cut).0
+pub returns-in-Some-Dump : goal.returns-in-Some-Dump
+returns-in-Some-Dump g c =
+    let form = rw c.in-Some-Dump.field-0-is at (rw c.in-Some-Dump.is at c.form_of.ensures.form) in
+    let is = sym form in
+    let made = c.dump.ensures in
+    record {
+      headline = λ _ _ of _. absurd (cc (is, of.words));
+      written = Print.dump_pages is made.dumps;
+      refusals = Print.dump_refusals is made.dumps;
+      statuses = Print.dump_statuses is made.known;
+      failed = Print.dump_failures is made.known refl made.sink_failed made.shelf_failed made.shelf_later;
+      stopped = Print.dump_stops is made.nothing_written;
+      alone = Print.dump_alone is made.known refl refl;
+      left = Print.dump_rest is made.files_stay;
+      counted = Print.dump_counts is refl;
+      asked = Print.dump_asked is made.fetched;
+    }
 
-pub returns-in-Some-Run-clause-complete : goal.returns-in-Some-Run-clause-complete
-returns-in-Some-Run-clause-complete g c = λ script files run short no_read no_write no_fetch.
-    let runs = c.run.ensures.runs files script run.shelf run.source in
-    c.run.ensures.ended.whole
-    (λ e. no_read (let failed = rw e at c.run.ensures.ended.source_failed in omega (arith, failed)))
-    (λ e. no_write (let failed = rw e at c.run.ensures.ended.sink_failed in omega (arith, failed)))
-    (λ e. no_fetch (let failed = rw e at c.run.ensures.ended.shelf_failed (λ five. omega (arith, five)) in omega (arith, failed)))
-    (λ e. (let long = (runs.long e).0 in omega (arith, short, long)))
+pub returns-in-Some-Gen : goal.returns-in-Some-Gen
+returns-in-Some-Gen g c =
+    let form = rw c.in-Some-Gen.field-0-is at (rw c.in-Some-Gen.is at c.form_of.ensures.form) in
+    let is = sym form in
+    let made = c.run_load.ensures in
+    record {
+      headline = λ _ _ of _. absurd (cc (is, of.words));
+      written = Load.load_pages is made.dumps;
+      refusals = Load.load_refusals is made.known;
+      statuses = Load.load_statuses is made.known;
+      failed = Load.load_failures is made.known refl made.sink_failed refl;
+      stopped = Load.load_stops is made.nothing_written;
+      alone = Load.load_alone is made.known refl refl;
+      left = Load.load_rest is refl;
+      counted = Load.load_counts is made.worth made.works made.painted made.measured;
+      asked = Load.load_asked is;
+    }
 
-pub returns-in-None-clause-long : goal.returns-in-None-clause-long
-returns-in-None-clause-long g c = λ script files run long.
-    let none = rw c.in-None.is at c.form_of.ensures.form in
-    let clash : Unknown ≡ Run = none ∙ run.words in
-    absurd (cc)
+pub returns-in-Some-Lookup : goal.returns-in-Some-Lookup
+returns-in-Some-Lookup g c =
+    let form = rw c.in-Some-Lookup.field-0-is at (rw c.in-Some-Lookup.is at c.form_of.ensures.form) in
+    let is = sym form in
+    let made = c.lookup.ensures in
+    record {
+      headline = λ _ _ of _. absurd (cc (is, of.words));
+      written = LookUp.lookup_pages is made.looks_up;
+      refusals = LookUp.lookup_refusals is made.looks_up;
+      statuses = LookUp.lookup_statuses is made.known;
+      failed = LookUp.lookup_failures is made.known refl made.sink_failed made.shelf_failed made.shelf_later;
+      stopped = LookUp.lookup_stops is made.nothing_written;
+      alone = LookUp.lookup_alone is made.known refl refl;
+      left = LookUp.lookup_rest is made.files_stay;
+      counted = LookUp.lookup_counts is refl;
+      asked = LookUp.lookup_asked is made.fetched;
+    }
 
-pub returns-in-Some-Run-clause-worth : goal.returns-in-Some-Run-clause-worth
-returns-in-Some-Run-clause-worth g c = λ script files run ended. ((c.run.ensures.works files script run.shelf run.source).ended ended).worth
+pub returns-in-Some-Focus : goal.returns-in-Some-Focus
+returns-in-Some-Focus g c =
+    let form = rw c.in-Some-Focus.field-0-is at (rw c.in-Some-Focus.is at c.form_of.ensures.form) in
+    let is = sym form in
+    let made = c.carry_out.ensures in
+    record {
+      headline = λ _ _ of _. absurd (cc (is, of.words));
+      written = Question.focus_pages is made.asks;
+      refusals = Question.focus_refusals is made.asks;
+      statuses = Question.focus_statuses is made.ended.known;
+      failed = Question.focus_failures is made.asks made.ended;
+      stopped = Question.focus_stops is made.asks;
+      alone = Question.focus_alone is made.ended.known;
+      left = Question.focus_rest is made.ended;
+      counted = Question.focus_counts is made.asks made.ended.painted made.ended.measured;
+      asked = Question.focus_asked is;
+    }
 
-pub returns-in-Some-Run-clause-works : goal.returns-in-Some-Run-clause-works
-returns-in-Some-Run-clause-works g c = λ script files run. c.run.ensures.works files script run.shelf run.source
-
-pub returns-in-Some-Focus-clause-focus : goal.returns-in-Some-Focus-clause-focus
-returns-in-Some-Focus-clause-focus g c = λ script files question run short.
-    let same = same_question _ c.in-Some-Focus.question question (rw c.in-Some-Focus.field-0-is at (rw c.in-Some-Focus.is at c.form_of.ensures.form)) run.words in
-    (rw same at (c.carry_out.ensures.asks files script run.shelf run.source)).writes short
-
-pub returns-in-Some-Focus-clause-focus_refused : goal.returns-in-Some-Focus-clause-focus_refused
-returns-in-Some-Focus-clause-focus_refused g c = λ script files question run ended.
-    let same = same_question _ c.in-Some-Focus.question question (rw c.in-Some-Focus.field-0-is at (rw c.in-Some-Focus.is at c.form_of.ensures.form)) run.words in
-    ((rw same at (c.carry_out.ensures.asks files script run.shelf run.source)).ended ended).1
-
-pub returns-in-Some-Focus-clause-focus_ends : goal.returns-in-Some-Focus-clause-focus_ends
-returns-in-Some-Focus-clause-focus_ends g c = λ script files question run.
-    let same = same_question _ c.in-Some-Focus.question question (rw c.in-Some-Focus.field-0-is at (rw c.in-Some-Focus.is at c.form_of.ensures.form)) run.words in
-    rw same at (c.carry_out.ensures.asks files script run.shelf run.source)
-
-pub returns-in-Some-Focus-clause-focus_worth : goal.returns-in-Some-Focus-clause-focus_worth
-returns-in-Some-Focus-clause-focus_worth g c = λ script files question run ended. ((c.carry_out.ensures.asks files script run.shelf run.source).ended ended).0.worth
-
-pub returns-in-Some-Focus-clause-focus_complete : goal.returns-in-Some-Focus-clause-focus_complete
-returns-in-Some-Focus-clause-focus_complete g c = λ script files question run short no_read no_write no_fetch.
-    let asks = c.carry_out.ensures.asks files script run.shelf run.source in
-    c.carry_out.ensures.ended.whole
-    (λ e. no_read (let failed = rw e at c.carry_out.ensures.ended.source_failed in omega (arith, failed)))
-    (λ e. no_write (let failed = rw e at c.carry_out.ensures.ended.sink_failed in omega (arith, failed)))
-    (λ e. no_fetch (let failed = rw e at c.carry_out.ensures.ended.shelf_failed (λ five. omega (arith, five)) in omega (arith, failed)))
-    (λ e. (let long = (asks.long e).0 in omega (arith, short, long)))
-
-pub returns-in-Some-Stack-clause-stack : goal.returns-in-Some-Stack-clause-stack
-returns-in-Some-Stack-clause-stack g c = λ script files run short.
-    subst (λ (lines : List Line). Writes c.stack.result (g.K.Sink.state c.args.sink.now).gone (g.K.Sink.state c.stack.new.sink).gone (after_from (Stacked empty_stack) files lines).text)
-    (carried_short script short) (c.stack.ensures.runs files script run.shelf run.source).writes
-
-pub returns-in-Some-Stack-clause-stack_refused : goal.returns-in-Some-Stack-clause-stack_refused
-returns-in-Some-Stack-clause-stack_refused g c = λ script files run ended. ((c.stack.ensures.runs files script run.shelf run.source).ended ended).1
-
-pub returns-in-Some-Stack-clause-stack_ends : goal.returns-in-Some-Stack-clause-stack_ends
-returns-in-Some-Stack-clause-stack_ends g c = λ script files run. c.stack.ensures.runs files script run.shelf run.source
-
-pub returns-in-Some-Stack-clause-stack_works : goal.returns-in-Some-Stack-clause-stack_works
-returns-in-Some-Stack-clause-stack_works g c = λ script files run. c.stack.ensures.works files script run.shelf run.source
-
-pub returns-in-Some-Stack-clause-stack_worth : goal.returns-in-Some-Stack-clause-stack_worth
-returns-in-Some-Stack-clause-stack_worth g c = λ script files run ended. ((c.stack.ensures.works files script run.shelf run.source).ended ended).worth
-
-pub returns-in-Some-Stack-clause-stack_isolated : goal.returns-in-Some-Stack-clause-stack_isolated
-returns-in-Some-Stack-clause-stack_isolated g c = λ script files k run. page_isolated script files k
-
-pub returns-in-Some-Stack-clause-stack_complete : goal.returns-in-Some-Stack-clause-stack_complete
-returns-in-Some-Stack-clause-stack_complete g c = λ script files run short no_read no_write no_fetch.
-    let runs = c.stack.ensures.runs files script run.shelf run.source in
-    c.stack.ensures.ended.whole
-    (λ e. no_read (let failed = rw e at c.stack.ensures.ended.source_failed in omega (arith, failed)))
-    (λ e. no_write (let failed = rw e at c.stack.ensures.ended.sink_failed in omega (arith, failed)))
-    (λ e. no_fetch (let failed = rw e at c.stack.ensures.ended.shelf_failed (λ five. omega (arith, five)) in omega (arith, failed)))
-    (λ e. (let long = (runs.long e).0 in omega (arith, short, long)))
-
-pub returns-in-Some-Run-clause-fetched : goal.returns-in-Some-Run-clause-fetched
-returns-in-Some-Run-clause-fetched g c = λ script files run ended. ((c.run.ensures.works files script run.shelf run.source).ended ended).fetched
-
-pub returns-in-Some-Stack-clause-stack_fetched : goal.returns-in-Some-Stack-clause-stack_fetched
-returns-in-Some-Stack-clause-stack_fetched g c = λ script files run ended. ((c.stack.ensures.works files script run.shelf run.source).ended ended).fetched
+pub returns-in-None : goal.returns-in-None
+returns-in-None g c =
+    let form = rw c.in-None.is at c.form_of.ensures.form in
+    let is = sym form in
+    record {
+      headline = λ _ _ of _. absurd (cc (is, of.words));
+      written = NoForm.none_pages is;
+      refusals = NoForm.none_refusals is;
+      statuses = NoForm.none_statuses is;
+      failed = NoForm.none_failures is;
+      stopped = NoForm.none_stops is;
+      alone = NoForm.none_alone is refl refl refl refl;
+      left = NoForm.none_rest is;
+      counted = NoForm.none_counts is refl;
+      asked = NoForm.none_asked is;
+    }

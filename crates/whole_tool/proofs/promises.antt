@@ -1,0 +1,9 @@
+pub mod Clauses
+pub mod Endings
+pub mod Load
+pub mod LookUp
+pub mod NoForm
+pub mod Print
+pub mod Question
+pub mod Run
+pub mod Stack

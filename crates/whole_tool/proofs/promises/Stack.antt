@@ -1,0 +1,132 @@
+-- What a run for a stack of windows keeps of each promise.
+use Rattle.std.proofs.Common.{◌≡◌, ℕ, ◌-◌, ◌^◌, ◌≤◌, subst, refl, arith, List, [], ◌∷◌, min}
+use Rattle.std.specs.Prelude.{Option}
+use Rattle.script_lines.specs.cutting.Lines.{Line}
+use Rattle.stack_worlds.specs.PlainStack.{empty_stack}
+use Rattle.whole_tool.specs.Carried.{Stacked}
+use Rattle.whole_tool.specs.Outside.{EndsWith, Surroundings}
+use Rattle.whole_tool.specs.Promises.{FetchesFiles, CountsWork, HasStatus, LeavesAlone, LeavesRest, ReportsFailures, ReportsRefusals, Stops, WritesPages, failures}
+use Rattle.whole_tool.specs.Tool.{Given, IsOneOf, RunsWith, Writes, given}
+use Rattle.whole_tool.specs.Transcript.{after_from}
+use Rattle.whole_tool.specs.Usage.{Usage, Stack}
+use Rattle.whole_tool.specs.Works.{Trace}
+use Rattle.whole_tool.specs.WorksWith.{WorksWithFrom}
+use Rattle.whole_tool.proofs.LongScriptLaws.{carried_short}
+use Rattle.whole_tool.proofs.StackPageLaws.{page_isolated}
+use Rattle.whole_tool.proofs.ToolLaws.{not_status}
+use Rattle.whole_tool.proofs.promises.Endings.{OnScript}
+
+pub stack_pages : {call : Given} {left old new : Option (List ℕ)} {status : ℕ} → call.usage ≡ Stack → OnScript call (λ files script. RunsWith (Stacked empty_stack) files script left old new status)
+    → WritesPages call old new status
+stack_pages {old} {new} {status} is made = record {
+  dump = λ _ _ of. absurd (cc (is, of.words));
+  load = λ _ of. absurd (cc (is, of));
+  lookup = λ _ _ _ of. absurd (cc (is, of.words));
+  focus = λ _ _ _ of _. absurd (cc (is, of.words));
+  stack = λ script files of short.
+      subst (λ (lines : List Line). Writes status old new (after_from (Stacked empty_stack) files lines).text) (carried_short script short) (made files script of.shelf of.source).writes;
+  stack_isolated = λ script files k of. page_isolated script files k;
+  long = λ _ _ of _. absurd (cc (is, of.words));
+}
+
+pub stack_refusals : {call : Given} {left old new : Option (List ℕ)} {status : ℕ} → call.usage ≡ Stack → OnScript call (λ files script. RunsWith (Stacked empty_stack) files script left old new status)
+    → ReportsRefusals call status
+stack_refusals is made = record {
+  refused = λ _ _ of _ _. absurd (cc (is, of.words));
+  stack_refused = λ script files of ended. ((made files script of.shelf of.source).ended ended).1;
+  focus_refused = λ _ _ _ of _. absurd (cc (is, of.words));
+  dump_refused = λ _ _ of _. absurd (cc (is, of.words));
+  lookup_refused = λ _ _ _ of _. absurd (cc (is, of.words));
+  gen_accepts = λ _ of _. absurd (cc (is, of));
+}
+
+pub stack_statuses : {call : Given} {status : ℕ} → call.usage ≡ Stack → IsOneOf status (0 ∷ 1 ∷ 3 ∷ 4 ∷ 5 ∷ 6 ∷ 7 ∷ []) → HasStatus call status
+stack_statuses is known = record {
+  run_statuses = λ of. absurd (cc (is, of));
+  stack_statuses = λ of. known;
+  focus_statuses = λ _ of. absurd (cc (is, of));
+  dump_statuses = λ _ of. absurd (cc (is, of));
+  lookup_statuses = λ _ _ of. absurd (cc (is, of));
+  gen_statuses = λ _ of. absurd (cc (is, of));
+  long_only = λ _ _ of _. absurd (cc (is, of.words));
+}
+
+pub stack_failures : {call : Given} {before after : Surroundings} {left old new : Option (List ℕ)} {status : ℕ} → call.usage ≡ Stack → OnScript call (λ files script. RunsWith (Stacked empty_stack) files script left old new status) → EndsWith before after status
+    → ReportsFailures call (failures before.reads before.writes before.fetches) (failures after.reads after.writes after.fetches) status
+stack_failures is made ended = record {
+  source_failed = ended.source_failed;
+  sink_failed = ended.sink_failed;
+  shelf_failed = ended.shelf_failed;
+  shelf_later = ended.shelf_later;
+  complete = λ _ _ of _ _ _ _. absurd (cc (is, of.words));
+  stack_complete = λ script files of short no_read no_write no_fetch.
+      ended.whole
+      (λ e. no_read (let failed = rw e at ended.source_failed in omega (arith, failed)))
+      (λ e. no_write (let failed = rw e at ended.sink_failed in omega (arith, failed)))
+      (λ e. no_fetch (let failed = rw e at ended.shelf_failed (λ five. omega (arith, five)) in omega (arith, failed)))
+      (λ e. (let long = ((made files script of.shelf of.source).long e).0 in omega (arith, short, long)));
+  focus_complete = λ _ _ _ of _ _ _ _. absurd (cc (is, of.words));
+  dump_complete = λ _ of _ _. absurd (cc (is, of));
+  lookup_complete = λ _ _ of _ _. absurd (cc (is, of));
+  gen_complete = λ _ of _. absurd (cc (is, of));
+}
+
+pub stack_stops : {call : Given} {left old new : Option (List ℕ)} {status : ℕ} → call.usage ≡ Stack → OnScript call (λ files script. RunsWith (Stacked empty_stack) files script left old new status)
+    → {SameSink : Type 0} → Stops call left old new status SameSink
+stack_stops is made = record {
+  lines_taken = λ _ _ of _. absurd (cc (is, of.words));
+  failed_fetch = λ _ _ of _. absurd (cc (is, of.words));
+  dump_failed_fetch = λ _ of _. absurd (cc (is, of));
+  no_memory = λ _ _ of _. absurd (cc (is, of.words));
+  dump_no_memory = λ _ of _. absurd (cc (is, of));
+  gen_no_memory = λ _ of _. absurd (cc (is, of));
+  lookup_stops = λ _ _ of _. absurd (cc (is, of));
+  stack_ends = λ script files of. made files script of.shelf of.source;
+}
+
+pub stack_alone : {form : Usage} {status : ℕ} {SameSource SameSink SameShelf SameWork : Type 0} → form ≡ Stack → IsOneOf status (0 ∷ 1 ∷ 3 ∷ 4 ∷ 5 ∷ 6 ∷ 7 ∷ [])
+    → LeavesAlone form status SameSource SameSink SameShelf SameWork
+stack_alone {status} is known = record {
+  usage = (λ e. absurd (not_status status 2 (0 ∷ 1 ∷ 3 ∷ 4 ∷ 5 ∷ 6 ∷ 7 ∷ []) known refl e), λ e. absurd (cc (is, e)));
+  untouched = λ e. absurd (not_status status 2 (0 ∷ 1 ∷ 3 ∷ 4 ∷ 5 ∷ 6 ∷ 7 ∷ []) known refl e);
+  dump_reads_no_script = λ _ of. absurd (cc (is, of));
+  dump_measures_nothing = λ _ of. absurd (cc (is, of));
+  gen_alone = λ _ of. absurd (cc (is, of));
+  lookup_alone = λ _ _ of. absurd (cc (is, of));
+  uncounted = λ no_run no_stack no_load no_question. absurd (no_stack is);
+}
+
+pub stack_rest : {form : Usage} {before after : Surroundings} {status : ℕ} → form ≡ Stack → EndsWith before after status
+    → LeavesRest (given form before.left before.files) after.left after.files status
+stack_rest is ended = record {
+  read_to_end = λ of _. absurd (cc (is, of));
+  stack_read_to_end = λ of. ended.read_to_end;
+  focus_read_to_end = λ _ of _. absurd (cc (is, of));
+  taken = (ended.taken, ended.consumed, ended.most);
+  files_stay = ended.files_stay;
+}
+
+pub stack_counts : {call : Given} {left : Option (List ℕ)} {first last : Trace} {status : ℕ} → call.usage ≡ Stack → OnScript call (λ files script. WorksWithFrom (Stacked empty_stack) files script left first last status)
+    → first.work.painted ≤ last.work.painted → min first.work.measured (2 ^ 64 - 1) ≤ last.work.measured
+    → CountsWork call left first last status
+stack_counts is made painted measured = record {
+  worth = λ _ _ of _. absurd (cc (is, of.words));
+  works = λ _ _ of. absurd (cc (is, of.words));
+  gen_worth = λ _ of _. absurd (cc (is, of));
+  gen_works = λ _ of. absurd (cc (is, of));
+  stack_worth = λ script files of ended. ((made files script of.shelf of.source).ended ended).worth;
+  stack_works = λ script files of. made files script of.shelf of.source;
+  focus_worth = λ _ _ _ of _. absurd (cc (is, of.words));
+  focus_ends = λ _ _ _ of. absurd (cc (is, of.words));
+  painted_later = painted;
+  measured_later = measured;
+}
+
+pub stack_asked : {call : Given} {left : Option (List ℕ)} {first last : Trace} {status : ℕ} → call.usage ≡ Stack → OnScript call (λ files script. WorksWithFrom (Stacked empty_stack) files script left first last status)
+    → FetchesFiles call first.fetches last.fetches status
+stack_asked is made = record {
+  fetched = λ _ _ of _. absurd (cc (is, of.words));
+  stack_fetched = λ script files of ended. ((made files script of.shelf of.source).ended ended).fetched;
+  dump_fetched = λ _ of. absurd (cc (is, of));
+  lookup_fetched = λ _ _ of. absurd (cc (is, of));
+}
