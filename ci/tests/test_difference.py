@@ -2,8 +2,9 @@
 import random
 from typing import List, Set, Tuple
 
-from vindaesk.pictures import difference, pillow, png
+from vindaesk.pictures import difference, png
 from vindaesk.pictures.bytewise import Lanes, Wide
+from vindaesk.pictures.marking import Marker
 from vindaesk.pictures.png import Picture
 from vindaesk.pictures.regions import Box
 
@@ -17,10 +18,6 @@ def test_lanes() -> None:
     numbers = lanes.number(one), lanes.number(other)
     pairs = list(zip(one, other))
     assert lanes.row(lanes.sums(*numbers)) == bytes((a + b) & 255 for a, b in pairs)
-    assert lanes.row(lanes.differences(*numbers)) == bytes((a - b) & 255 for a, b in pairs)
-    assert lanes.row(lanes.distances(*numbers)) == bytes(abs(a - b) for a, b in pairs)
-    assert lanes.row(lanes.lesser(*numbers)) == bytes(255 * (a < b) for a, b in pairs)
-    assert lanes.row(lanes.greatest(*numbers)) == bytes(max(a, b) for a, b in pairs)
     wide = Wide(65536)
     assert wide.shares(one, wide.masks(other)) == bytes((a * b + 127) // 255 for a, b in pairs)
 
@@ -44,14 +41,22 @@ def box_of(points: Set[Point]) -> Box:
     return (min(x for x, _ in points), min(y for _, y in points), max(x for x, _ in points) + 1, max(y for _, y in points) + 1)
 
 
+def test_limits() -> None:
+    """Each two bytes there are, at even places and at odd ones, beside differences that they may have."""
+    one, other = bytes(k >> 8 for k in range(65536)), bytes(k & 255 for k in range(65536))
+    for shift in (0, 1):
+        before, after = (bytes(shift) + it + bytes(1 - shift) for it in (one, other))
+        apart = [max(abs(before[k + i] - after[k + i]) for i in range(3)) for k in range(0, 65537 - 2, 3)]
+        for most in (0, 1, 2, 63, 127, 128, 200, 254, 255):
+            marker = Marker(len(apart), most)
+            size = marker.size
+            found = marker.marked(before[:size], after[:size]).to_bytes(size, "little")
+            assert found == b"".join(b"\0\0\x80" if it > most else b"\0\0\0" for it in apart)
+            assert marker.greatest.most == 255
+
+
 def test_pictures() -> None:
-    """By whole rows, and by Pillow where it is here."""
     compares_pictures(2)
-    before, pillow.MANY = pillow.MANY, 0
-    try:
-        compares_pictures(4)
-    finally:
-        pillow.MANY = before
 
 
 def compares_pictures(seed: int) -> None:
@@ -66,8 +71,9 @@ def compares_pictures(seed: int) -> None:
         apart = {(x, y): max(abs(before[y][3 * x + k] - after[y][3 * x + k]) for k in range(3))
                  for x in range(width) for y in range(height)}
         points = {it for it in apart if apart[it] > tolerance}
-        found, picture = difference.compared(
-            Picture(width, height, before), Picture(width, height, [bytes(it) for it in after]), tolerance)
+        first = Picture(width, height, before)
+        found = difference.compared(first, Picture(width, height, [bytes(it) for it in after]), tolerance)
+        picture = difference.drawn(first, found)
         assert (count, found.pixels) == (count, len(points))
         assert found.greatest == max((apart[it] for it in points), default=0)
         assert found.box == (box_of(points) if points else (0, 0, 0, 0))

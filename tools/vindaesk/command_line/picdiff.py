@@ -56,7 +56,7 @@ def main(words: Optional[Sequence[str]] = None) -> int:
     before, after = (png.read(files.read(path), files.named(path)) for path in (given.before, given.after))
     if before[:2] != after[:2]:
         raise Failure("the sizes differ: %d by %d, and %d by %d" % (before[:2] + after[:2]), failures.NOT_RUN)
-    found, picture = difference.compared(before, after, given.tolerance)
+    found = difference.compared(before, after, given.tolerance)
     print(difference.in_words(found))
     views = views_of(given)
     if given.script or len(found.regions) > 1:
@@ -67,5 +67,5 @@ def main(words: Optional[Sequence[str]] = None) -> int:
         for line in evidence.lines_of(rows, len(found.regions) - len(rows)):
             print("  " + printable(line))
     if given.out:
-        files.write(given.out, png.written(picture))
+        files.write(given.out, png.written(difference.drawn(before, found)))
     return failures.WRONG if found.pixels else 0

@@ -1,6 +1,11 @@
-"""Sums, differences and choices of many bytes at once, each byte by itself: as whole numbers with all of the bytes in
+"""Sums and shares of many bytes at once, each byte by itself: as whole numbers with all of the bytes in
 them, since Python takes a hundred times as long for one after the other."""
 from typing import List, Tuple
+
+
+def repeated(part: bytes, count: int) -> int:
+    """The number of so many bytes, which are a part again and again."""
+    return int.from_bytes((part * (count // len(part) + 1))[:count], "little")
 
 
 class Lanes:
@@ -8,8 +13,7 @@ class Lanes:
 
     def __init__(self, count: int):
         self.count = count
-        self.tops = int.from_bytes(b"\x80" * count, "little")
-        self.rest = self.tops ^ int.from_bytes(b"\xff" * count, "little")
+        self.tops, self.rest = repeated(b"\x80", count), repeated(b"\x7f", count)
 
     def number(self, row: bytes) -> int:
         """A row as a number."""
@@ -23,34 +27,13 @@ class Lanes:
         """The sum of each two bytes, less 256 where it is that or more."""
         return ((one & self.rest) + (other & self.rest)) ^ ((one ^ other) & self.tops)
 
-    def differences(self, one: int, other: int) -> int:
-        """The difference of each two bytes, and 256 more where it is below 0."""
-        return ((one | self.tops) - (other & self.rest)) ^ (~(one ^ other) & self.tops)
-
-    def lesser(self, one: int, other: int) -> int:
-        """255 in the place of each byte of the first that is less than that of the other, and 0 for the others."""
-        apart = self.differences(one, other)
-        borrowed = ((~one & other) | ((~one | other) & apart)) & self.tops
-        return (borrowed >> 7) * 255
-
-    def distances(self, one: int, other: int) -> int:
-        """How far apart each two bytes are."""
-        mask = self.lesser(one, other)
-        # below 0 the bits are turned and 1 is added, which is never more than a byte: there is no difference of 0
-        return (self.differences(one, other) ^ mask) + (mask & (self.tops >> 7))
-
-    def greatest(self, one: int, other: int) -> int:
-        """The greater of each two bytes."""
-        mask = self.lesser(one, other)
-        return (one & ~mask) | (other & mask)
-
 
 class Wide:
     """The same with two bytes of room for each."""
 
     def __init__(self, count: int):
         self.count = count
-        self.ones = int.from_bytes(b"\1\0" * count, "little")
+        self.ones = repeated(b"\1\0", 2 * count)
 
     def number(self, row: bytes) -> int:
         """A row as a number."""

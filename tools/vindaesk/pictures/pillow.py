@@ -14,9 +14,6 @@ PLAIN = "VINDAESK_NO_PILLOW"
 MODES = {1: ("L", 0), 2: ("LA", 4), 3: ("RGB", 2), 4: ("RGBA", 6)}
 # below this number of bytes the start of Pillow takes longer than what it saves
 MANY = 3 << 18
-RED = (255, 0, 0)
-# the mask of what is marked by any other byte than 0
-MARKED = [0] + [255] * 255
 
 
 def is_here() -> bool:
@@ -54,28 +51,5 @@ def over_black(whole: bytes) -> bytes:
     image = Image.new("RGB", size)
     # `ImageChops.multiply` rounds down
     image.paste(Image.merge("RGB", bands), mask=alpha)
-    found: bytes = image.tobytes()
-    return found
-
-
-def distances(before: bytes, after: bytes) -> bytes:
-    """The greatest difference of a channel at each pixel of two pictures."""
-    from PIL import Image, ImageChops
-
-    size = (len(before) // 3, 1)
-    apart = ImageChops.difference(*(Image.frombytes("RGB", size, it) for it in (before, after)))
-    red, green, blue = apart.split()
-    found: bytes = ImageChops.lighter(ImageChops.lighter(red, green), blue).tobytes()
-    return found
-
-
-def dimmed(before: bytes, marks: bytes, dark: bytes) -> bytes:
-    """A picture in which each channel is replaced by what `dark` has for it, and each pixel that is marked by a red
-    one."""
-    from PIL import Image
-
-    size = (len(marks), 1)
-    image = Image.frombytes("RGB", size, before).point(list(dark) * 3)
-    image.paste(RED, mask=Image.frombytes("L", size, marks).point(MARKED))
     found: bytes = image.tobytes()
     return found

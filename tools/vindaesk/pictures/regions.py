@@ -1,13 +1,20 @@
 """The regions of a picture in which pixels are marked."""
 import re
-from typing import Dict, Iterator, List, NamedTuple, Tuple
+from typing import Dict, Iterable, Iterator, List, NamedTuple, Sequence, Tuple
 
 from .bytewise import Lanes
 
 Box = Tuple[int, int, int, int]
+# cells beside each other: the number of the first one, and the one after the last
+Run = Tuple[int, int]
 # marked pixels are in one region where less than two cells are between them; a cell is a square of this side
 CELL = 4
 RUN = re.compile(b"[^\0]+")
+# of numbers of CELL bits: the first one set, the place after the last one, and how many are set
+FIRST = bytes((it & -it).bit_length() - 1 if it else CELL for it in range(1 << CELL)).ljust(256, b"\0")
+LAST = bytes(it.bit_length() for it in range(1 << CELL)).ljust(256, b"\0")
+COUNT = bytes(bin(it).count("1") for it in range(1 << CELL)).ljust(256, b"\0")
+ANY = bytes(it > 0 for it in range(256))
 
 
 class Region(NamedTuple):
@@ -17,95 +24,95 @@ class Region(NamedTuple):
     pixels: int
 
 
-class Run(NamedTuple):
-    """Cells beside each other, from the first to before the last one, and what is marked in them."""
+class Cells:
+    """The cells of a picture, row after row: which rows and which columns of each are marked, and how many pixels."""
 
-    first: int
-    last: int
-    region: Region
+    def __init__(self, marks: Sequence[bytes]):
+        self.across = -(-len(marks[0]) // CELL)
+        whole = b"".join(row.ljust(self.across * CELL, b"\0") for row in marks)
+        lanes = Lanes(len(whole) // CELL)
+        rows = columns = pixels = 0
+        for place in range(CELL):
+            column = whole[place::CELL]
+            rows |= lanes.number(column)
+            columns |= lanes.number(column.translate(ANY)) << place
+            pixels += lanes.number(column.translate(COUNT))
+        self.rows, self.columns, self.pixels = lanes.row(rows), lanes.row(columns), lanes.row(pixels)
+        self.tops, self.bottoms = self.rows.translate(FIRST), self.rows.translate(LAST)
 
+    def runs(self) -> Iterator[List[Run]]:
+        """For each row of cells those that are beside each other."""
+        for begin in range(0, len(self.rows), self.across):
+            yield [it.span() for it in RUN.finditer(self.rows, begin, begin + self.across)]
 
-def around(one: Region, other: Region) -> Region:
-    """Two regions as one."""
-    (left, top, right, bottom), box = one.box, other.box
-    whole = (min(left, box[0]), min(top, box[1]), max(right, box[2]), max(bottom, box[3]))
-    return Region(whole, one.pixels + other.pixels)
-
-
-def region_of(rows: List[bytes], top: int, left: int, right: int) -> Region:
-    """What is marked in some rows, of which the first has the number `top`, between two columns."""
-    parts = [row[left:right] for row in rows]
-    there = [number for number, part in enumerate(parts) if 1 in part]
-    firsts, lasts = [parts[it].find(1) for it in there], [parts[it].rfind(1) for it in there]
-    box = (left + min(firsts), top + there[0], left + max(lasts) + 1, top + there[-1] + 1)
-    return Region(box, sum(part.count(1) for part in parts))
-
-
-def runs_of(rows: List[bytes], top: int) -> List[Run]:
-    """The runs of a row of cells, of which these are the rows of pixels: bytes 0, and 1 for one that is marked."""
-    width = -(-len(rows[0]) // CELL)
-    lanes = Lanes(width * CELL)
-    together = 0
-    for row in rows:
-        together |= lanes.number(row)
-    padded = lanes.row(together)
-    cells = 0
-    for place in range(CELL):
-        cells |= int.from_bytes(padded[place::CELL], "little")
-    found = []
-    for it in RUN.finditer(cells.to_bytes(width, "little")):
-        found.append(Run(it.start(), it.end(), region_of(rows, top, it.start() * CELL, it.end() * CELL)))
-    return found
+    def region(self, run: Run) -> Tuple[int, ...]:
+        """What is marked in a run: left, top, right and bottom, and how many pixels."""
+        first, last = run
+        row, place = divmod(first, self.across)
+        left, top = place * CELL + FIRST[self.columns[first]], row * CELL
+        right = (last - 1 - row * self.across) * CELL + LAST[self.columns[last - 1]]
+        if last - first == 1:
+            return left, top + self.tops[first], right, top + self.bottoms[first], self.pixels[first]
+        own = slice(first, last)
+        return left, top + min(self.tops[own]), right, top + max(self.bottoms[own]), sum(self.pixels[own])
 
 
 class Joined:
-    """Regions, of which some are found to be one."""
+    """Numbers, of which some are found to be one."""
 
-    def __init__(self) -> None:
-        self.regions: Dict[int, Region] = {}
-        self.parents: List[int] = []
-
-    def add(self, region: Region) -> int:
-        """Adds a region, and returns its number."""
-        self.parents.append(len(self.parents))
-        self.regions[self.parents[-1]] = region
-        return self.parents[-1]
+    def __init__(self, count: int) -> None:
+        self.parents = list(range(count))
 
     def top(self, number: int) -> int:
-        """The number of the region that this one is a part of by now."""
-        while self.parents[number] != number:
-            self.parents[number] = self.parents[self.parents[number]]
-            number = self.parents[number]
+        """The number that stands for this one by now."""
+        parents = self.parents
+        while parents[number] != number:
+            parents[number] = parents[parents[number]]
+            number = parents[number]
         return number
 
     def join(self, one: int, other: int) -> None:
-        """Makes two regions one."""
-        one, other = self.top(one), self.top(other)
-        if one != other:
-            self.parents[other] = one
-            self.regions[one] = around(self.regions[one], self.regions.pop(other))
+        """Makes two numbers one."""
+        self.parents[self.top(other)] = self.top(one)
 
 
-def touching(above: List[Tuple[Run, int]], run: Run) -> Iterator[int]:
-    """The numbers of the runs of the row above that touch a run, at a corner too."""
-    for it, number in above:
-        if it.first <= run.last and run.first <= it.last:
-            yield number
+def touching(rows: Iterable[List[Run]], across: int) -> Iterator[Tuple[int, int]]:
+    """The numbers of each two runs that touch in two rows of cells, at a corner too."""
+    above: List[Run] = []
+    before = number = 0
+    for here in rows:
+        place = 0
+        for first, last in here:
+            first, last = first - across, last - across
+            while place < len(above) and above[place][1] < first:
+                place += 1
+            # the last one that touches may touch the next run too
+            at = place
+            while at < len(above) and above[at][0] <= last:
+                yield before + at, number
+                at += 1
+            number += 1
+        before, above = number - len(here), here
 
 
-def regions_in(rows: List[bytes]) -> Tuple[Region, ...]:
-    """The regions of a picture whose rows are bytes 0, and 1 for pixels that are marked: from the top, then from the
-    left. Cells that touch, at a corner too, are in one."""
-    found = Joined()
-    above: List[Tuple[Run, int]] = []
-    for top in range(0, len(rows), CELL):
-        own = rows[top : top + CELL]
-        runs = runs_of(own, top) if any(1 in row for row in own) else []
-        here: List[Tuple[Run, int]] = []
-        for run in runs:
-            number = found.add(run.region)
-            here.append((run, number))
-            for other in touching(above, run):
-                found.join(other, number)
-        above = here
-    return tuple(sorted(found.regions.values(), key=lambda it: (it.box[1], it.box[0], it)))
+def regions_in(marks: Sequence[bytes]) -> Tuple[Region, ...]:
+    """The regions of a picture, of which these are the marks: for each CELL rows a byte for each column, in which bit k
+    is of row k. From the top, then from the left. Cells that touch, at a corner too, are in one."""
+    cells = Cells(marks)
+    rows = list(cells.runs())
+    runs = [run for row in rows for run in row]
+    joined = Joined(len(runs))
+    for one, other in touching(rows, cells.across):
+        joined.join(one, other)
+    parts: Dict[int, List[Tuple[int, ...]]] = {}
+    for number, run in enumerate(runs):
+        parts.setdefault(joined.top(number), []).append(cells.region(run))
+    found = []
+    for part in parts.values():
+        if len(part) == 1:
+            left, top, right, bottom, pixels = part[0]
+            found.append(Region((left, top, right, bottom), pixels))
+        else:
+            lefts, tops, rights, bottoms, counts = zip(*part)
+            found.append(Region((min(lefts), min(tops), max(rights), max(bottoms)), sum(counts)))
+    return tuple(sorted(found, key=lambda it: (it.box[1], it.box[0], it)))

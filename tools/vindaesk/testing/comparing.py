@@ -78,7 +78,7 @@ def compared(name: str, wanted: Optional[Picture], found: Optional[Picture], tol
         return ""
     if wanted[:2] != found[:2]:
         return "%s is %d by %d, and the picture %d by %d" % (name, *wanted[:2], *found[:2])
-    apart, _ = difference.compared(wanted, found, tolerance)
+    apart = difference.compared(wanted, found, tolerance)
     return "%s: %s" % (name, difference.in_words(apart)) if apart.pixels else ""
 
 

@@ -72,7 +72,8 @@ def of_pictures(text: str, made: Pictures, views: Callable[[], List[Placed]], pa
     rows: List[Region] = []
     more = 0
     if made.wanted and made.found and made.wanted != made.found and made.wanted[:2] == made.found[:2]:
-        found, parts[DIFFERENCE] = difference.compared(made.wanted, made.found)
+        found = difference.compared(made.wanted, made.found)
+        parts[DIFFERENCE] = difference.drawn(made.wanted, found)
         rows = regions_in(found, views())
         more = len(found.regions) - len(rows)
     there = {ending: picture for ending, picture in parts.items() if picture}
