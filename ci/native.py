@@ -124,18 +124,23 @@ def same_bytes() -> str:
     return "" if count > 100 else "there are only %d worked calls" % count
 
 
-def stored_cases() -> str:
-    """Why the library's answer to a stored case is not the program's, or nothing."""
-    count = 0
+def stored_calls() -> Iterator[Call]:
+    """Each stored case that the library has a call for: its words, its script, and its folder."""
     for folder in (it for place in stored.places() for it in stored.folders(place)):
         words = files.read(os.path.join(folder, "args")).decode("utf-8", "replace").split("\n")[:-1]
         if forms.has_form(words) and words[0] != "gen":
-            script = files.read(os.path.join(folder, "stdin"))
-            ended = run([PROGRAM, *words], script, folder)
-            why = difference(*ended, *by_library(words, script, folder)) if ended[1] in in_process.ENDED else ""
-            if why:
-                return "%s: %s" % (folder, why)
-            count += 1
+            yield words, files.read(os.path.join(folder, "stdin")), folder
+
+
+def stored_cases() -> str:
+    """Why the library's answer to a stored case is not the program's, or nothing."""
+    count = 0
+    for words, script, folder in stored_calls():
+        ended = run([PROGRAM, *words], script, folder)
+        why = difference(*ended, *by_library(words, script, folder)) if ended[1] in in_process.ENDED else ""
+        if why:
+            return "%s: %s" % (folder, why)
+        count += 1
     return "" if count else "no case is there"
 
 
