@@ -46,13 +46,21 @@ EXPLAINED = {
     "gravity": "The line gravity V self G sets where V is placed in its parent: none, or words joined by |, at most",
     "layout_alignTop": "The attribute layout_alignTop of a layout file takes: reference (id).\nIt sets: the rule",
     "layout_marginEnd": "The attribute layout_marginEnd of a layout file takes: length -1048575..1048575.\n",
-    "Button": "The class Button is none of the program's six, View, TextView, FrameLayout, LinearLayout, RelativeLayout, ScrollView. tools/app "
-              "makes a TextView of it; its bounds are exact.\n",
+    "Button": "The class Button is none of the program's six, View, TextView, FrameLayout, LinearLayout, RelativeLayout, ScrollView: "
+              "refused, 23 UnknownClass. tools/app makes a TextView of it; exact, by style and theme.\n",
     "androidx.viewpager2.widget.ViewPager2": "The class androidx.viewpager2.widget.ViewPager2 is none of the program's six",
     "style": "style: the program alone: passed over. With tools/app: put in place by the theme.\n",
-    "android:textSize": "textSize: the program alone: passed over: a character is 6 by 8 pixels. With tools/app: reported as text.\n",
+    "android:textSize": "textSize: the program alone: passed over; a character is 6 by 8 pixels. With tools/app: reported as text.\n",
+    "app:layout_constraintTop_toTopOf": "layout_constraintTop_toTopOf: the program alone: passed over. With tools/app: solved",
+    "tools:text": "tools:text: the program alone: passed over.",
+    "?android:attr/textColor": "?attr: the program alone: refused, 13 ThemeRef. With tools/app: of the theme.\n",
+    "@string/app_name": "@string: the program alone: values by res lines. With tools/app: of the app's table.\n",
+    "selector": "selector: the program alone: refused.",
+    "match_parent": "match_parent: the program alone: exact.",
     "cursorVisible": "The attribute cursorVisible of Android has no effect on the program, which counts it as ignored.",
 }
+# words that mean nothing, and what is near
+NEAR = {"Buton": "Button", "textsize": "textSize", "Fragment": "fragment", "syntax": "Syntax"}
 
 
 class Ended:
@@ -208,6 +216,9 @@ def explains() -> str:
         for line in ("    31 Syntax\n", "    gravity V kids G\n", "    layout_alignParentEnd\n"):
             if line not in listed:
                 return "%r is not listed" % line
+        for word, near in NEAR.items():
+            if "; did you mean '%s'?" % near not in it.call(["explain", word]).said:
+                return "nothing is near '%s'" % word
         for number in ("0", "50", "999", "syntax", "root"):
             ended = it.call(["explain", number])
             if (ended.status, ended.out) != (2, b""):

@@ -45,9 +45,10 @@ def main(words: Optional[Sequence[str]] = None) -> int:
     if not given:
         text = explanations.every(tables) + "Rules of lint:\n" + "".join("    %s\n" % name for name in sections.read())
     if not text:
+        from ..apps import android_names
         from ..scripts.grammar import guess
 
-        near = guess(given[0], (*tables.words(), *sections.read())) if len(given) == 1 else ""
+        near = guess(given[0], (*tables.words(), *sections.read(), *android_names.names())) if len(given) == 1 else ""
         more = "%s vindaesk explain lists what there is to explain" % (near or ";")
         raise Failure("there is no '%s'%s" % (" ".join(given), more), failures.NOT_RUN)
     files.write("-", text.encode())
