@@ -117,6 +117,16 @@ def test_pillow_reads_what_is_written() -> None:
                     assert found.getpixel(at) == tuple(row[3 * x : 3 * x + 3])
 
 
+def test_what_hardly_repeats_is_written() -> None:
+    """Rows of so many values at random: the more, the less is looked for what repeats."""
+    numbers = random.Random(1)
+    for values, level in ((1, 9), (2, 1), (64, 0)):
+        rows = [bytes(numbers.randrange(values) for _ in range(300)) for _ in range(50)]
+        picture = png.Picture(100, 50, rows)
+        assert (values, png.level_of(picture, 9)) == (values, level)
+        assert png.parsed(png.written(picture)) == picture
+
+
 def test_both_ways_read_the_same() -> None:
     """Rows by each filter, of 1 to 4 bytes a pixel: as the specification has them (9.2), by Pillow and without it."""
     random_numbers = random.Random(1)

@@ -14,8 +14,9 @@ from .chunks import SIGNATURE, chunk
 BYTES = {0: 1, 2: 3, 3: 1, 4: 2, 6: 4}
 # more than four times what any device shows
 MAX_PIXELS = 1 << 24
-# of how many rows it is tried whether they can be packed, and at which part of their size they are taken to be noise
-TRIED, NOISE = 16, 0.6
+# of how many rows it is tried how small they can be packed, and from which parts of their size on a picture is taken to
+# be noise, which is stored as it is, or to vary much
+TRIED, NOISE, VARIED = 16, 0.4, 0.1
 
 
 class Picture(NamedTuple):
@@ -35,16 +36,17 @@ def scanlines(picture: Picture, scale: int) -> Iterator[bytes]:
             yield same
 
 
-def is_noise(picture: Picture) -> bool:
-    """Whether little of a picture repeats, so that looking for it would take long and save nothing."""
+def level_of(picture: Picture, level: int) -> int:
+    """The level of zlib by which a picture is packed: the given one, or a lower one where little of it repeats, so that
+    looking for it would take long and save little."""
     some = b"".join(picture.rows[:: picture.height // TRIED + 1])
-    return len(zlib.compress(some, 1)) > NOISE * len(some)
+    share = len(zlib.compress(some, 1)) / len(some)
+    return 0 if share > NOISE else min(level, 1) if share > VARIED else level
 
 
 def written(picture: Picture, scale: int = 1, level: int = 9) -> bytes:
-    """A picture as a file, each of its pixels as a square of `scale` by `scale`; the level is that of zlib."""
-    strategy = zlib.Z_HUFFMAN_ONLY if is_noise(picture) else zlib.Z_DEFAULT_STRATEGY
-    packer = zlib.compressobj(level, zlib.DEFLATED, zlib.MAX_WBITS, 8, strategy)
+    """A picture as a file, each of its pixels as a square of `scale` by `scale`; the level is that of zlib at most."""
+    packer = zlib.compressobj(level_of(picture, level))
     body = b"".join(packer.compress(line) for line in scanlines(picture, scale)) + packer.flush()
     head = struct.pack(">IIBBBBB", picture.width * scale, picture.height * scale, 8, 2, 0, 0, 0)
     return SIGNATURE + chunk(b"IHDR", head) + chunk(b"IDAT", body) + chunk(b"IEND", b"")
