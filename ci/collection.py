@@ -15,7 +15,7 @@ MODULES = (
     "house", "edits", "words", "spelling", "stored", "native", "native_sessions",
 )
 # those that are run only where they are asked for
-ON_REQUEST = ("memory", "out_of_memory", "engines")
+ON_REQUEST = ("memory", "peaks", "out_of_memory", "engines")
 # what takes longest, by its name: ci/checks --slowest 40 | sed -n 's/^[0-9.]* seconds: //p' > ci/slow.txt
 SLOW = os.path.join(TOP, "ci", "slow.txt")
 

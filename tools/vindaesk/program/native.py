@@ -93,7 +93,8 @@ class Library:
     def lookup(self, name: bytes, ids: Sequence[int], files: Files) -> Answer:
         """What resources hold in a table, one line each, and the status. An id is below 2 ** 32."""
         numbers = (ctypes.c_uint32 * max(len(ids), 1))(*ids)
-        return self._answer(self._loaded.vindaesk_lookup, [*bytes_parts(name), numbers, ctypes.c_size_t(len(ids))], files)
+        parts = [*bytes_parts(name), numbers, ctypes.c_size_t(len(ids))]
+        return self._answer(self._loaded.vindaesk_lookup, parts, files)
 
     def session(self, files: Optional[Files] = None) -> "Session":
         """A session whose lines may read these files."""
@@ -113,8 +114,8 @@ class Handle(ctypes.Structure):
 
 
 class Session:
-    """A script whose lines come one at a time: the answers so far are what `run` writes for the lines so far. The thread
-    that opened it uses it, and frees what it has by `close`, or by the end of `with`."""
+    """A script whose lines come one at a time: the answers so far are what `run` writes for the lines so far. Only the
+    thread that opened it uses it, and frees what it has by `close`, or by the end of `with`."""
 
     def __init__(self, loaded: ctypes.CDLL, room: Room, files: Files):
         self._loaded, self._room = loaded, room
