@@ -1,6 +1,7 @@
 """Tries how tools/lint writes findings, and which it passes over: formats, baselines, `tools:ignore`."""
 import json
 import os
+import re
 import urllib.parse
 import xml.etree.ElementTree as ElementTree
 from typing import Any, Dict, List
@@ -182,6 +183,31 @@ def takes_severities() -> str:
         return "" if named_ones == [[name, rule.severity.word] for name, rule in rules.RULES.items()] else "%s" % listed
 
 
+def lists_rules() -> str:
+    """--list by --format json has each rule with what the page says of it, and rules of one's own; other formats are
+    refused."""
+    with open(os.path.join(TOP, "docs", "LINT.md"), encoding="utf-8") as file:
+        rows = [line.strip("|\n").split("|") for line in file if re.match(r"\|`[a-z-]+`\|(note|warning|error)\|", line)]
+    wanted = [(row[0].strip("`"), row[1], row[2].split(", ") if row[2] else []) for row in rows]
+    own = 'from vindaesk.lint import rule\n\n\n@rule("own-one")\ndef f(it, page):\n    """Each view is good."""\n    yield from ()\n'
+    with place() as it:
+        it.put("own.py", own)
+        status, out, said = it.call("lint", "--list", "--format", "json", "--rules", "own.py")
+        found = json.loads(out.decode())["rules"]
+        *listed, last = [(row["rule"], row["severity"], row["android"]) for row in found]
+        if status or listed != wanted or last != ("own-one", "warning", []):
+            return "status %d, %s: %s" % (status, said, found)
+        categories = {row["rule"]: row["category"] for row in found}
+        some = [categories[name] for name in ("outside", "contrast", "own-one")]
+        if some != ["placement", "picture", "own"] or found[-1]["sentence"] != "Each view is good.":
+            return "categories %s, %s" % (some, found[-1])
+        for form in ("sarif", "github", "junit"):
+            status, out, said = it.call("lint", "--list", "--format", form)
+            if (status, out) != (2, b"") or "--list has the formats text and json; %s is for findings" % form not in said:
+                return "%s: status %d, %s" % (form, status, said)
+    return ""
+
+
 def over_all(words: List[str], it: Place) -> str:
     """What goes wrong where paths are linted in each format and by each rule."""
     for form in formats.FORMATS:
@@ -238,5 +264,5 @@ def page_has_all() -> str:
 def checks() -> Checks:
     yield from named("lint", (
         writes_json, writes_sarif, writes_commands, writes_junit, keeps_a_baseline, passes_over, takes_severities,
-        takes_all_examples, takes_the_framework, goes_on, page_has_all,
+        lists_rules, takes_all_examples, takes_the_framework, goes_on, page_has_all,
     ))

@@ -5,7 +5,7 @@ PATH is a script; a layout, compiled or as a source; an app as tools/app takes i
 folder of scripts and layouts. A finding is a line FILE:LINE:COLUMN: severity rule: sentence, with the configurations in
 which it holds in parentheses. --density, --width, --night and --rtl lay all out in each combination.
 
---list prints the rules, and --explain RULE what one means, with an example in which it finds something and one in which
+--list prints the rules, also by --format json, and --explain RULE what one means, with an example in which it finds something and one in which
 it finds nothing. --rules adds rules of your own; docs/LINT.md shows how to write one. `tools:ignore` in a source has a
 rule passed over at an element and in it, and so has a comment `# tools:ignore RULE` before a line of a script.
 
@@ -98,6 +98,19 @@ def listed(found: Dict[str, Rule]) -> str:
     return "".join(lines)
 
 
+def listed_as_json(found: Dict[str, Rule]) -> str:
+    """The rules as one object, a rule a line."""
+    import json
+
+    rows = ["  " + json.dumps({"rule": name, "severity": it.severity.word, "category": it.category, "android": it.android,
+                               "sentence": it.says}, ensure_ascii=False) for name, it in found.items()]
+    return '{"version": %d, "rules": [\n%s\n]}\n' % (formats.JSON_VERSION, ",\n".join(rows))
+
+
+# the formats of --list; those of findings alone have none for a list of rules
+LISTS = {"text": listed, "json": listed_as_json}
+
+
 def explained(names: Sequence[str]) -> str:
     """What rules mean, by their names or Android's; of one that was added by --rules its sentence alone."""
     from ..lint import sections
@@ -118,7 +131,9 @@ def main(words: Optional[Sequence[str]] = None) -> int:
     arguments.write_any_text()
     wanted = chosen(given, parser)
     if given.list:
-        files.write("-", listed(rules.RULES).encode())
+        if given.format not in LISTS:
+            parser.error("--list has the formats %s; %s is for findings" % (" and ".join(LISTS), given.format))
+        files.write("-", LISTS[given.format](rules.RULES).encode())
         return 0
     if given.explain:
         files.write("-", explained(given.explain).encode())

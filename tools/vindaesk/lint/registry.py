@@ -41,6 +41,11 @@ class Rule(NamedTuple):
         """What is true where nothing is found, in one sentence."""
         return " ".join((self.function.__doc__ or self.name).split())
 
+    @property
+    def category(self) -> str:
+        """What it looks at, as `text`: the beginning of its module's name; `own` for a rule of a user."""
+        return self.function.__module__.rpartition(".")[2].partition("_")[0]
+
     def is_among(self, names: Iterable[str]) -> bool:
         """Whether its name, one of Android's ids, or `all` is among some names."""
         return not {self.name, "all", *self.android}.isdisjoint(names)
