@@ -7,6 +7,7 @@ import xml.etree.ElementTree as ElementTree
 from typing import Any, Dict, List
 
 import sarif_form
+import sarif_schema
 from lints import FAULTS
 from running import TOP, Checks, Skipped, named
 from tools import EXAMPLES, Place, first, place, unlike
@@ -125,6 +126,12 @@ def name_of(number: int) -> str:
     view = View(number, root, "View")
     root.children = {2: other, number: view}
     return findings.stable_name(view)
+
+
+def sarif_has_the_forms_of_the_schema() -> str:
+    if not os.path.exists(sarif_schema.PATH):
+        raise Skipped("golang-github-haya14busa-go-sarif-dev")
+    return sarif_schema.unlike()
 
 
 def keeps_a_baseline() -> str:
@@ -264,5 +271,6 @@ def page_has_all() -> str:
 def checks() -> Checks:
     yield from named("lint", (
         writes_json, writes_sarif, writes_commands, writes_junit, keeps_a_baseline, passes_over, takes_severities,
-        lists_rules, takes_all_examples, takes_the_framework, goes_on, page_has_all,
+        lists_rules, sarif_has_the_forms_of_the_schema, takes_all_examples, takes_the_framework, goes_on,
+        page_has_all,
     ))
