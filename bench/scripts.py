@@ -361,7 +361,12 @@ VIEWS_OF_LINES = 64
 # by the name of a kind of line: its first word, and what the k-th line of that kind has after the view
 KINDS_OF_LINES = {
     "size": (b"size", lambda k: b"%d %d" % (10 + k % 80, 10 + k % 70)),
+    "min": (b"min", lambda k: b"%d %d" % (k % 80, k % 70)),
+    "margins": (b"margins", lambda k: b"%d 2 %d 4" % (k % 80, k % 70)),
+    "padding": (b"padding", lambda k: b"%d 2 %d 4" % (k % 80, k % 70)),
     "weight": (b"weight", lambda k: b"%d" % (k % 90)),
+    "weightsum": (b"weightsum", lambda k: b"%d" % (k % 90)),
+    "gravity": (b"gravity", by_turns(b"kids top|left", b"kids center")),
     "bg": (b"bg", color),
     "visible": (b"visible", by_turns(b"visible", b"invisible")),
     "gone": (b"visible", by_turns(b"gone", b"visible")),
@@ -374,11 +379,20 @@ KINDS_OF_LINES = {
     "flag": (b"flag", by_turns(b"clip yes", b"clip no")),
     "text": (b"text", lambda k: b"w%d" % (k % 100)),
     "intercept": (b"intercept", by_turns(b"down", b"move up")),
+    "rule": (b"rule", by_turns(b"parent_left yes", b"parent_left no")),
     "disallow": (b"disallow", by_turns(b"yes", b"no")),
 }
 
+# by the name of a kind of line of a stack of 8 windows, the first of which has a root: the k-th line of that kind
+KINDS_OF_STACK_LINES = {
+    "at": lambda k: b"at %d %d %d\n" % (k % 8, k % 50, k % 70),
+    "raise": lambda k: b"raise %d\n" % (k * 3 % 8),
+    "in": lambda k: b"in 0 size v1 %d %d\n" % (10 + k % 80, 10 + k % 70),
+}
+
 # by such a kind, the class of the views where other classes refuse the line
-CLASSES_OF_LINES = {"text": b"TextView", "ink": b"TextView", "scroll": b"ScrollView", "orient": b"LinearLayout"}
+CLASSES_OF_LINES = {"text": b"TextView", "ink": b"TextView", "scroll": b"ScrollView", "orient": b"LinearLayout",
+                    "weightsum": b"LinearLayout", "gravity": b"LinearLayout"}
 
 
 def lines_of(kind):
@@ -391,6 +405,12 @@ def lines_of(kind):
         return begun + b"".join(b"%s v%d %s\n" % (word, 2 + k * 7 % VIEWS_OF_LINES, rest_of(k)) for k in range(n))
 
     return made
+
+
+def stack_lines_of(kind):
+    """The same for lines of a stack."""
+    begun = b"".join(b"at %d %d 0\n" % (k, k) for k in range(8)) + b"in 0 window 100 100\nin 0 add root FrameLayout 9 9\n"
+    return lambda n: begun + b"".join(KINDS_OF_STACK_LINES[kind](k) for k in range(n))
 
 
 def lines_of_spaces(n):
