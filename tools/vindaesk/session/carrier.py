@@ -9,7 +9,7 @@ from ..scripts import script
 from ..scripts.names import Ids
 from ..scripts.script import Window
 from ..views import view_tree
-from . import saved
+from . import checked, saved
 from .world import World
 
 # lines that change nothing
@@ -55,12 +55,14 @@ class Carrier:
 
     def line(self, text: str) -> List[str]:
         """Carries out any line of docs/SCRIPT.md, and returns its replies."""
+        checked.given("a line", text)
         replies = self._carried_out(self._bytes_of(text), self._carries.until_mark)
         return [it.decode() for it in replies]
 
     def script(self, text: str) -> List[str]:
         """Carries out the lines of a script, and of the files that it includes from the session's folder, and returns
         all replies; the first line that is refused ends it."""
+        checked.given("a script", text)
         whole = text.encode("utf-8", "surrogateescape")
         lines = script.Includer().lines(os.path.join(self._folder, "(session)"), whole, [])
         return [reply for line in lines for reply in self.line(line.text.decode("utf-8", "surrogateescape"))]

@@ -112,5 +112,6 @@ class Looking(Carrier):
 
     def screenshot(self, path: str, scale: int = 1) -> None:
         """Writes that as a PNG file, whole or not at all; a pixel is `scale` by `scale`."""
+        checked.path(path)
         checked.scale(scale)
         files.replace(path, png.written(self.picture(), scale))

@@ -1,6 +1,6 @@
 """A new program in the place of one that has read nearly all that it reads: it gets the lines that make the same views
 again, and takes over where its bounds and its picture are the same."""
-from typing import Dict, List, Optional
+from typing import Collection, Dict, List, Optional
 
 from ..common.failures import Failure
 from ..scripts import script
@@ -25,13 +25,17 @@ def next_due(channel: Channel) -> int:
     return channel.left - reserve(channel) // AGAIN
 
 
-def why_not(world: World, kept: bytes) -> str:
-    """Why the views cannot be made again; nothing where they can."""
+def why_not(world: World, kept: bytes, down: Collection[int]) -> str:
+    """Why the views cannot be made again, with these pointers down; nothing where they can."""
     if world.why:
         return world.why
     if len(RESTORE + kept) > script.MAX_LINE:
         return "the saved state has %d digits, which no line has" % len(kept)
-    return "" if world.is_at_rest else "a pointer is down, a hook is armed, or lines came after the last frame"
+    if down:
+        return "a pointer is down: %s" % ", ".join(map(str, sorted(down)))
+    if world.hooks:
+        return "a hook is armed: that of %s" % ", ".join("v%d" % it for it in sorted(world.hooks))
+    return "" if world.is_at_rest else "lines came after the last frame that settled"
 
 
 def offsets_in(lines: List[bytes]) -> Dict[int, int]:

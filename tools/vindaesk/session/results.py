@@ -4,6 +4,7 @@ from typing import Dict, List, NamedTuple, Optional, Tuple, Union
 
 from ..views import placement
 from ..views.placement import Box, Placed
+from . import checked
 
 Word = Union[str, int, bool]
 
@@ -104,6 +105,7 @@ def frame_of(reply: bytes) -> Frame:
 
 def word_of(value: Word) -> str:
     """A value as a word of a line."""
+    checked.words(value)
     if isinstance(value, bool):
         return "yes" if value else "no"
     return str(value)
@@ -116,7 +118,11 @@ def escaped(text: str) -> str:
 
 def called(view: Viewed) -> str:
     """A view as lines name it."""
-    return view if isinstance(view, str) else view.name
+    if isinstance(view, Node):
+        return view.name
+    if not isinstance(view, str):
+        raise TypeError("a view is a name as 'v3' or '@id/send', or what find returned, and not %r" % (view,))
+    return view
 
 
 def node_of(it: Placed, seen: Optional[Box]) -> Node:

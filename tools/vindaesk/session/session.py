@@ -52,13 +52,16 @@ class Editing(Touching):
 
     def res(self, name: str, kind: str, *values: Word) -> None:
         """Gives a resource a value: `res("@7f060001", "dimen", 12, "dp")`, `"color", "#ff0080ff"` or `"text", TEXT`."""
-        words = [escaped(str(it)) if kind == "text" else word_of(it) for it in values]
+        checked.given("name", name)
+        checked.given("kind", kind)
+        words = [escaped(word_of(it)) if kind == "text" else word_of(it) for it in values]
         self.line(" ".join(["res", name, kind, *words]))
 
     def add(self, parent: Viewed, kind: str, width: Word, height: Word) -> str:
         """Makes a view the last child of its parent, or the root where that is `root`, and returns its name. Width and
         height are pixels, `match` or `wrap`."""
-        return self._one("add %s %s %s %s" % (called(parent), kind, width, height))
+        checked.given("kind", kind)
+        return self._one("add %s %s %s %s" % (called(parent), kind, word_of(width), word_of(height)))
 
     def remove(self, view: Viewed) -> List[str]:
         """Takes a view and all below it away; returns how it learns that a gesture is taken from it."""
@@ -68,16 +71,20 @@ class Editing(Touching):
         """Carries out the line `WHAT VIEW VALUES`: `set(v, "margins", 1, 2, 3, 4)`, `set(v, "flag", "clip", False)`,
         `set(v, "gravity", "self", "left")`, `set(v, "text", TEXT)`, whose line feeds and backslashes are escaped here.
         """
-        words = [escaped(str(it)) if what == "text" else word_of(it) for it in values]
+        checked.given("what", what)
+        words = [escaped(word_of(it)) if what == "text" else word_of(it) for it in values]
         return self.line(" ".join([what, called(view), *words]))
 
     def hook(self, view: Viewed, *edits: str) -> None:
         """Arms a hook: once a frame gives the view another size, the edits are made, each as a line has it."""
+        for it in edits:
+            checked.given("an edit", it)
         self.line("hook %s %s" % (called(view), " ; ".join(edits)))
 
     def inflate(self, name: str, into: Optional[Viewed] = None) -> Inflated:
         """Makes the views of a layout file of the folder, as the last child of a view or as the root."""
-        words = self._one("inflate %s%s" % (name, " into %s" % called(into) if into else "")).split(" ")
+        checked.given("name", name)
+        words = self._one("inflate %s%s" % (name, " into %s" % called(into) if into is not None else "")).split(" ")
         return Inflated(words[1], words[2], int(words[4]))
 
     def frame(self) -> Frame:
@@ -87,7 +94,7 @@ class Editing(Touching):
     def frames(self, count: int) -> List[Frame]:
         """Carries out a number of frames. They are asked for together, so that none waits for the answer of the one
         before: quicker than as many calls of `frame`."""
-        checked.number("count", count)
+        checked.between("count", count, 0, checked.MAX_COUNT)
         found: List[Frame] = []
         while len(found) < count:
             found += [frame_of(it) for it in self._repeated(b"frame", min(TOGETHER, count - len(found)))]
@@ -99,6 +106,7 @@ class Editing(Touching):
 
     def restore(self, state: Optional[str] = None) -> None:
         """Restores what was kept, or such bytes."""
+        checked.text("state", state)
         self.line("restore %s" % state if state else "restore")
 
 
@@ -108,6 +116,8 @@ class Session(Editing):
     def __init__(self, folder: str = ".", ids: Optional[str] = None, seconds: float = SECONDS):
         """Starts the program. Layout files are those of the folder, and names of ids those of its ids.txt, or of a list
         by its path. An answer that takes longer than some seconds is a NoAnswer, and ends the session."""
+        checked.folder(folder)
+        checked.text("ids", ids)
         known = names.beside(folder, ids)
         self._seconds = seconds
         self._channel = Channel("run", folder, known, seconds)
@@ -151,7 +161,7 @@ class Session(Editing):
 
     def renew(self) -> str:
         """Has a new program take over, with the same views, bounds and picture. Returns why it cannot, or nothing."""
-        why = renewal.why_not(self._world, self._kept)
+        why = renewal.why_not(self._world, self._kept, self._down)
         if not why:
             new = Channel("run", self._folder, self.ids, self._seconds)
             why = renewal.renewed(self._channel, new, self._world)
@@ -179,12 +189,13 @@ class Session(Editing):
     def record(self, path: str) -> None:
         """Writes what was done as a script: `tools/page` shows it, and `vindaesk run` answers the same. A line that was
         refused is a comment. After a new program took over it begins with the lines by which that one did."""
+        checked.path(path)
         recording.write(path, bytes(self._channel.journal), self._folder, self.inflated)
 
     def focus(self, view: Viewed, *sides: str) -> List[Optional[str]]:
         """The view that gets the focus after each of some keys, `left`, `right`, `up` or `down`, from a view on; None
         where no view gets it, so that it stays. Each key is a run of the program over what was done."""
-        first = self._number(view)
+        first = self._number(called(view))
         assert first is not None
         return focus.walk(self._copy(), self._folder, sides, first, self._seconds)
 
@@ -192,7 +203,7 @@ class Session(Editing):
         """A script that leaves what there is now: what was done, or where that is long the lines by which a new program
         would take over."""
         done = bytes(self._channel.journal)
-        if len(done) > LONG and not renewal.why_not(self._world, self._kept):
+        if len(done) > LONG and not renewal.why_not(self._world, self._kept, self._down):
             with contextlib.closing(Channel("run", self._folder, self.ids, self._seconds)) as new:
                 lines = renewal.lines_for(self._channel, self._world)
                 if lines is not None and not renewal.take_over(self._channel, new, lines):

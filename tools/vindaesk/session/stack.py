@@ -21,7 +21,7 @@ from .channel import Channel
 from .errors import LineRefused
 from .results import Way
 from .session import SECONDS, Editing
-from .touching import Point
+from .touching import Point, numbers
 
 DONE = "done "
 
@@ -98,6 +98,8 @@ class Stack:
 
     def __init__(self, folder: str = ".", ids: Optional[str] = None, seconds: float = SECONDS):
         """Starts the program, as a session does."""
+        checked.folder(folder)
+        checked.text("ids", ids)
         self._folder = folder
         self.ids = names.beside(folder, ids)
         self.channel = Channel("stack", folder, self.ids, seconds)
@@ -129,10 +131,12 @@ class Stack:
 
     def on_top(self, number: int) -> None:
         """Puts a window on top of the others."""
+        checked.number("number", number)
         self._line("raise %d" % number)
 
     def close(self, number: int) -> None:
         """Closes a window, with all that it has."""
+        checked.number("number", number)
         self._line("close %d" % number)
         del self.windows[number], self.corners[number]
 
@@ -140,6 +144,7 @@ class Stack:
 
     def down(self, pointer: int, x: int, y: int) -> Way:
         """A pointer goes down. Where there is no window the way is empty."""
+        numbers(pointer, x, y)
         way = self._line("sdown %d %d %d" % (pointer, x, y))
         # where a window has got it, the root's answer is last
         if not way[-1:] or not way[-1].startswith(DONE):
@@ -149,10 +154,12 @@ class Stack:
 
     def move(self, pointer: int, x: int, y: int) -> Way:
         """It moves there."""
+        numbers(pointer, x, y)
         return self._line("smove %d %d %d" % (pointer, x, y))
 
     def up(self, pointer: int) -> Way:
         """It goes up where it is."""
+        checked.number("pointer", pointer)
         way = self._line("sup %d" % pointer)
         self.pointers.discard(pointer)
         return way
@@ -165,17 +172,21 @@ class Stack:
 
     def picture(self, width: int, height: int) -> png.Picture:
         """What the windows make of this part of the stack, from 0 0 on."""
+        for name, value in (("width", width), ("height", height)):
+            checked.between(name, value, 1, checked.MAX_SIDE)
         asked = frames.asked((width, height), b"compose")
         rows = [row for line in asked for row in self.channel.until_mark(line)]
         return png.Picture(width, height, [bytes.fromhex(row.decode()) for row in rows])
 
     def screenshot(self, path: str, width: int, height: int, scale: int = 1) -> None:
         """Writes that as a PNG file."""
+        checked.path(path)
         checked.scale(scale)
         files.replace(path, png.written(self.picture(width, height), scale))
 
     def record(self, path: str) -> None:
         """Writes what was done as a script: `vindaesk stack` answers the same."""
+        checked.path(path)
         inflated = {name: digest for it in self.windows.values() for name, digest in it.inflated.items()}
         recording.write(path, bytes(self.channel.journal), self._folder, inflated)
 

@@ -36,6 +36,7 @@ class Touching(Looking):
 
     def up(self, pointer: int) -> Way:
         """It goes up where it is."""
+        checked.number("pointer", pointer)
         return Way(self.line("up %d" % pointer))
 
     def cancel(self) -> Way:
@@ -45,6 +46,7 @@ class Touching(Looking):
     def tap(self, view: Viewed, pointer: int = 0, check: bool = False) -> Way:
         """A pointer goes down and up in the middle of what is seen of a view. With `check` it is an OtherView where
         another view took it, or none; the pointer is up then too."""
+        checked.truth("check", check)
         place = self.middle(view)
         with self._lifting(pointer):
             way = self.down(pointer, *place)
@@ -75,8 +77,9 @@ class Touching(Looking):
     def drag(self, view: Viewed, right: int, down: int, steps: int = 5, pointer: int = 0) -> Way:
         """A pointer goes down in the middle of what is seen of a view, moves by these pixels in equal steps, and goes
         up."""
-        if steps < 1:
-            raise ValueError("a drag has one step at least")
+        for name, value in (("right", right), ("down", down), ("pointer", pointer)):
+            checked.number(name, value)
+        checked.between("steps", steps, 1, checked.MAX_COUNT)
         x, y = self.middle(view)
         return self.gesture(
             [(x + right * step // steps, y + down * step // steps) for step in range(steps + 1)], first=pointer
@@ -85,7 +88,10 @@ class Touching(Looking):
     def gesture(self, *paths: Sequence[Point], first: int = 0) -> Way:
         """One pointer for each path of places in the window, numbered from the first: all go down, they move in turns
         from place to place, and go up, the last one first."""
-        for x, y in (place for path in paths for place in path):
+        checked.number("first", first)
+        for place in (place for path in paths for place in path):
+            checked.place(place)
+            x, y = place
             if max(abs(x), abs(y)) > MAX_PLACE:
                 raise ValueError("a gesture to %d, %d leads out of the places that a pointer may have" % (x, y))
         if not all(paths):
