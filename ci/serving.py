@@ -210,7 +210,6 @@ def finds_by_others() -> str:
             (client.find(*it), ["invalid selector"])
             for it in (
                 ("css selector", "a > b"),
-                ("accessibility id", "x"),
                 ("-android uiautomator", "new UiSelector().fly(true)"),
                 ("-android uiautomator", "new UiSelector().text("),
                 ("-android uiautomator", "drop()"),
@@ -218,6 +217,31 @@ def finds_by_others() -> str:
             )
         ]
         pairs += [(client.find("smell", "x"), ["invalid argument"]), (client.find("id", ""), [])]
+    return unlike(pairs)
+
+
+def finds_by_descriptions() -> str:
+    """As Appium's clients call content descriptions: of an app, of a layout file of a script, and where there are none."""
+    with served(folder="examples/trips") as client:
+        client.begin(**{"appium:app": "trips.apk", "vindaesk:layout": "search"})
+        found = client.find("id", "go")
+        pairs: List[Tuple[object, object]] = [(len(found), 1)]
+        pairs += [
+            (client.find(*it), found)
+            for it in (
+                ("accessibility id", "Where to?"),
+                ("-android uiautomator", 'new UiSelector().description("Where to?")'),
+                ("-android uiautomator", 'new UiSelector().descriptionContains("RE T")'),
+                ("-android uiautomator", 'new UiSelector().descriptionStartsWith("where")'),
+                ("xpath", "//*[@content-desc='Where to?']"),
+            )
+        ]
+        pairs += [(client.find("accessibility id", it), []) for it in ("Where", "where to?", "")]
+    with served() as client:
+        client.begin(vindaesk__lines="window 9 9\nadd root View 5 5\nframe")
+        pairs += [(client.find("accessibility id", "x"), [])]
+        answer = client.ask("POST", "/element", using="accessibility id", value="x")
+        pairs += [("no view here has a content description" in answer["message"], True)]
     return unlike(pairs)
 
 
@@ -686,6 +710,7 @@ def checks() -> Checks:
         (
             by_selenium,
             finds_by_others,
+            finds_by_descriptions,
             touches,
             clicks_that_others_take,
             answers_as_webdriver,

@@ -3,6 +3,7 @@ import json
 from typing import Any, Dict, Optional, Tuple
 
 from .errors import Problem, text_in
+from .locators import why_none
 from .screen import Screen
 
 TRUTHS = (
@@ -36,8 +37,8 @@ def find(screen: Screen, body: Any, inside: Optional[str] = None) -> Any:
     if not found:
         raise Problem(
             "no such element",
-            "no element that is seen has %s %s; the frame has settled, so waiting changes nothing"
-            % (using, json.dumps(value[:200], ensure_ascii=False)),
+            "no element that is seen has %s %s; %s"
+            % (using, json.dumps(value[:200], ensure_ascii=False), why_none(screen.tree(), using)),
         )
     return found[0]
 

@@ -15,6 +15,8 @@ CSS_CLASS = re.compile(r"\.?([A-Za-z][\w.\\-]*)")
 CSS_HASH = re.compile(r"#([^\s\[\].:>+~]+)")
 PACKAGES = ("android.widget.", "android.view.")
 
+XPATH, ANDROID, ACCESSIBILITY = "xpath", "-android uiautomator", "accessibility id"
+
 Element = ElementTree.Element
 Test = Callable[[Element], bool]
 
@@ -65,9 +67,16 @@ STRATEGIES: Dict[str, Callable[[str], Test]] = {
     "tag name": has_class,
     "css selector": css,
     "link text": lambda value: lambda it: it.get("text") == value,
+    ACCESSIBILITY: lambda value: lambda it: bool(value) and it.get("content-desc") == value,
     "partial link text": lambda value: lambda it: value in it.get("text", ""),
 }
-XPATH, ANDROID, ACCESSIBILITY = "xpath", "-android uiautomator", "accessibility id"
+
+
+def why_none(tree: Tree, using: str) -> str:
+    """Why nothing is found, beyond that nothing is so; nothing where there is no more to say."""
+    if using == ACCESSIBILITY and not any(it.get("content-desc") for it in tree.elements):
+        return "no view here has a content description, which only android:contentDescription of a layout gives"
+    return "the frame has settled, so waiting changes nothing"
 
 
 class Locators:
@@ -88,8 +97,6 @@ class Locators:
             return [tree.elements[it] for it in self.finder.found(tree.source, value, place)]
         if using == ANDROID:
             return [it for it in selected(every, selectors_of(value))]
-        if using == ACCESSIBILITY:
-            raise Problem("invalid selector", "the tree has no content descriptions, by which 'accessibility id' finds")
         known = ", ".join([*STRATEGIES, XPATH, ANDROID])
         raise Problem("invalid argument", "there is no strategy '%s'; there are %s" % (using, known))
 

@@ -34,6 +34,9 @@ class Screen:
         self.way: List[str] = []
         self.used = time.monotonic()
         self._locators = locators
+        # of a layout of an app
+        descriptions = getattr(session, "descriptions", None)
+        self._descriptions: Dict[int, str] = descriptions() if descriptions else {}
         self._changes = -1
         self._tree: Optional[Tree] = None
         self._nodes: Dict[str, Node] = {}
@@ -42,7 +45,8 @@ class Screen:
         """The tree as it is now. It is made once between changes."""
         if self._tree is None or self._changes != self.session.changes:
             placed = self._placed()
-            hierarchy = Hierarchy(placed, Origin(self.session.ids, self.session.window_size), Form.APPIUM)
+            origin = Origin(self.session.ids, self.session.window_size, self._descriptions)
+            hierarchy = Hierarchy(placed, origin, Form.APPIUM)
             self._nodes = {it.name: it for it in self.session.nodes_of(placed)}
             self._tree = Tree(hierarchy, list(hierarchy.root.iter())[1:], hierarchy.text())
             self._changes = self.session.changes

@@ -21,6 +21,8 @@ TEXTS: Dict[str, Callable[[str], Test]] = {
     "resourceId": lambda value: lambda it: it.get("resource-id") == value,
     "packageName": lambda value: lambda it: it.get("package") == value,
     "description": lambda value: lambda it: it.get("content-desc") == value,
+    "descriptionContains": lambda value: lambda it: value.lower() in it.get("content-desc", "").lower(),
+    "descriptionStartsWith": lambda value: lambda it: it.get("content-desc", "").lower().startswith(value.lower()),
 }
 TRUTHS = {
     **{

@@ -11,10 +11,10 @@ docs/APPS.md says what is exact of such a layout, and what is not."""
 import contextlib
 import os
 import tempfile
-from typing import Iterable, Iterator, List, Optional, Sequence, Tuple, Union
+from typing import Dict, Iterable, Iterator, List, Optional, Sequence, Tuple, Union
 
 from ..apps import app as apps
-from ..apps import report, writer
+from ..apps import report, sources, writer
 from ..apps.app import Request, Screen
 from ..apps.expansion import Options
 from ..apps.states import named
@@ -23,6 +23,7 @@ from ..common.failures import NOT_RUN, Failure
 from ..resources.devices import device
 from ..scripts import names, script
 from ..scripts.grammar import guess
+from ..views.uiautomator import description_in
 from . import checked
 from .errors import NotFound
 from .session import SECONDS, Session
@@ -47,6 +48,11 @@ class AppSession(Session):
                 return "@%08x" % number
         known = tuple(it.rpartition("/")[2] for it in self.screen.ids.values())
         raise NotFound("no view of the layout has the id '%s'%s" % (name, guess(name, known)))
+
+    def descriptions(self) -> Dict[int, str]:
+        """The content descriptions of the layout, by the numbers of their views."""
+        found = {number: description_in(it) for number, it in sources.of_screen(self.screen).items()}
+        return {number: text for number, text in found.items() if text}
 
     def notes(self) -> List[str]:
         """What of the layout is not exact, a line each."""

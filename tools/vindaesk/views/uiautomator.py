@@ -6,13 +6,14 @@ counts the visible children of a parent, those off the screen too. Children come
 import enum
 import re
 import xml.etree.ElementTree as ElementTree
-from dataclasses import dataclass
-from typing import Dict, List, Optional
+from dataclasses import dataclass, field
+from typing import Dict, List, Mapping, Optional
 
 from ..scripts import names
 from ..scripts.names import Ids
 from ..scripts.script import Window
 from . import placement
+from .facts import Source
 from .placement import Box, Placed
 from .view_tree import View
 
@@ -21,6 +22,7 @@ HEADER = "<?xml version='1.0' encoding='UTF-8' standalone='yes' ?>"
 PACKAGE = "vindaesk"
 # what no document of XML 1.0 can have, which `uiautomator` writes as a dot
 NO_XML = re.compile("[^\t\n\r\x20-\ud7ff\ue000-\ufffd\U00010000-\U0010ffff]")
+DESCRIPTION = "android:contentDescription"
 # facts that the rules of views do not have
 ABSENT = ("checkable", "checked", "focused", "long-clickable", "password", "selected")
 
@@ -34,10 +36,12 @@ class Form(enum.Enum):
 
 @dataclass(frozen=True)
 class Origin:
-    """Of what a tree is: the names of its ids, and the size of its window."""
+    """Of what a tree is: the names of its ids, the size of its window, and of an app's layout the content descriptions,
+    by the numbers of their views."""
 
     ids: Ids = names.NONE
     window: Optional[Window] = None
+    descriptions: Mapping[int, str] = field(default_factory=dict)
 
     @property
     def package(self) -> str:
@@ -61,6 +65,12 @@ def resource_id(view: View, origin: Origin) -> str:
     return "%s:%s/%s" % (package or origin.package, kind, name)
 
 
+def description_in(source: Optional[Source]) -> str:
+    """The content description of an element; empty where it has none."""
+    found = source.attributes.get(DESCRIPTION) if source and not source.is_added else None
+    return found.resolved if found and found.resolved != "@null" else ""
+
+
 def shown_box(box: Box) -> str:
     """A box as Android's `Rect` is printed."""
     return "[%d,%d][%d,%d]" % box
@@ -80,7 +90,7 @@ def facts_of(view: View, index: int, box: Box, origin: Origin) -> Dict[str, str]
         "resource-id": resource_id(view, origin),
         "class": class_of(view.kind),
         "package": origin.package,
-        "content-desc": "",
+        "content-desc": NO_XML.sub(".", origin.descriptions.get(view.number) or description_in(view.source)),
         "checkable": "",
         "checked": "",
         "clickable": truth(is_clicked),
