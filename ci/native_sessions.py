@@ -16,10 +16,10 @@ sys.dont_write_bytecode = True
 
 import native
 import stored
-from running import PROGRAM, Checks, difference, run
+from running import PROGRAM, TOP, Checks, difference, run
 from vindaesk.common import files
 from vindaesk.program import in_process
-from vindaesk.program.native import Answer
+from vindaesk.program.native import VARIABLE, Answer
 
 SOURCE = os.path.join(os.path.dirname(os.path.abspath(__file__)), "native_sessions.c")
 WRAPPED = "-Wl,--wrap=malloc,--wrap=realloc,--wrap=free"
@@ -76,6 +76,15 @@ def same_in_python(calls: Iterable[native.Call]) -> str:
     return "" if count > 50 else "there are only %d scripts" % count
 
 
+def example() -> str:
+    """The example in Python, which gets a script at its input."""
+    script = b"window 360 640\ninflate page.xml\nframe\nbounds\n"
+    source, page = (os.path.join(native.EXAMPLES, *it) for it in (("native", "line_by_line.py"), ("page.xml",)))
+    variables = {**os.environ, "PYTHONPATH": os.path.join(TOP, "tools"), VARIABLE: native.shared()}
+    ended = subprocess.run([sys.executable, source, page], input=script, stdout=subprocess.PIPE, env=variables)
+    return difference(*run([PROGRAM, "run"], script, native.EXAMPLES), ended.stdout, ended.returncode)
+
+
 def calls(words: List[str], wanted: str = r"^$") -> str:
     """What native_sessions.c prints for these words has a form."""
     with tempfile.TemporaryDirectory() as place:
@@ -89,6 +98,7 @@ def calls(words: List[str], wanted: str = r"^$") -> str:
 def checks() -> Checks:
     given = [native.FROM_A_FILE, *with_files(native.EXAMPLES)]
     yield "native/sessions give the bytes of the program", same_bytes
+    yield "native/the example of a session", example
     yield "native/sessions of Python", partial(same_in_python, native.worked())
     if stored.places():
         yield "native/sessions of Python over stored cases", partial(same_in_python, native.stored_calls())
