@@ -212,8 +212,12 @@ def finds_once() -> str:
         for name, lines in {"a": "", "b": "add v1 View 9 9\n"}.items():
             it.put(name + ".script", start % (320 + len(lines)) + lines + "include row.lines\nframe\n")
         words = ("--only", "useless-leaf")
-        wanted = LEAF.replace(b")", b"; 160 dpi, 336 dp)")
+        wanted = LEAF.replace(b")\n", b"; 160 dpi, 336 dp) [included by a.script:3]\n")
         why = unlike(it.call("lint", "a.script", "b.script", *words), 1, wanted, "")
+        it.put("middle.lines", "# one more file\ninclude row.lines\n")
+        it.put("c.script", start % 320 + "include middle.lines\nframe\n")
+        wanted = LEAF.replace(b"\n", b" [included by middle.lines:2, c.script:3]\n")
+        why = why or unlike(it.call("lint", "c.script", "a.script", *words), 1, wanted, "")
         it.put("b.script", start % 320 + "include row.lines\n" * 2 + "frame\n")
         twice = it.call("lint", "a.script", "b.script", *words)[1].count(b"row.lines:1:1: ")
         why = why or ("" if twice == 1 else "%d of a file that is included twice" % twice) or of_layouts(it)

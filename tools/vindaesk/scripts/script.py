@@ -22,11 +22,13 @@ Window = Tuple[int, int]
 
 
 class Line(NamedTuple):
-    """A line as it was written: its bytes, the file, and its number there, from 1."""
+    """A line as it was written: its bytes, the file, and its number there, from 1; and files and numbers of the lines
+    that include that file, from the innermost."""
 
     text: bytes
     file: str
     number: int
+    around: Tuple[Tuple[str, int], ...] = ()
 
     def place(self) -> str:
         """Where it is, as messages write it."""
@@ -95,13 +97,13 @@ class Includer:
         self.count = 0
         self.size = 0
 
-    def lines(self, path: str, text: bytes, around: Sequence[str]) -> List[Line]:
-        """The lines of a file, which the files `around` it include, from the outermost."""
+    def lines(self, path: str, text: bytes, around: Sequence[str], by: Tuple[Tuple[str, int], ...] = ()) -> List[Line]:
+        """The lines of a file, which the files `around` it include, from the outermost, `by` these lines."""
         self.size += len(text)
         found: List[Line] = []
         for number, line in enumerate(lines_in(text), 1):
             inner = included(line)
-            here = Line(line, path, number)
+            here = Line(line, path, number, by)
             found += [here] if inner is None else self.inner(inner, here, [*around, path])
         return found
 
@@ -127,7 +129,7 @@ class Includer:
         text = files.read(path, MAX_SCRIPT)
         if self.size + len(text) > MAX_SCRIPT:
             raise failure(at, "with this file the script has more than %d bytes" % MAX_SCRIPT)
-        return self.lines(path, text, around)
+        return self.lines(path, text, around, ((at.file, at.number), *at.around))
 
 
 def failure(at: Line, why: str) -> Failure:

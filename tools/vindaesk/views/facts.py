@@ -86,9 +86,10 @@ def source_of(origin: Origin, kind: str) -> Source:
     """The source of a view of some class."""
     line, element = origin.line, origin.element
     at = Place(files.named(line.file), line.number, 1 + len(line.text) - len(line.text.lstrip(b" ")))
+    lines = (at, *(Place(files.named(file), number) for file, number in line.around))
     if element is None:
-        return Source(kind, (at,), ignored=origin.ignored)
-    places = (Place(origin.file, element.line), at)
+        return Source(kind, lines, ignored=origin.ignored)
+    places = (Place(origin.file, element.line), *lines)
     of_app = origin.of_app
     if of_app:
         # the attributes of the file are those that `tools/app` gave it, and not those of the app
