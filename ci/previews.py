@@ -10,19 +10,20 @@ import socket
 import struct
 import subprocess
 import time
-from typing import Any, Callable, Dict, Iterator, List, Optional, Tuple
+from typing import Any, Callable, Dict, Iterator, List, NamedTuple, Optional, Tuple
 
 import chromium
-from running import PROGRAM, SECONDS, Checks, Skipped, named, run
+from running import SECONDS, Checks, Skipped, named
 from tools import EXAMPLES, Place, place
 from vindaesk.pictures import png
 from vindaesk.preview import watcher
 
-# from a saved file to the picture of 200 views, in seconds, and how many times that is tried: others share the machine
-MOST = 0.150
-TRIES = 10
-# how many times longer than the program alone a change may take, where others use the machine: 20 ms alone, else
-SHARE = 7
+# from a saved file to the picture of 200 views, in seconds: by the clock, and of processor time; and how many times that
+# is tried
+MOST, MOST_WORK = 0.150, 0.075
+TRIES = 5
+# numbers that are added up to see how slow the machine is, and how long that takes on one that does nothing else
+COUNT, ALONE = 200000, 0.015
 TOUCHED = """window 160 120
 add root FrameLayout match match
 bg v1 #ffeceff1
@@ -262,48 +263,59 @@ def single_sources_are_those_of_app() -> str:
 
 
 def changes_come_in_time() -> str:
-    """From a saved file to the picture of 200 views, of a script and of a layout of an app; and files are looked at
-    often enough for that."""
+    """From a saved file to the picture of 200 views, of a script, of a layout of an app, and of a source alone: by the
+    processor time of the preview, whatever else runs, and by the clock; and files are looked at often enough."""
     if watcher.PAUSE > MOST / 5:
         return "between two looks at the files there are %g s" % watcher.PAUSE
     with place() as it:
         os.makedirs(os.path.join(it.folder, "res", "layout"))
-        # of a layout, tools/app has to be asked too, which takes as long as the program where others use the machine
-        for name, made, share in (("a.script", of_views, SHARE), ("res/layout/a.xml", source_of, 3 * SHARE)):
+        for name, made in (("a.script", of_views), ("res/layout/a.xml", source_of), ("a.xml", source_of)):
             it.put(name, made(200))
             with previewed(it, name) as page:
-                quickest = quickest_change(it, page, (name, made), share)
-            if quickest:
-                return "%s: the quickest change took %d ms" % (name, 1000 * quickest)
+                why = late(it, page, name, made)
+            if why:
+                return "%s: %s" % (name, why)
     return ""
 
 
-def quickest_change(it: Place, page: Page, changed: Tuple[str, Callable[[int, str], str]], share: float) -> float:
-    """Of some changes of a file the quickest, in seconds, since others use the machine too; 0 if it was in time, which
-    is a share of what the program alone takes."""
-    name, made = changed
+def late(it: Place, page: Page, name: str, made: Callable[[int, str], str]) -> str:
+    """By how much the quickest of some changes of a file is late, in processor time or by the clock."""
     old = page.row(lambda row: row["picture"] and row["findings"] is not None)["picture"]
-    times = []
+    worked, took = [], []
     for number in range(TRIES):
         time.sleep(0.2)
+        slow, clock = slowness(), clock_of(page.started.pid)
         text = made(200, "changed %d" % number)
-        alone = time_alone(of_views(200, "changed %d" % number))
-        begun = time.monotonic()
+        begun, before = time.monotonic(), time.clock_gettime(clock)
         it.put(name, text)
         row = page.row(lambda row: row["picture"] not in (None, old) and not row["messages"], page.first)
         page.read("picture/%s.png" % row["picture"])
-        times.append(time.monotonic() - begun)
+        worked.append((time.clock_gettime(clock) - before) / slow.work)
+        took.append((time.monotonic() - begun) / slow.clock)
         old = row["picture"]
-        if times[-1] <= max(MOST, share * alone):
-            return 0
-    return min(times)
+        if min(worked) <= MOST_WORK and min(took) <= MOST:
+            return ""
+    return "the quickest of %d changes took %d ms of processor time, and %d ms by the clock, as on a machine alone" % (
+        TRIES, 1000 * min(worked), 1000 * min(took))
 
 
-def time_alone(text: str) -> float:
-    """How long the program alone takes for a script and its picture, in seconds: more where others use the machine."""
-    begun = time.monotonic()
-    run([PROGRAM, "run"], (text + "bounds\npixels 0 0 360 182\npixels 0 182 360 182\n").encode(), EXAMPLES)
-    return time.monotonic() - begun
+class Slowness(NamedTuple):
+    """How many times longer work takes now than on a machine alone: in processor time, and by the clock."""
+
+    work: float
+    clock: float
+
+
+def slowness() -> Slowness:
+    """How slow the machine is now, by work that takes ALONE seconds on one that does nothing else; never below 1."""
+    begun, before = time.monotonic(), time.process_time()
+    sum(number * number for number in range(COUNT))
+    return Slowness(max(1, (time.process_time() - before) / ALONE), max(1, (time.monotonic() - begun) / ALONE))
+
+
+def clock_of(process: int) -> int:
+    """The clock of the processor time of a process, with all its threads, as Linux numbers it."""
+    return ~process << 3 | 2
 
 
 def broken_files_keep_the_picture() -> str:

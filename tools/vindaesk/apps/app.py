@@ -99,6 +99,13 @@ class OpenApp:
         self.indexed: Optional[Resources] = None
         self.made: Dict[Request, Made] = {}
 
+    def renewed(self, paths: Sequence[str]) -> bool:
+        """Takes files of a project's source that have changed, if its resources stay as they are. Else the app has to be
+        opened again."""
+        trees = [it for it in self.files.sources.values() if isinstance(it, SourceTree)]
+        parts = [[path for path in paths if it.has_path(path)] for it in trees]
+        return sum(map(len, parts)) == len(paths) and all([it.renewed(part) for it, part in zip(trees, parts)])
+
     def resources(self, device: Configuration) -> Resources:
         """The resources for a device."""
         if self.indexed is None:

@@ -8,7 +8,7 @@ from ..layouts import documents
 from ..resources.values import Type
 from . import drawables
 from .bitmaps import Edges
-from .draft import MATCH, MAX_MARGIN, MAX_SIZE, SIZES, WRAP, Draft, boolean_of, colour_of, length_of, whole
+from .draft import MATCH, MAX_MARGIN, MAX_SIZE, SIZES, WRAP, Draft, boolean_of, colour_of, keys_of, length_of, whole
 from .drawables import NO_EDGES, Drawable
 from .report import Effect
 
@@ -18,6 +18,10 @@ SIBLING_RULES = tuple(name for name, form in OF_PARENTS.items() if form is known
 PARENT_RULES = tuple(name for name, form in OF_PARENTS.items() if form is known.BOOLEAN)
 TABLE_PARENTS = ("TableLayout", "TableRow")
 LINES = ("LinearLayout", *TABLE_PARENTS)
+MARGINS = keys_of("layout_margin layout_marginLeft layout_marginTop layout_marginRight layout_marginBottom layout_marginStart "
+                  "layout_marginEnd layout_marginHorizontal layout_marginVertical")
+PADDINGS = keys_of("padding paddingLeft paddingTop paddingRight paddingBottom paddingHorizontal paddingVertical paddingStart "
+                   "paddingEnd")
 # the API level from which on an attribute is read
 NEW = {"paddingHorizontal": 26, "paddingVertical": 26, "layout_marginHorizontal": 26, "layout_marginVertical": 26}
 
@@ -69,6 +73,8 @@ def is_too_new(draft: Draft, name: str) -> bool:
 
 def put_margins(draft: Draft) -> None:
     """The margins."""
+    if draft.lacks(MARGINS):
+        return
     for name in ("layout_margin", "layout_marginLeft", "layout_marginTop", "layout_marginRight", "layout_marginBottom",
                  "layout_marginStart", "layout_marginEnd"):
         draft.put_direct(name)
@@ -134,6 +140,8 @@ def padding_of(draft: Draft, background: Drawable) -> Edges:
     """Writes the padding, and returns it in pixels from left to right: that of the background counts where there is no
     other."""
     base = background.padding or NO_EDGES
+    if not any(base) and draft.lacks(PADDINGS):
+        return base
     whole_padding = draft.length("padding")
     if whole_padding is not None and whole_padding >= 0:
         draft.put_direct("padding")

@@ -2,7 +2,7 @@
 import struct
 from dataclasses import dataclass, field
 from fractions import Fraction
-from typing import Any, Callable, Dict, List, NamedTuple, Optional, Set
+from typing import Any, Callable, Dict, FrozenSet, List, NamedTuple, Optional, Set
 
 from ..common.failures import Failure
 from ..layouts import attributes as known
@@ -24,8 +24,15 @@ MAX_MARGIN = 1048575
 MAX_WEIGHT = 65535
 MAX_TEXT = 32767
 SIZES = ("layout_width", "layout_height")
+# the keys of attributes by their names: most are looked for, and not there, so that to make the key would take longest
+KEYS: Dict[str, str] = {}
 # the reason of a note on a value of another type
 UNFIT = "its value is of a type that it cannot have"
+
+
+def keys_of(names: str) -> FrozenSet[str]:
+    """The keys of attributes of Android by their names."""
+    return frozenset("android:" + it for it in names.split(" "))
 
 
 @dataclass
@@ -100,6 +107,8 @@ class Draft:
         self.view, self.app, self.record, self.parent = view, app, view.record, parent
         self.own = view.attributes
         self.attributes = Attributes(view.attributes, view.theme, app.lookup, class_styles)
+        # what was found of attributes that the element does not have itself
+        self.found = self.attributes.shared.found
         self.node = Node("View", record=view.record)
         # the class that the row says, and the attributes that were looked for
         self.kind = "View"
@@ -141,14 +150,29 @@ class Draft:
         if key in self.own:
             self.record.use(key)
 
+    def lacks(self, keys: FrozenSet[str]) -> bool:
+        """Whether none of some attributes has a value, which is sooner known of all than of each. They count as looked
+        for then."""
+        if not self.attributes.lacks(keys):
+            return False
+        self.read.update(keys)
+        return True
+
     def find(self, key: str) -> Optional[Found]:
         """The value of an attribute, which is used."""
-        self.use(key)
+        self.read.add(key)
+        if key in self.own:
+            self.record.use(key)
+        elif key in self.found:
+            return self.found[key]
         return self.attributes.find(key)
 
     def value(self, name: str, effect: Effect = Effect.BOUNDS) -> Optional[Value]:
         """The value of an attribute `android:NAME` or of a whole key; one that cannot be resolved is reported."""
-        key = name if ":" in name else "android:" + name
+        key = KEYS.get(name) or KEYS.setdefault(name, name if ":" in name else "android:" + name)
+        if key not in self.own and self.found.get(key, self) is None:
+            self.read.add(key)
+            return None
         found = self.find(key)
         if found is None:
             return None

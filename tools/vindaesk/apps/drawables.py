@@ -137,6 +137,8 @@ class Drawables:
 
     def of(self, value: Value, theme: Theme, depth: int = 0) -> Drawable:
         """The drawable of a value."""
+        if value.is_color:
+            return Drawable(value.color())
         try:
             resolved, passed = self.resources.follow(value, theme)
         except Failure as failure:

@@ -92,15 +92,10 @@ class Mapper:
         for key in draft.record.keys:
             if key not in draft.record.fates:
                 effects.fate_of_rest(draft.record, key, parent, is_known)
-        for origin in (draft.attributes.style, draft.attributes.class_style):
-            for number in origin:
-                self.rest_of_style(draft, number)
-
-    def rest_of_style(self, draft: Draft, number: int) -> None:
-        """Says of an item of a style that has an effect on bounds, and was not looked at, that it is left out."""
-        key = draft.app.lookup.key(number)
-        if key in effects.IN_STYLES and key not in draft.read and key not in draft.own:
-            draft.record.leave_out("", "%s of its style: %s" % (key, effects.WHY[Effect.BOUNDS]), Effect.BOUNDS)
+        # an item of a style that has an effect on bounds, and was not looked at, is left out
+        for key in draft.attributes.keys_of_styles():
+            if key in effects.IN_STYLES and key not in draft.read and key not in draft.own:
+                draft.record.leave_out("", "%s of its style: %s" % (key, effects.WHY[Effect.BOUNDS]), Effect.BOUNDS)
 
     def children(self, draft: Draft, parent: str = "") -> List[Node]:
         """The elements of the children of a view."""

@@ -3,7 +3,7 @@ libraries. They are put into one table, so that all rules of compiled resources 
 there."""
 import os
 import re
-from typing import Dict, Iterator, List, NamedTuple, Optional, Tuple
+from typing import Dict, FrozenSet, Iterator, List, NamedTuple, Optional, Sequence, Tuple
 
 from ..common.failures import NOT_RUN, Failure
 from ..common.messages import printable
@@ -101,6 +101,12 @@ def is_source(path: str) -> bool:
     return has_resources(path) or next(folders_in(path), None) is not None
 
 
+def names_in(body: bytes) -> List[Tuple[str, str]]:
+    """The types and names of which a file makes ids: ids of views, and attributes of the theme that only it may name."""
+    return [(kind, name.decode("ascii", "replace")) for kind, pattern in (("id", NEW_ID), ("attr", THEMED))
+            for name in pattern.findall(body)]
+
+
 class SourceTree(Names):
     """The files of a project's source, with a table of their resources."""
 
@@ -113,6 +119,8 @@ class SourceTree(Names):
         self.missing_ids: Dict[str, int] = {}
         self.left = MAX_ALL
         self.elements: Dict[str, Element] = {}
+        # the names of which each file makes ids, by its path
+        self.made_by: Dict[str, FrozenSet[Tuple[str, str]]] = {}
         self.notes: List[str] = []
         self.files = list(self.all_files())
         self.table = self.written()
@@ -246,14 +254,34 @@ class SourceTree(Names):
         """Adds the ids that layouts make, and the attributes that only they name."""
         for it in self.files:
             if it.kind in ("layout", "drawable", "color") and it.path.endswith(".xml"):
-                body = self.read(it.path, MAX_BYTES)
-                for kind, pattern in (("id", NEW_ID), ("attr", THEMED)):
-                    for name in pattern.findall(body):
-                        self.made(kind, name.decode("ascii", "replace"))
+                found = names_in(self.read(it.path, MAX_BYTES))
+                self.made_by[it.path] = frozenset(found)
+                for kind, name in found:
+                    self.made(kind, name)
         for (kind, name), number in sorted(self.ids.items()):
             if kind in ("id", "attr"):
                 content = Value(Type.INT_BOOLEAN, 0)
                 writer.put(number >> 16 & 0xFF, number & 0xFFFF, name, Configuration(), content)
+
+    def has_path(self, path: str) -> bool:
+        """Whether a file or a folder is in the project, or is its folder."""
+        return (os.path.realpath(path) + os.sep).startswith(self.top + os.sep)
+
+    def renewed(self, paths: Sequence[str]) -> bool:
+        """Takes files and folders that have changed, if that leaves the table as it is: layouts that make the same ids
+        as before, and folders that have the same files."""
+        known = {os.path.join(self.top, it.path): it for it in self.files}
+        found = [known.get(path) if os.path.isfile(path) else None for path in paths if not os.path.isdir(path)]
+        layouts = [it for it in found if it and it.kind == "layout" and it.path in self.made_by]
+        notes, self.left = list(self.notes), MAX_ALL
+        if len(layouts) < len(found) or (len(found) < len(paths) and list(self.all_files()) != self.files):
+            return False
+        for it in layouts:
+            if frozenset(names_in(self.read(it.path, MAX_BYTES))) != self.made_by[it.path]:
+                return False
+            self.elements.pop(it.path, None)
+        self.notes = notes
+        return True
 
     def document(self, name: str) -> Element:
         """The outermost element of a file."""

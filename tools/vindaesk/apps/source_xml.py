@@ -1,7 +1,7 @@
 """Elements of resource files as people write them. Names of resources become ids; what is bound by data binding has its
 default, if it says one."""
 import re
-from typing import List, Optional
+from typing import Dict, List, Optional, Tuple
 from xml.parsers import expat
 
 from ..layouts import values as texts
@@ -91,6 +91,8 @@ class Reader:
     def __init__(self, file: str, names: Names, keeps_text: bool):
         self.file, self.names, self.keeps_text = file, names, keeps_text
         self.builder = Builder(file)
+        # the values that were read, by key and text: most are there many times
+        self.values: Dict[Tuple[str, str], Value] = {}
         self.parser = parser = expat.ParserCreate(namespace_separator=BETWEEN)
         parser.ordered_attributes = True
         parser.buffer_text = True
@@ -118,7 +120,9 @@ class Reader:
                 element.put(key, Value(Type.STRING, 0, text))
                 continue
             try:
-                element.put(key, value_of(text, key, self.names))
+                if (key, text) not in self.values:
+                    self.values[key, text] = value_of(text, key, self.names)
+                element.put(key, self.values[key, text])
             except Unbound:
                 element.unbound.append(key)
             if len(text) <= MAX_BOUND and BOUND.fullmatch(text.strip()):

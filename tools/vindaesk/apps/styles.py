@@ -1,7 +1,7 @@
 """Which value an attribute of a view has: its own, else that of its style, else that of the style which its class
 has by the theme, else that of the theme itself, as Android's `obtainStyledAttributes` takes them."""
 from enum import Enum
-from typing import Dict, List, Mapping, NamedTuple, Optional, Tuple
+from typing import Dict, FrozenSet, List, Mapping, NamedTuple, Optional, Tuple
 
 from ..common.failures import Failure
 from ..resources.resources import Resources
@@ -51,6 +51,7 @@ class Lookup:
         self.names: Dict[int, str] = {}
         self.themes: Dict[Tuple[int, ...], Theme] = {}
         self.shared: Dict[Tuple[int, int, int], Shared] = {}
+        self.styles: Dict[Tuple[int, int, Tuple[int, ...]], Optional[Items]] = {}
 
     def number(self, key: str) -> Optional[int]:
         """The number of an attribute by its key, where it has one."""
@@ -72,10 +73,12 @@ class Lookup:
 
     def style(self, value: Value, theme: Theme) -> Optional[Mapping[int, Item]]:
         """The items of the style that a value names, with those of its parents; nothing where there is none."""
-        number = self.style_number(value, theme)
-        if number is None or self.resources.bag(number) is None:
-            return None
-        return self.resources.style(number).items
+        key = value.type, value.data, theme.styles
+        if key not in self.styles:
+            number = self.style_number(value, theme)
+            is_there = number is not None and self.resources.bag(number) is not None
+            self.styles[key] = self.resources.style(number).items if is_there and number is not None else None
+        return self.styles[key]
 
     def missing_parent(self, value: Value, theme: Theme) -> int:
         """The id of a parent of a style that is not there, or 0."""
@@ -110,6 +113,10 @@ class Shared:
         self.style, self.class_style, self.theme = style, class_style, theme
         self.given: Dict[str, Optional[Tuple[Value, Origin]]] = {}
         self.found: Dict[str, Optional[Found]] = {}
+        # of which sets of attributes none has a value
+        self.lacking: Dict[FrozenSet[str], bool] = {}
+        # the keys of the items of the styles, once they were asked for
+        self.keys: Optional[List[str]] = None
 
     def of(self, number: Optional[int]) -> Optional[Tuple[Value, Origin]]:
         """The value of the attribute of a number, and where it is from."""
@@ -180,11 +187,29 @@ class Attributes:
             known[key] = found
         return known[key]
 
+    def lacks(self, keys: FrozenSet[str]) -> bool:
+        """Whether none of some attributes has a value."""
+        if not self.own.keys().isdisjoint(keys):
+            return False
+        known = self.shared.lacking
+        if keys not in known:
+            known[keys] = all(self.given(key) is None for key in keys)
+        return known[keys]
+
+    def keys_of_styles(self) -> List[str]:
+        """The keys of the items of its style and of the style of its class."""
+        if self.shared.keys is None:
+            numbers = (*self.style, *self.class_style)
+            self.shared.keys = [self.lookup.key(it) for it in numbers]
+        return self.shared.keys
+
     def followed(self, given: Optional[Tuple[Value, Origin]]) -> Optional[Found]:
         """A value that is given, through all references."""
         if given is None:
             return None
         value, origin = given
+        if not (value.is_reference or value.is_attribute):
+            return Found(NULL if value.is_null else value, value, origin)
         try:
             resolved = self.lookup.resources.resolve(value, self.theme)
         except Failure as failure:

@@ -6,7 +6,7 @@ from ..layouts.attributes import GRAVITIES
 from ..resources.themes import Item
 from . import boxes
 from .boxes import Box
-from .draft import MAX_TEXT, Draft, Node, boolean_of, colour_of, length_of, text_of, whole
+from .draft import MAX_TEXT, Draft, Node, boolean_of, colour_of, keys_of, length_of, text_of, whole
 from .drawables import Drawable
 from .mapper import Mapper
 from .report import Effect
@@ -18,6 +18,14 @@ LEFT, TOP, CENTRE_ACROSS, CENTRE_DOWN, RIGHT, BOTTOM = 0x03, 0x30, 0x01, 0x10, 0
 INPUT_CLASS, INPUT_TEXT, INPUT_NUMBER, INPUT_MULTILINE = 0xF, 0x1, 0x2, 0x20000
 DARK, LIGHT = 0xDE000000, 0x8A000000
 SIDES = ("Left", "Top", "Right", "Bottom")
+# the keys of the picture at each side of a text, the first of which counts
+PICTURES = tuple(
+    tuple(key for side in sides for key in ("android:drawable" + side, "app:drawable%sCompat" % side))
+    for sides in (("Start", "Left"), ("Top",), ("End", "Right"), ("Bottom",)))
+ALL_PICTURES = frozenset(key for keys in PICTURES for key in keys)
+LINES = keys_of("minLines maxLines lines singleLine inputType")
+SIZES = keys_of("width ems minEms")
+LIMITS = keys_of("maxWidth maxEms width ems")
 GONE = Drawable()
 Items = Mapping[int, Item]
 
@@ -90,6 +98,8 @@ def input_type(draft: Draft) -> Optional[int]:
 
 def lines_of(draft: Draft, is_field: bool) -> Lines:
     """How many lines the text may have."""
+    if draft.lacks(LINES):
+        return Lines(0, 0, False)
     least = draft.number("minLines", {}) or 0
     most = draft.number("maxLines", {}) or 0
     exact = draft.number("lines", {}) or 0
@@ -141,13 +151,8 @@ def put_text(draft: Draft, node: Node, text: str, is_hint: bool, items: Items) -
 
 def beside_of(draft: Draft) -> Beside:
     """The pictures beside the text."""
-    names = [("drawable" + it, "drawable%sCompat" % it) for it in ("Left", "Top", "Right", "Bottom")]
     found: List[Drawable] = []
-    for number, (name, compat) in enumerate(names):
-        keys = ["android:" + name, "app:" + compat]
-        if number in (0, 2):
-            side = "Start" if number == 0 else "End"
-            keys = ["android:drawable" + side, "app:drawable%sCompat" % side, *keys]
+    for keys in PICTURES if not draft.lacks(ALL_PICTURES) else ((),) * 4:
         drawable = GONE
         for key in keys:
             draft.use(key)
@@ -161,7 +166,7 @@ def beside_of(draft: Draft) -> Beside:
 def least_size(draft: Draft, box: Box, lines: Lines) -> Tuple[int, int]:
     """The least width and height, with those that a text is given in lines and characters."""
     width, height = box.width, box.height
-    for name in ("width", "ems", "minEms"):
+    for name in () if draft.lacks(SIZES) else ("width", "ems", "minEms"):
         found = draft.length(name) if name == "width" else draft.number(name, {})
         if found is not None and found > 0:
             width = max(width, found if name == "width" else found * CELL_HEIGHT)
@@ -175,7 +180,7 @@ def least_size(draft: Draft, box: Box, lines: Lines) -> Tuple[int, int]:
 def check_most(draft: Draft, box: Box, text: str, lines: Lines) -> None:
     """Says where a limit that the program does not have may change the size."""
     longest = max(map(len, text.split("\n"))) * CELL_WIDTH + box.across
-    for name in ("maxWidth", "maxEms", "width", "ems"):
+    for name in () if draft.lacks(LIMITS) else ("maxWidth", "maxEms", "width", "ems"):
         most = draft.number(name, {}) if name.endswith("ms") else draft.length(name)
         if most is None or most < 0:
             continue

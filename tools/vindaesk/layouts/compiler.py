@@ -1,7 +1,7 @@
 """The bytes of compiled XML, from the nodes of a document: those that `aapt2` makes, so that `dump` prints the same of
 both. docs/FORMATS.md has the form."""
 import struct
-from typing import List, Set, Tuple
+from typing import Dict, List, Tuple
 
 from ..common.failures import Failure, WRONG
 from . import attributes
@@ -34,18 +34,19 @@ def texts_of(node: Node) -> List[str]:
 def strings_of(nodes: List[Node]) -> List[Key]:
     """The strings of a document, in the order of its pool: the names of known attributes by their numbers, and then all
     others by their bytes."""
-    found: Set[Key] = set()
+    names = {(it.namespace, it.name) for node in nodes if isinstance(node, Start) for it in node.attributes}
+    texts = {text for node in nodes for text in texts_of(node)} | {address for address, _ in names}
+    texts.discard("")
     for node in nodes:
-        found.update((LAST, text) for text in texts_of(node) if text)
-        for it in node.attributes if isinstance(node, Start) else ():
-            found.add(key_of(it))
-            found.update((LAST, text) for text in (it.raw, it.value.text, it.namespace or None) if text is not None)
+        if isinstance(node, Start):
+            texts.update(text for it in node.attributes for text in (it.raw, it.value.text) if text is not None)
+    found = {key_of(*it) for it in names} | {(LAST, text) for text in texts}
     return sorted(found, key=lambda key: (key[0], key[1].encode()))
 
 
-def key_of(it: Attribute) -> Key:
+def key_of(namespace: str, name: str) -> Key:
     """The name of an attribute in the pool."""
-    return attributes.id_of(it.namespace, it.name) or LAST, it.name
+    return attributes.id_of(namespace, name) or LAST, name
 
 
 def length(count: int) -> bytes:
@@ -80,6 +81,8 @@ class Writer:
 
     def __init__(self, keys: List[Key]) -> None:
         self.numbers = {key: number for number, key in enumerate(keys)}
+        # the numbers of the names of attributes, each of which is there many times
+        self.names: Dict[Tuple[str, str], int] = {}
 
     def number(self, text: str) -> int:
         """The number of a text, or none where there is no text."""
@@ -89,8 +92,10 @@ class Writer:
         """An attribute."""
         raw = NONE if it.raw is None else self.numbers[(LAST, it.raw)]
         word = self.numbers[(LAST, it.value.text or "")] if it.value.kind == STRING else it.value.word
-        fields = (self.number(it.namespace), self.numbers[key_of(it)], raw, 8, 0, it.value.kind, word)
-        return struct.pack("<IIIHBBI", *fields)
+        name = self.names.get((it.namespace, it.name))
+        if name is None:
+            name = self.names[it.namespace, it.name] = self.numbers[key_of(it.namespace, it.name)]
+        return struct.pack("<IIIHBBI", self.number(it.namespace), name, raw, 8, 0, it.value.kind, word)
 
     def node(self, node: Node, line: int) -> bytes:
         """A node; `line` is that of an element at which a namespace begins or ends."""

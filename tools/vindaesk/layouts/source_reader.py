@@ -47,6 +47,8 @@ class Reader:
         self.spaces: List[Namespace] = []
         self.open: List[Tuple[Start, List[Namespace]]] = []
         self.prefixes: Dict[str, str] = {}
+        # attributes that fit, by name and text: most are there many times
+        self.known: Dict[Tuple[str, str], Attribute] = {}
         self.parser = parser = expat.ParserCreate(namespace_separator=BETWEEN)
         parser.ordered_attributes = True
         parser.StartNamespaceDeclHandler = self.space
@@ -97,7 +99,10 @@ class Reader:
         meant = attributes.slip(name) if namespace == ANDROID else ""
         if meant:
             self.notes.append("%s: android:%s is passed over; did you mean '%s'?" % (self.place(), name, meant))
-        return [Attribute(namespace, name, value, value.text if value.kind == STRING else None)]
+        made = Attribute(namespace, name, value, value.text if value.kind == STRING else None)
+        if not meant:
+            self.known[whole, text] = made
+        return [made]
 
     def start(self, whole: str, pairs: List[str]) -> None:
         """An element that begins."""
@@ -105,7 +110,9 @@ class Reader:
         namespace, name = parted(whole)
         if len(pairs) > 2 * MAX_ATTRIBUTES:
             raise Failure("%s: the element has more than %d attributes" % (self.place(), MAX_ATTRIBUTES), WRONG)
-        found = [it for pair in zip(pairs[::2], pairs[1::2]) for it in self.attribute(*pair)]
+        found: List[Attribute] = []
+        for pair in zip(pairs[::2], pairs[1::2]):
+            found += [self.known[pair]] if pair in self.known else self.attribute(*pair)
         node = Start(self.parser.CurrentLineNumber, namespace, name, sorted(found, key=order))
         self.nodes += [*self.spaces, node]
         self.open.append((node, self.spaces))

@@ -3,6 +3,7 @@
 Colours change no bounds. So after the script, backgrounds and inks get colours that count or name views, and the
 program paints: `#01ff0000` over black adds one to the red of a pixel each time, up to 127 times.
 """
+from collections import Counter
 from typing import Callable, Dict, Iterator, List, NamedTuple, Optional, Tuple
 
 from ..pictures import frames
@@ -139,22 +140,17 @@ def add_pairs(found: Painted, plain: List[bytes], behind: List[bytes], texts: Li
     for above, under, names in zip(plain, behind, texts):
         if names in blank:
             continue
-        for name, over, below in zip(names.split(b" "), above.split(b" "), under.split(b" ")):
+        counted = Counter(zip(names.split(b" "), above.split(b" "), under.split(b" ")))
+        for (name, over, below), number in counted.items():
             if name != NO_VIEW:
                 pairs = found.pairs.setdefault(int(name, 16), {})
-                pairs[over, below] = pairs.get((over, below), 0) + 1
+                pairs[over, below] = pairs.get((over, below), 0) + number
 
 
 def add_fills(found: Painted, fills: List[bytes], last: List[bytes]) -> None:
     """Adds how often pixels are filled, and by which view the last time."""
-    rows: Dict[Tuple[bytes, bytes], int] = {}
-    for pair in zip(fills, last):
-        rows[pair] = rows.get(pair, 0) + 1
-    for (counts, names), times in rows.items():
-        pixels: Dict[Tuple[bytes, bytes], int] = {}
-        for pixel in zip(counts.split(b" "), names.split(b" ")):
-            pixels[pixel] = pixels.get(pixel, 0) + 1
-        for (count, name), number in pixels.items():
+    for (counts, names), times in Counter(zip(fills, last)).items():
+        for (count, name), number in Counter(zip(counts.split(b" "), names.split(b" "))).items():
             often = int(count[:2], 16) + int(count[2:4], 16)
             found.fills[often] = found.fills.get(often, 0) + number * times
             own = found.filled.setdefault(int(name, 16), {})

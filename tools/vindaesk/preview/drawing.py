@@ -1,5 +1,7 @@
-"""What the program makes of a layout: its views, its picture, and which lines are refused."""
+"""What the program makes of a layout: its picture and which lines are refused, and then its views, which take as long
+to be followed."""
 import hashlib
+import itertools
 from dataclasses import dataclass, field
 from typing import Dict, List, Optional, Tuple
 
@@ -20,17 +22,18 @@ MOST = 100
 
 @dataclass
 class Drawn:
-    """A script that was carried out: its window, its views, its picture as a PNG file with the digest that names it;
-    the refused lines; the views that lines `add` made, by the numbers of the lines, from 1; and why there is no
-    picture."""
+    """A script that was carried out: its window, its picture as a PNG file with the digest that names it; the refused
+    lines; why there is no picture; and what the program answered. Once that is followed there are its views, and those
+    that lines `add` made, by the numbers of the lines, from 1."""
 
     window: Optional[Window] = None
-    views: List[Placed] = field(default_factory=list)
     picture: bytes = b""
     digest: str = ""
     refused: List[refused_lines.Finding] = field(default_factory=list)
-    added: Dict[int, int] = field(default_factory=dict)
     why: str = ""
+    answered: List[Tuple[Part, Answer]] = field(default_factory=list)
+    views: List[Placed] = field(default_factory=list)
+    added: Dict[int, int] = field(default_factory=dict)
 
     @property
     def is_good(self) -> bool:
@@ -59,47 +62,38 @@ def up_to(made: Script, frame: int) -> Script:
     return found
 
 
-class Drawing:
-    """Takes the answers to a script."""
-
-    def __init__(self, made: Script):
-        self.made = made
-        self.tree = view_tree.Tree(made.folder, made.ids)
-        self.checker = refused_lines.Checker(made)
-        self.drawn = Drawn(script.last_window(made.lines))
-
-    def take(self, part: Part, answer: Answer) -> None:
-        """Takes the answer of a part of the script itself."""
-        self.tree.follow(part, answer)
-        for found in self.checker.part(part, answer):
-            if len(self.drawn.refused) < MOST:
-                self.drawn.refused.append(found)
-        last = len(part.lines) - 1
-        if script.words_of(part.lines[last])[:1] == [b"add"] and last not in answer.refusals:
-            self.drawn.added[part.first + last] = int(answer.replies[-1][1:])
-
-    def end(self, bounds: Answer, pixels: Answer) -> None:
-        """Takes the answers to the questions for bounds and for the picture."""
-        frame = frames.frame_of(pixels, self.drawn.window, True)
-        refusal = next(iter(bounds.refusals.values()), None)
-        if refusal or frame.picture is None:
-            number = refusal.number if refusal else frame.why
-            self.drawn.why = "there is no picture: " + replies.REASONS.get(number, "refusal %d" % number)
-        else:
-            self.drawn.views = placement.all_placed(self.tree.root, bounds.replies)
-            self.drawn.picture, self.drawn.digest = packed(frame.picture)
+def refused_in(made: Script, answered: List[Tuple[Part, Answer]]) -> List[refused_lines.Finding]:
+    """The first refused lines of a script."""
+    checker = refused_lines.Checker(made)
+    found = (it for part, answer in answered if part.first for it in checker.part(part, answer))
+    return list(itertools.islice(found, MOST))
 
 
 def drawn(made: Script) -> Drawn:
-    """What the program makes of a script."""
-    drawing = Drawing(made)
-    parts = view_tree.parts_of(made.lines)
-    asked = [Part([b"bounds"]), Part(frames.asked(drawing.drawn.window))]
-    last: List[Answer] = []
-    for part, answer in replies.answers([*parts, *asked], made.folder):
-        if part.first:
-            drawing.take(part, answer)
-        else:
-            last.append(answer)
-    drawing.end(*last)
-    return drawing.drawn
+    """What the program makes of a script, less its views."""
+    found = Drawn(script.last_window(made.lines))
+    asked = [Part([b"bounds"]), Part(frames.asked(found.window))]
+    found.answered = list(replies.answers([*view_tree.parts_of(made.lines), *asked], made.folder))
+    found.refused = refused_in(made, found.answered)
+    (_, pixels), (_, bounds) = found.answered.pop(), found.answered[-1]
+    frame = frames.frame_of(pixels, found.window, True)
+    refusal = next(iter(bounds.refusals.values()), None)
+    if refusal or frame.picture is None:
+        number = refusal.number if refusal else frame.why
+        found.why = "there is no picture: " + replies.REASONS.get(number, "refusal %d" % number)
+    else:
+        found.picture, found.digest = packed(frame.picture)
+    return found
+
+
+def follow(made: Script, found: Drawn) -> None:
+    """Puts the views into what was made of a script."""
+    answered, found.answered = found.answered, []
+    tree = view_tree.Tree(made.folder, made.ids)
+    for part, answer in answered:
+        tree.follow(part, answer)
+        last = len(part.lines) - 1
+        if part.lines and script.words_of(part.lines[last])[:1] == [b"add"] and last not in answer.refusals:
+            found.added[part.first + last] = int(answer.replies[-1][1:])
+    if not found.why and answered:
+        found.views = placement.all_placed(tree.root, answered[-1][1].replies)

@@ -3,7 +3,7 @@ import os
 import sys
 import threading
 from dataclasses import dataclass, field, replace
-from typing import Dict, List, Optional, Tuple
+from typing import Dict, List, Optional, Set, Tuple
 
 from ..common.failures import WRONG, Failure
 from ..common.messages import printable
@@ -21,6 +21,8 @@ from .touches import Live
 PICTURES = 64
 # how long no file changes before lint looks at it, in seconds
 QUIET = 0.3
+# how long all else waits for a new picture to be sent, and a question for the views of one, in seconds
+SENDING, FOLLOWING = 0.1, 10
 # how long a thread of Python may go on while others wait, in seconds: what draws reads from the program piece by piece,
 # and would wait ten times as long for each as lint works
 SWITCH = 0.0005
@@ -31,7 +33,8 @@ Record = Dict[str, object]
 @dataclass
 class Shown:
     """What a configuration shows: the layout and what was drawn of it when it was good last; the values in its files;
-    what lint finds, None until it was asked; and what is wrong now."""
+    what lint finds, None until it was asked; and what is wrong now. Views and values follow the picture: then it is
+    whole."""
 
     version: int = 0
     # the version in which it was drawn
@@ -42,6 +45,7 @@ class Shown:
     findings: Optional[List[Record]] = None
     messages: List[str] = field(default_factory=list)
     is_old: bool = False
+    is_whole: bool = False
 
 
 def view_record(it: Placed, shown: Shown) -> Record:
@@ -81,8 +85,12 @@ class Preview:
     def __init__(self, subject: Subject, can_write: bool = False):
         self.subject, self.can_write = subject, can_write
         self.shown: Dict[str, Shown] = {}
+        # pictures by their digests, and the digests of those that were sent
         self.pictures: Dict[str, bytes] = {}
+        self.sent: Set[str] = set()
         self.version = 0
+        # how many pages there are
+        self.pages = 0
         # how many times all configurations were begun to be drawn
         self.draws = 0
         self.first = ""
@@ -129,7 +137,8 @@ class Preview:
                 self.draw_all()
 
     def draw_all(self) -> None:
-        """Draws all configurations, as long as no file changes again."""
+        """Draws all configurations, as long as no file changes again. Nothing else is done until the first picture was
+        sent."""
         why = ""
         self.draws += 1
         with self.reading:
@@ -137,14 +146,21 @@ class Preview:
                 self.subject.load()
             except Exception as error:
                 why = said(error)
-        for wanted in self.ordered():
-            if self.stale.is_set():
-                return
-            made = self.made(wanted, why)
+        for number, wanted in enumerate(self.ordered()):
+            made = None if self.stale.is_set() else self.made(wanted, why)
             if made is None:
                 return
             self.put(wanted.name, made)
+            if number == 0:
+                self.let_send(made.drawn.digest)
+            self.complete(wanted.name)
         self.drawn.set()
+
+    def let_send(self, digest: str) -> None:
+        """Waits until a picture was sent, if there is a page that asks for it."""
+        with self.changed:
+            if self.pages and digest:
+                self.changed.wait_for(lambda: digest in self.sent or self.stale.is_set(), SENDING)
 
     def look(self) -> None:
         """Has lint look at what was drawn, as long as nothing else is."""
@@ -162,8 +178,9 @@ class Preview:
         return sorted(self.subject.configurations, key=lambda it: it.name != self.first)
 
     def made(self, wanted: Configuration, why: str) -> Optional[Shown]:
-        """What a configuration shows now; why it cannot be read, if it cannot. None where a file changes meanwhile."""
-        shown = Shown(messages=why.splitlines())
+        """What a configuration shows now, less its views; why it cannot be read, if it cannot. None where a file
+        changes meanwhile."""
+        shown = Shown(messages=why.splitlines(), is_whole=bool(why))
         try:
             if why:
                 return shown
@@ -172,11 +189,10 @@ class Preview:
             if self.stale.is_set():
                 return None
             shown.layout, shown.drawn = layout, drawing.drawn(layout.script)
-            shown.spots = spots_of(layout, shown.drawn)
             shown.messages = layout.refused(shown.drawn.refused)
             shown.messages += [shown.drawn.why] if shown.drawn.why else []
         except Exception as error:
-            shown.messages = said(error).splitlines()
+            shown.messages, shown.is_whole = said(error).splitlines(), True
         return shown
 
     def put(self, name: str, new: Shown) -> None:
@@ -192,6 +208,22 @@ class Preview:
             if new.drawn.picture:
                 self.keep(new.drawn.picture, new.drawn.digest)
             self.shown[name] = new
+            self.changed.notify_all()
+
+    def complete(self, name: str) -> None:
+        """Has a configuration its views and the values in its files, which nobody has to wait for."""
+        shown, messages = self.shown[name], []
+        try:
+            if shown.layout is not None and not shown.is_whole:
+                drawing.follow(shown.layout.script, shown.drawn)
+                shown.spots = spots_of(shown.layout, shown.drawn)
+        except Exception as error:
+            messages = said(error).splitlines()
+        with self.changed:
+            shown.is_whole = True
+            if messages:
+                self.version += 1
+                shown.version, shown.messages = self.version, [*shown.messages, *messages]
             self.changed.notify_all()
 
     def find(self, name: str) -> None:
@@ -222,6 +254,18 @@ class Preview:
         for old in list(self.pictures)[:-PICTURES]:
             if all(it.drawn.digest != old for it in self.shown.values()):
                 del self.pictures[old]
+                self.sent.discard(old)
+
+    def note_sent(self, digest: str) -> None:
+        """A picture was sent."""
+        with self.changed:
+            self.sent.add(digest)
+            self.changed.notify_all()
+
+    def note_page(self, more: int) -> None:
+        """A page is there, or has left."""
+        with self.changed:
+            self.pages += more
 
     def summary(self) -> Record:
         """All configurations in short."""
@@ -258,15 +302,17 @@ class Preview:
         assert shown.layout is not None
         layout = replace(shown.layout, script=drawing.up_to(shown.layout.script, frame))
         drawn = drawing.drawn(layout.script)
+        drawing.follow(layout.script, drawn)
         with self.changed:
             self.keep(drawn.picture, drawn.digest)
         return replace(shown, layout=layout, drawn=drawn, findings=[])
 
     def of(self, name: str) -> Shown:
-        """What a configuration shows."""
+        """What a configuration shows, once it is whole."""
         with self.changed:
             if name not in self.shown:
                 raise Failure("there is no configuration '%s'" % name, WRONG)
+            self.changed.wait_for(lambda: self.shown[name].is_whole or self.ended.is_set(), FOLLOWING)
             return self.shown[name]
 
     def wait(self, version: int, seconds: float) -> bool:

@@ -191,10 +191,12 @@ class Handler(BaseHTTPRequestHandler):
 
     def picture(self, name: str) -> None:
         """A picture by the digest that names it, without its ending."""
-        found = self.server.preview.pictures.get(name[: -len(".png")]) if name.endswith(".png") else None
+        digest = name[: -len(".png")] if name.endswith(".png") else ""
+        found = self.server.preview.pictures.get(digest)
         if found is None:
             raise Wrong(HTTPStatus.NOT_FOUND, "there is no such picture any more")
         self.body(found, "image/png", "private, max-age=86400, immutable")
+        self.server.preview.note_sent(digest)
 
     def state(self, given: Dict[str, str]) -> None:
         """All of a configuration."""
@@ -207,14 +209,18 @@ class Handler(BaseHTTPRequestHandler):
         """All configurations in short, each time that something is new."""
         self.head(HTTPStatus.OK, "text/event-stream; charset=utf-8", None)
         preview, version = self.server.preview, -1
-        while not preview.ended.is_set():
-            if preview.wait(version, HEARTBEAT):
-                summary = preview.summary()
-                version = int(str(summary["version"]))
-                self.wfile.write(b"data: %s\n\n" % json.dumps(summary).encode())
-            else:
-                self.wfile.write(b": here\n\n")
-            self.wfile.flush()
+        preview.note_page(1)
+        try:
+            while not preview.ended.is_set():
+                if preview.wait(version, HEARTBEAT):
+                    summary = preview.summary()
+                    version = int(str(summary["version"]))
+                    self.wfile.write(b"data: %s\n\n" % json.dumps(summary).encode())
+                else:
+                    self.wfile.write(b": here\n\n")
+                self.wfile.flush()
+        finally:
+            preview.note_page(-1)
 
     def touch(self, given: Dict[str, str]) -> None:
         """Lines for the live program."""

@@ -4,6 +4,7 @@ import contextlib
 import os
 import re
 import tempfile
+import time
 from dataclasses import dataclass, field, replace
 from typing import Dict, Iterator, List, Optional, Sequence, Tuple
 
@@ -22,6 +23,7 @@ from ..scripts.resource_names import Names
 from ..scripts.script import Line, Script
 from ..testing import configurations
 from ..testing.configurations import Configuration
+from . import watcher
 
 PHONE = (360, 640)
 # those that each layout is shown in; sides of windows are in dp
@@ -222,6 +224,8 @@ class AppSubject(Subject):
         self.opened: Optional[app.OpenApp] = None
         self.stack = contextlib.ExitStack()
         self.watched: List[str] = list(paths)
+        # the states of the files that were read
+        self.read: Dict[str, watcher.Stamp] = {}
 
     def title(self) -> str:
         return "%s: %s" % (os.path.basename(os.path.normpath(self.path)), self.name)
@@ -231,14 +235,25 @@ class AppSubject(Subject):
         super().close()
 
     def load(self) -> None:
+        if self.opened and self.is_renewed(self.opened):
+            return
         self.stack.close()
         self.opened = None
+        begun = time.time_ns()
         self.opened = self.stack.enter_context(app.opened(self.paths, self.framework))
         self.watched = [*self.opened.paths, *self.sources()]
+        self.read = watcher.older(watcher.stamps(self.watched), begun)
         if self.name not in self.opened.layouts(device()):
             from ..apps import results
 
             raise Failure(results.unknown(self.name, self.opened.layouts(device())), NOT_RUN)
+
+    def is_renewed(self, opened: app.OpenApp) -> bool:
+        """Whether it is enough to read again what has changed: resources, styles and themes stay."""
+        begun, now = time.time_ns(), watcher.stamps(self.watched)
+        is_enough = opened.renewed([path for path in now if now[path] != self.read[path]])
+        self.read = watcher.older(now, begun)
+        return is_enough
 
     def sources(self) -> List[str]:
         """The files of a project's source, and the folders that have them."""
