@@ -12,7 +12,7 @@ use std::alloc::Global;
 use std::marker::Model;
 use view_model::Refusal;
 use view_model::limits::MAX_RESOURCES;
-use view_model::refusals::TOO_MANY_RESOURCES;
+use view_model::refusals::FULL;
 
 /// Resources by their ids, which contracts see as the list of both, in the order in which the ids were first defined.
 #[derive(Drop)]
@@ -66,7 +66,7 @@ fn may_define(count: usize, defined: bool) -> Result<(), Refusal>
     ensures { RefusesExactlyFor (definition_refusal count defined) result }
 {
     if !defined && count >= MAX_RESOURCES {
-        return Err(Refusal::plain(TOO_MANY_RESOURCES));
+        return Err(Refusal::plain(FULL));
     }
     Ok(())
 }

@@ -2,7 +2,7 @@
 use Rattle.std.specs.Prelude.{◌≡◌, ℕ, true, false, pos, [], Option, Some, None, refl}
 use Rattle.view_model.specs.declared.kinds.Class.{Class}
 use Rattle.view_model.specs.declared.kinds.Class.TheVariants.{View, FrameLayout, ScrollView}
-use Rattle.view_model.specs.declared.refusals.TheConstants.{NOT_GROUP, SCROLL_FULL, TOO_DEEP, TOO_MANY_VIEWS}
+use Rattle.view_model.specs.declared.refusals.TheConstants.{DEPTH, NOT_GROUP, SCROLL_FULL, VIEWS}
 use Rattle.view_model.specs.Facts.{new_facts}
 use Rattle.view_model.specs.Forest.{Nothing, Branch}
 use Rattle.view_model.specs.Grafts.{graft_refusal, refusal_below}
@@ -31,17 +31,17 @@ unfolding growth_refusal
 inside_a_view = refl
 
 -- two levels below a view that is 31 deep
-too_deep : refusal_below FrameLayout false 31 31 1 (Branch (seed FrameLayout) (Branch (seed View) Nothing Nothing) Nothing) ≡ refused TOO_DEEP 2
+too_deep : refusal_below FrameLayout false 31 31 1 (Branch (seed FrameLayout) (Branch (seed View) Nothing Nothing) Nothing) ≡ refused DEPTH 2
 unfolding growth_refusal
 too_deep = refl
 
 -- two views where there is room for one
-too_many : refusal_below FrameLayout false 1 4095 1 (Branch (seed View) Nothing (Branch (seed View) Nothing Nothing)) ≡ refused TOO_MANY_VIEWS 2
+too_many : refusal_below FrameLayout false 1 4095 1 (Branch (seed View) Nothing (Branch (seed View) Nothing Nothing)) ≡ refused VIEWS 2
 unfolding growth_refusal
 too_many = refl
 
 -- an earlier element decides, whatever later ones would be refused for
-first_decides : refusal_below FrameLayout false 1 4096 1 (Branch (seed View) (Branch (seed View) Nothing Nothing) Nothing) ≡ refused TOO_MANY_VIEWS 1
+first_decides : refusal_below FrameLayout false 1 4096 1 (Branch (seed View) (Branch (seed View) Nothing Nothing) Nothing) ≡ refused VIEWS 1
 unfolding growth_refusal
 first_decides = refl
 

@@ -2,7 +2,7 @@
 use Rattle.std.specs.Prelude.{◌≡◌, [], ◌∷◌, refl}
 use Rattle.view_model.specs.declared.font.TheConstants.{FIRST_GLYPH, FONT, OTHER_GLYPH}
 use Rattle.view_model.specs.declared.limits.TheConstants.{CELL_HEIGHT, CELL_WIDTH, MAX_DEPTH, MAX_EDITS, MAX_FILE, MAX_HOOKS, MAX_INSET, MAX_RESOURCES, MAX_SIZE, MAX_VIEWS, MAX_WEIGHT, MIN_MARGIN, NORMAL_DPI, NUMBERS_END}
-use Rattle.view_model.specs.declared.refusals.TheConstants.{BAD_STATE, BAD_VALUE, CYCLE, DUPLICATE, HAS_ROOT, HOOK_EDIT, LATE_DPI, LONG_FILE, LONG_LINE, MISSING_FILE, NOT_GROUP, NO_FRAME, NO_ROOT, NO_SIZE, NO_VIEW, NO_WINDOW, OUT_OF_RANGE, SCROLL_FULL, STATE_CLASS, SYNTAX, THEME_REF, TOO_DEEP, TOO_MANY_HOOKS, TOO_MANY_RESOURCES, TOO_MANY_VIEWS, UNKNOWN_CLASS, UNRESOLVED, UNSETTLED, WRONG_CLASS, WRONG_POINTER}
+use Rattle.view_model.specs.declared.refusals.TheConstants.{BAD_STATE, BAD_VALUE, CYCLE, DEPTH, DPI_LATE, DUPLICATE, FULL, HAS_ROOT, HOOKS, HOOK_EDIT, LONG_FILE, LONG_LINE, MISSING, NOT_GROUP, NO_FRAME, NO_ROOT, NO_SIZE, NO_VIEW, NO_WINDOW, POINTER, RANGE, SCROLL_FULL, STATE_CLASS, SYNTAX, THEME_REF, UNKNOWN_CLASS, UNRESOLVED, UNSETTLED, VIEWS, WRONG_CLASS}
 use Rattle.view_model.specs.declared.verbs.TheConstants.{ABOVE, ALIGN_BOTTOM, ALIGN_END, ALIGN_LEFT, ALIGN_RIGHT, ALIGN_START, ALIGN_TOP, BELOW, CENTER, CENTER_H, CENTER_V, END_OF, LEFT_OF, PARENT_BOTTOM, PARENT_END, PARENT_LEFT, PARENT_RIGHT, PARENT_START, PARENT_TOP, RIGHT_OF, START_OF}
 use Rattle.view_model.specs.Font.{font}
 use Rattle.view_model.specs.Glyphs.{no_glyph}
@@ -10,10 +10,10 @@ use Rattle.view_model.specs.Numbers.{bad_state, bad_value, cell_height, cell_wid
 use Rattle.view_model.specs.Verbs as verb
 
 refusals :
-    UNRESOLVED ∷ THEME_REF ∷ BAD_VALUE ∷ TOO_MANY_RESOURCES ∷ DUPLICATE ∷ NO_SIZE ∷ CYCLE ∷ TOO_MANY_VIEWS
-    ∷ TOO_DEEP ∷ NOT_GROUP ∷ SCROLL_FULL ∷ UNKNOWN_CLASS ∷ TOO_MANY_HOOKS ∷ HOOK_EDIT ∷ BAD_STATE ∷ STATE_CLASS
-    ∷ NO_VIEW ∷ WRONG_CLASS ∷ OUT_OF_RANGE ∷ SYNTAX ∷ LONG_LINE ∷ NO_WINDOW ∷ NO_ROOT ∷ HAS_ROOT ∷ UNSETTLED
-    ∷ NO_FRAME ∷ WRONG_POINTER ∷ MISSING_FILE ∷ LONG_FILE ∷ LATE_DPI ∷ []
+    UNRESOLVED ∷ THEME_REF ∷ BAD_VALUE ∷ FULL ∷ DUPLICATE ∷ NO_SIZE ∷ CYCLE ∷ VIEWS ∷ DEPTH ∷ NOT_GROUP
+    ∷ SCROLL_FULL ∷ UNKNOWN_CLASS ∷ HOOKS ∷ HOOK_EDIT ∷ BAD_STATE ∷ STATE_CLASS ∷ NO_VIEW ∷ WRONG_CLASS ∷ RANGE
+    ∷ SYNTAX ∷ LONG_LINE ∷ NO_WINDOW ∷ NO_ROOT ∷ HAS_ROOT ∷ UNSETTLED ∷ NO_FRAME ∷ POINTER ∷ MISSING
+    ∷ LONG_FILE ∷ DPI_LATE ∷ []
     ≡
     unresolved ∷ theme_ref ∷ bad_value ∷ too_many_resources ∷ duplicate ∷ no_size ∷ cycle ∷ too_many_views
     ∷ too_deep ∷ not_group ∷ scroll_full ∷ unknown_class ∷ too_many_hooks ∷ hook_edit ∷ bad_state ∷ state_class

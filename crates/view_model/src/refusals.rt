@@ -7,7 +7,7 @@ pub const THEME_REF: u8 = 13;
 /// An attribute's value is not one that the attribute takes.
 pub const BAD_VALUE: u8 = 14;
 /// A resource would be one more than there may be.
-pub const TOO_MANY_RESOURCES: u8 = 15;
+pub const FULL: u8 = 15;
 /// An element has an attribute twice.
 pub const DUPLICATE: u8 = 16;
 /// An element has no width or no height.
@@ -15,9 +15,9 @@ pub const NO_SIZE: u8 = 17;
 /// Children of a relative layout name one another in a circle.
 pub const CYCLE: u8 = 18;
 /// A view would be one more than a tree may have.
-pub const TOO_MANY_VIEWS: u8 = 19;
+pub const VIEWS: u8 = 19;
 /// A view would be deeper than a tree may be.
-pub const TOO_DEEP: u8 = 20;
+pub const DEPTH: u8 = 20;
 /// The parent of a new view is no group.
 pub const NOT_GROUP: u8 = 21;
 /// The parent of a new view takes one child, and has it.
@@ -25,7 +25,7 @@ pub const SCROLL_FULL: u8 = 22;
 /// An element's name is that of no class.
 pub const UNKNOWN_CLASS: u8 = 23;
 /// A hook would be one more than may be armed.
-pub const TOO_MANY_HOOKS: u8 = 24;
+pub const HOOKS: u8 = 24;
 /// A line has an edit that no hook may make, or one more than a hook may have.
 pub const HOOK_EDIT: u8 = 25;
 /// The bytes of a saved state are not those of one.
@@ -37,7 +37,7 @@ pub const NO_VIEW: u8 = 28;
 /// A line sets what a view of this class does not have.
 pub const WRONG_CLASS: u8 = 29;
 /// A number of a line is outside its bounds.
-pub const OUT_OF_RANGE: u8 = 30;
+pub const RANGE: u8 = 30;
 /// A line is not one of the grammar.
 pub const SYNTAX: u8 = 31;
 /// A line has more bytes than it may have.
@@ -53,10 +53,10 @@ pub const UNSETTLED: u8 = 36;
 /// There was no frame yet in this window.
 pub const NO_FRAME: u8 = 37;
 /// A pointer is down already, or is not.
-pub const WRONG_POINTER: u8 = 38;
+pub const POINTER: u8 = 38;
 /// There is no file of this name.
-pub const MISSING_FILE: u8 = 39;
+pub const MISSING: u8 = 39;
 /// A file has more bytes than it may have.
 pub const LONG_FILE: u8 = 40;
 /// The density is set for a screen on which there are views.
-pub const LATE_DPI: u8 = 41;
+pub const DPI_LATE: u8 = 41;

@@ -65,7 +65,7 @@ use traversal::frame;
 use tree_edits::Edit;
 use view_model::limits::NORMAL_DPI;
 use view_model::refusals::{
-    HAS_ROOT, LATE_DPI, NO_FRAME, NO_ROOT, NO_VIEW, NO_WINDOW, OUT_OF_RANGE, UNSETTLED,
+    DPI_LATE, HAS_ROOT, NO_FRAME, NO_ROOT, NO_VIEW, NO_WINDOW, RANGE, UNSETTLED,
 };
 use view_model::{Act as ViewAct, Class, Refusal, Work};
 use view_tree::ViewTree;
@@ -399,7 +399,7 @@ impl Screen {
         ensures keeps { OnOk result (IsIdle self.old self.new) }
     {
         if self.tree.root().is_some() {
-            return Err(StepFault::Refused(Refusal::plain(LATE_DPI)));
+            return Err(StepFault::Refused(Refusal::plain(DPI_LATE)));
         }
         self.dpi = dpi;
         Ok(Response::Nothing)
@@ -613,7 +613,7 @@ impl Screen {
         let window = self.pictured()?;
         match part_in(window, x, y, w, h) {
             Some(part) => Ok(Response::Pixels(part)),
-            None => Err(StepFault::Refused(Refusal::plain(OUT_OF_RANGE))),
+            None => Err(StepFault::Refused(Refusal::plain(RANGE))),
         }
     }
 

@@ -19,7 +19,7 @@ use script_lines::{LineFault, line};
 use stack_worlds::Stack;
 use std::alloc::Global;
 use tool_io::{Shelf, Sink};
-use view_model::refusals::{LONG_LINE, OUT_OF_RANGE, SYNTAX};
+use view_model::refusals::{LONG_LINE, RANGE, SYNTAX};
 use view_model::{Refusal, Work};
 use view_world::{StepFault, World};
 use window_stack::stack_line;
@@ -184,6 +184,6 @@ fn refusal_of(fault: LineFault) -> Refusal
 {
     match fault {
         LineFault::Syntax => Refusal::plain(SYNTAX),
-        LineFault::Range => Refusal::plain(OUT_OF_RANGE),
+        LineFault::Range => Refusal::plain(RANGE),
     }
 }

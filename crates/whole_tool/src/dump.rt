@@ -17,7 +17,7 @@ use axml_reader::{print, read};
 use std::alloc::Global;
 use tool_io::{Failed, Found, Shelf, ShelfFault, Sink};
 use view_model::limits::MAX_FILE;
-use view_model::refusals::{LONG_FILE, MISSING_FILE};
+use view_model::refusals::{LONG_FILE, MISSING};
 
 /// Prints the file of this name, or reports why it is refused.
 pub fn dump<K: Sink, F: Shelf>(alloc: Global, name: &str, shelf: &mut F, sink: &mut K) -> u8
@@ -54,7 +54,7 @@ fn dump_found<K: Sink>(alloc: Global, found: Found, bytes: &[u8], sink: &mut K) 
 {
     match found {
         Found::Whole => dump_bytes(alloc, bytes, sink),
-        Found::Missing => status_of(REFUSED, write_refused_file(sink, MISSING_FILE)),
+        Found::Missing => status_of(REFUSED, write_refused_file(sink, MISSING)),
         Found::Long => status_of(REFUSED, write_refused_file(sink, LONG_FILE)),
     }
 }

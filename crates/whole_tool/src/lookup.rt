@@ -22,7 +22,7 @@ use axml_chunks::ReadFault;
 use std::alloc::Global;
 use text_lines::TextBuffer;
 use tool_io::{Failed, Found, Shelf, ShelfFault, Sink};
-use view_model::refusals::{LONG_FILE, MISSING_FILE};
+use view_model::refusals::{LONG_FILE, MISSING};
 
 /// The most bytes that a resource table may have.
 const MAX_TABLE: usize = 16777216;
@@ -76,7 +76,7 @@ fn lookup_found<K: Sink>(
 {
     match found {
         Found::Whole => lookup_bytes(alloc, bytes, ids, sink),
-        Found::Missing => status_of(REFUSED, write_refused_file(sink, MISSING_FILE)),
+        Found::Missing => status_of(REFUSED, write_refused_file(sink, MISSING)),
         Found::Long => status_of(REFUSED, write_refused_file(sink, LONG_FILE)),
     }
 }

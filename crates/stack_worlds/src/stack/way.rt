@@ -15,7 +15,7 @@ ghost use Rattle.window_stack.specs.StackLines.{IsLineInBounds, plain_line, text
 
 use crate::stack::Stack;
 use script_lines::Command;
-use view_model::refusals::{OUT_OF_RANGE, WRONG_POINTER};
+use view_model::refusals::{POINTER, RANGE};
 use window_stack::StackLine;
 
 /// The line names a window that is not open.
@@ -125,7 +125,7 @@ impl Stack {
         };
         match self.from_corner(k, x, y) {
             Some((x, y)) => way_to(k, Command::Down { p, x, y }),
-            None => Way::Refused(OUT_OF_RANGE),
+            None => Way::Refused(RANGE),
         }
     }
 
@@ -136,11 +136,11 @@ impl Stack {
         ensures sound { IsWaySound (stack_of self.now) (plain_way result) }
     {
         let Some(k) = self.panes.holder() else {
-            return Way::Refused(WRONG_POINTER);
+            return Way::Refused(POINTER);
         };
         match self.from_corner(k, x, y) {
             Some((x, y)) => way_to(k, Command::Move { p, x, y }),
-            None => Way::Refused(OUT_OF_RANGE),
+            None => Way::Refused(RANGE),
         }
     }
 
@@ -153,7 +153,7 @@ impl Stack {
     {
         match self.panes.holder() {
             Some(k) => way_to(k, command),
-            None => Way::Refused(WRONG_POINTER),
+            None => Way::Refused(POINTER),
         }
     }
 

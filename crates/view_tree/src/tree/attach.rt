@@ -17,7 +17,7 @@ use crate::fault::AttachFault;
 use crate::groups::{join_group, make_group_room};
 use crate::table::make_room;
 use view_model::limits::{MAX_DEPTH, MAX_VIEWS};
-use view_model::refusals::{NOT_GROUP, SCROLL_FULL, TOO_DEEP, TOO_MANY_VIEWS};
+use view_model::refusals::{DEPTH, NOT_GROUP, SCROLL_FULL, VIEWS};
 use view_model::{Class, Facts, Refusal, Sprout, Text};
 
 impl ViewTree {
@@ -122,10 +122,10 @@ pub fn growth(class: Class, occupied: bool, depth: usize, count: usize) -> Resul
         return Err(Refusal::plain(SCROLL_FULL));
     }
     if depth >= MAX_DEPTH {
-        return Err(Refusal::plain(TOO_DEEP));
+        return Err(Refusal::plain(DEPTH));
     }
     if count >= MAX_VIEWS {
-        return Err(Refusal::plain(TOO_MANY_VIEWS));
+        return Err(Refusal::plain(VIEWS));
     }
     Ok(())
 }

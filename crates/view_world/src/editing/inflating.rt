@@ -24,7 +24,7 @@ use script_lines::{Command, Name};
 use std::alloc::Global;
 use tool_io::{Found, Shelf, ShelfFault};
 use view_model::limits::MAX_FILE;
-use view_model::refusals::{LONG_FILE, MISSING_FILE};
+use view_model::refusals::{LONG_FILE, MISSING};
 use view_model::{Detail, Refusal};
 
 /// The file of an `inflate` line, and the view below which its tree goes, `None` if it is the whole tree.
@@ -69,7 +69,7 @@ pub fn fetch<F: Shelf>(alloc: Global, shelf: &mut F, name: &str) -> Result<Vec<u
     let mut bytes = Vec::new(alloc);
     match shelf.fetch(name, &mut bytes, MAX_FILE) {
         Ok(Found::Whole) => Ok(bytes),
-        Ok(Found::Missing) => Err(StepFault::Refused(Refusal::plain(MISSING_FILE))),
+        Ok(Found::Missing) => Err(StepFault::Refused(Refusal::plain(MISSING))),
         Ok(Found::Long) => Err(StepFault::Refused(Refusal::plain(LONG_FILE))),
         Err(ShelfFault::Failed) => Err(StepFault::Shelf),
         Err(ShelfFault::NoMemory) => Err(StepFault::NoMemory),

@@ -16,7 +16,7 @@ use crate::replying::response::Response;
 use arrayvec::ArrayVec;
 use script_lines::{Asked, Name};
 use view_model::limits::MAX_EDITS;
-use view_model::refusals::{HOOK_EDIT, NO_VIEW, TOO_MANY_HOOKS, WRONG_CLASS};
+use view_model::refusals::{HOOK_EDIT, HOOKS, NO_VIEW, WRONG_CLASS};
 use view_model::{NumEdit, Refusal};
 use view_tree::Key;
 
@@ -68,7 +68,7 @@ impl Screen {
         };
         match hooks.arm(self.tree.number(view), reported, edits) {
             Ok(()) => Ok(Response::Nothing),
-            Err(_) => Err(StepFault::Refused(Refusal::plain(TOO_MANY_HOOKS))),
+            Err(_) => Err(StepFault::Refused(Refusal::plain(HOOKS))),
         }
     }
 }

@@ -25,7 +25,7 @@ use seen_edits::note_scrolled;
 use touch_dispatch::dispatch;
 use touch_event::{Action, Event, Point};
 use view_model::Refusal;
-use view_model::refusals::{NO_FRAME, NO_ROOT, NO_WINDOW, UNSETTLED, WRONG_CLASS, WRONG_POINTER};
+use view_model::refusals::{NO_FRAME, NO_ROOT, NO_WINDOW, POINTER, UNSETTLED, WRONG_CLASS};
 
 impl Screen {
     /// A pointer goes down.
@@ -40,7 +40,7 @@ impl Screen {
     {
         self.touchable()?;
         if is_pressed(self.pointers.as_slice(), id) {
-            return Err(StepFault::Refused(Refusal::plain(WRONG_POINTER)));
+            return Err(StepFault::Refused(Refusal::plain(POINTER)));
         }
         let action = down_action(self.pointers.as_slice());
         let event = event_at(action, Point { id, x, y }, self.pointers.as_slice());
@@ -59,7 +59,7 @@ impl Screen {
     {
         self.touchable()?;
         if !is_pressed(self.pointers.as_slice(), id) {
-            return Err(StepFault::Refused(Refusal::plain(WRONG_POINTER)));
+            return Err(StepFault::Refused(Refusal::plain(POINTER)));
         }
         let event = event_at(Action::Move, Point { id, x, y }, self.pointers.as_slice());
         Ok(self.hand(&event, event.points.as_slice()))
@@ -77,7 +77,7 @@ impl Screen {
     {
         self.touchable()?;
         if !is_pressed(self.pointers.as_slice(), id) {
-            return Err(StepFault::Refused(Refusal::plain(WRONG_POINTER)));
+            return Err(StepFault::Refused(Refusal::plain(POINTER)));
         }
         let others = without_point(self.pointers.as_slice(), id);
         let action = up_action(others.as_slice());
@@ -96,7 +96,7 @@ impl Screen {
     {
         self.touchable()?;
         if self.pointers.is_empty() {
-            return Err(StepFault::Refused(Refusal::plain(WRONG_POINTER)));
+            return Err(StepFault::Refused(Refusal::plain(POINTER)));
         }
         let event = event_of(Action::Cancel, 0, &[]);
         Ok(self.hand(&event, &[]))
