@@ -179,6 +179,7 @@ kept-ruled number link change list (Some old) (Some new) orders same reads are r
   latest = λ e.
       let both = ruled.noted e in
       reached_changed number link change list old.latest new.latest same reads both.1 (kept.latest both.0);
+  given_up = ruled.given_up kept.given_up;
   marked = ruled.marked kept.marked;
 }
 

@@ -182,6 +182,7 @@ grouped_single groups view own = (
     highest = λ place small. absurd (omega arith);
     rising = λ p q lower small. absurd (omega arith);
     latest = λ e p small named. absurd (omega arith);
+    given_up = λ no. refl;
     marked = record { across = λ e p small. absurd (omega arith); down = λ e p small. absurd (omega arith) };
   }),
   tt,

@@ -35,6 +35,7 @@ kept_along old new (Some group) links numbers kept = record {
   highest = subst (IsAboveNamed group.highest) (sym links) kept.highest;
   rising = subst AreRising (sym numbers) kept.rising;
   latest = λ e. subst (λ (links : List Link). AreReached group.latest links (numbers_in new)) (sym links) (subst (AreReached group.latest (links_in old)) (sym numbers) (kept.latest e));
+  given_up = kept.given_up;
   marked = kept.marked;
 }
 
@@ -142,6 +143,7 @@ group-without number kids old new among taken is =
       latest = λ e. subst (λ latest. AreReached latest (links_in (pruned number kids)) (numbers_in (pruned number kids))) (sym taken.latest)
           (subst (λ (links : List Link). AreReached old.latest links (numbers_in (pruned number kids))) (sym links)
           (subst (AreReached old.latest (remove (links_in kids) place)) (sym numbers) (reached-remove old.latest (links_in kids) (numbers_in kids) place small inside (is.latest (sym taken.complete ∙ e)))));
+      given_up = λ no. taken.latest ∙ is.given_up (sym taken.complete ∙ no);
       marked = taken.marked (let kept = is.orders.across.size in omega arith) (let kept = is.orders.down.size in omega arith) is.marked;
     }
 
@@ -293,6 +295,7 @@ group-with kids view group id rules later is =
       latest = λ e. subst (λ (links : List Link). AreReached group.latest links (numbers_in (joined kids (single view)))) (sym links)
           (subst (AreReached group.latest (links_in kids ++ link_of view ∷ [])) (sym numbers)
           (reached_with group.latest (links_in kids) (link_of view) (numbers_in kids) view.number (sym (length-each link_of kids)) id (is.latest e)));
+      given_up = is.given_up;
       marked = record {
         across = λ e. straight_with group.orders.across (length group.kids) (is.orders.across.size ∙ sym size) (is.marked.across e);
         down = λ e. straight_with group.orders.down (length group.kids) (is.orders.down.size ∙ sym size) (is.marked.down e);

@@ -1,6 +1,6 @@
 -- The orders in which relative layouts measure their children, and what is kept of these beside the tree.
-use Rattle.std.specs.Prelude.{ℕ, suc, ◌≡◌, ◌≢◌, ◌<◌, ◌≤◌, ◌==◌, ◌-◌, ◌++◌, Bool, true, false, List, [], ◌∷◌, length}
-use Rattle.std.specs.Prelude.{map, if◌then◌else◌, Option, Some, None, nat_eq, option_map, slice_get}
+use Rattle.std.specs.Prelude.{ℕ, suc, ◌≡◌, ◌≢◌, ◌<◌, ◌≤◌, ◌==◌, ◌+◌, ◌-◌, ◌*◌, ◌++◌, Bool, true, false, List, [], ◌∷◌}
+use Rattle.std.specs.Prelude.{length, map, if◌then◌else◌, Option, Some, None, nat_eq, option_map, slice_get}
 use Rattle.std.specs.List.{remove}
 use Rattle.std.specs.Map.{lookup}
 use Rattle.std.specs.Option.{unwrap_or}
@@ -19,7 +19,7 @@ use Rattle.view_model.specs.PlainTree.{PlainView}
 use Rattle.view_model.specs.SiblingRules.{leads}
 use Rattle.view_tree.specs.declared.groups.Group.{Group}
 use Rattle.view_tree.specs.groups.Highest.{IsAboveNamed, IsAboveRules}
-use Rattle.view_tree.specs.groups.Latest.{AreReached, AreRising, HasNoted}
+use Rattle.view_tree.specs.groups.Latest.{AreReached, AreRising, HasNoted, IsAllOrNone}
 use Rattle.view_tree.specs.groups.Places.{IsLowered, IsStraight}
 use Rattle.view_tree.specs.Rows.{Row, count_where}
 
@@ -124,13 +124,15 @@ abbrev pub HasIdRoom : ℕ → Group → Type 0
 HasIdRoom id group = id ≢ 0 → 0 < spare group.latest
 
 -- how another id and other rules of the child of a number change a group, for which these are the orders, or those of
--- before
+-- before; its table has at most four ids for each child and four more then
 pub record IsRuled (orders : Option PlainOrders) (number : ℕ) (link : Link) (old new : PlainGroup) : Type 0 where
   pub sorted : new.orders ≡ unwrap_or orders old.orders
   pub kids : new.kids ≡ old.kids
   pub others : old.highest ≤ new.highest
   pub own : IsAboveRules new.highest link.rules
   pub noted : new.complete ≡ true → (old.complete ≡ true) × HasNoted link.id number old.latest new.latest
+  pub few : IsAllOrNone old.complete old.latest → length new.latest ≤ 4 * length new.kids + 4
+  pub given_up : IsAllOrNone old.complete old.latest → IsAllOrNone new.complete new.latest
   pub marked : HasRightMarks old → HasRightMarks new
 
 -- the same of what a table has under a number
@@ -174,6 +176,7 @@ pub record IsGroupFor (links : List Link) (kids : List ℕ) (group : PlainGroup)
   pub highest : IsAboveNamed group.highest links
   pub rising : AreRising kids
   pub latest : group.complete ≡ true → AreReached group.latest links kids
+  pub given_up : IsAllOrNone group.complete group.latest
   pub marked : HasRightMarks group
 
 abbrev pub IsKeptFor : List Link → List ℕ → Option PlainGroup → Type 0

@@ -1,8 +1,8 @@
 //! The last children that have each id, by their numbers. A relative layout keeps for each id a number that those of its
 //! children with the id do not exceed: most often it is that of the last one, which is found without a walk then.
-ghost use Rattle.std.specs.Prelude.{◌≡◌, ◌≢◌, ◌<◌, ◌≤◌, IfOk, OnOk, length, true};
+ghost use Rattle.std.specs.Prelude.{◌≡◌, ◌≢◌, ◌<◌, ◌≤◌, ◌+◌, ◌*◌, IfOk, OnOk, length, true};
 ghost use Rattle.indexmap.specs.IndexMap.{spare};
-ghost use Rattle.view_tree.specs.groups.Latest.{AreReached, HasNoted};
+ghost use Rattle.view_tree.specs.groups.Latest.{AreReached, HasNoted, IsAllOrNone};
 
 use indexmap::IndexMap;
 use std::alloc::{AllocError, Global};
@@ -44,7 +44,9 @@ pub fn note_kid(
     number: u64,
 ) -> bool
     requires { id ≢ 0 → 0 < spare latest.old }
-    ensures { result ≡ true → (complete ≡ true) × HasNoted id number latest.old.entries latest.new.entries }
+    ensures noted { result ≡ true → (complete ≡ true) × HasNoted id number latest.old.entries latest.new.entries }
+    ensures few { IsAllOrNone complete latest.old.entries → length latest.new.entries ≤ 4 * kids + 4 }
+    ensures given_up { IsAllOrNone complete latest.old.entries → IsAllOrNone result latest.new.entries }
 {
     if !complete {
         return false;

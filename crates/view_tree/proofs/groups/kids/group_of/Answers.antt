@@ -1,4 +1,4 @@
-use Rattle.std.proofs.Common.{List, ℕ, refl, subst}
+use Rattle.std.proofs.Common.{◌≡◌, List, ℕ, false, refl, subst, true}
 use Rattle.std.specs.Prelude.{slice_index}
 use Rattle.relative_layout.specs.declared.ordering.OrderFault.TheVariants as order
 use Rattle.relative_layout.specs.ordering.Sorting.{IsFaultOf}
@@ -22,6 +22,7 @@ returns-in-Ok-latest_of c =
         highest = subst (IsAboveNamed c.highest_named.result) c.deref-in-Ok-latest_of-3.ensures.value c.highest_named.ensures;
         rising = c.requires.rising;
         latest = λ _. rw (c.deref-in-Ok.ensures.value, c.deref-in-Ok-2.ensures.value) at c.in-Ok-latest_of.ensures;
+        given_up = λ no. let e : true ≡ false = no in absurd (cc);
         marked = record {
           across = λ e. subst IsStraight c.deref-in-Ok-latest_of.ensures.value (c.is_straight.ensures e);
           down = λ e. subst IsStraight c.deref-in-Ok-latest_of-2.ensures.value (c.is_straight-in-Ok-latest_of.ensures e);
