@@ -1,4 +1,5 @@
 mod Loop
 mod Latest
 mod Followed
+mod NumberLaws
 mod Examples

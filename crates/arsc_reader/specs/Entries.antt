@@ -10,6 +10,7 @@ use Rattle.arsc_reader.specs.declared.held.Entry.{Entry}
 use Rattle.arsc_reader.specs.declared.held.Held.{Held}
 use Rattle.arsc_reader.specs.declared.held.Held.TheVariants as held
 use Rattle.arsc_reader.specs.declared.listing.Listing.{Listing}
+use Rattle.arsc_reader.specs.Numbers.{last_entry, no_entry}
 
 -- n bytes from a place on are 0
 abbrev pub are_zeros : List ℕ → ℕ → ℕ → Bool
@@ -83,7 +84,7 @@ entry_at bytes own end place =
 -- what entry k holds, whose offset is in the list; the highest number there means no entry
 unfoldable pub held_at : List ℕ → Listing → ℕ → Result Held Fault
 held_at bytes listing k =
-    if number32 bytes (listing.offsets + 4 * k) == 4294967295 then Ok held.None
+    if number32 bytes (listing.offsets + 4 * k) == no_entry then Ok held.None
     else entry_at bytes (listing.offsets + 4 * k) listing.end (listing.first + number32 bytes (listing.offsets + 4 * k))
 
 -- the entries with one more, if it holds something
@@ -95,7 +96,7 @@ with_entry entries id (held.Plain kind word) = entries ++ record { id = id; held
 -- the entries with entry k of a type after them; one whose number does not fit an id is passed over
 unfoldable pub entry_after : List ℕ → Listing → List Entry → ℕ → Result (List Entry) Fault
 entry_after bytes listing entries k =
-    if nat_lt 65535 k then Ok entries
+    if nat_lt last_entry k then Ok entries
     else (held_at bytes listing k >>= λ held. Ok (with_entry entries (listing.id + k) held))
 
 -- the first n entries of a type after others

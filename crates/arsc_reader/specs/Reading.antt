@@ -8,9 +8,11 @@ use Rattle.axml_chunks.specs.Faults.{bad_chunk, second_pool, too_big}
 use Rattle.axml_chunks.specs.Numbers.{number32}
 use Rattle.axml_chunks.specs.Pool.{StringPool, pool_of}
 use Rattle.axml_chunks.specs.Steps.{◌>>=◌}
+use Rattle.axml_reader.specs.Numbers.{pool_kind}
 use Rattle.arsc_reader.specs.declared.held.Entry.{Entry}
 use Rattle.arsc_reader.specs.declared.listing.Listing.{Listing}
 use Rattle.arsc_reader.specs.Entries.{listing_of, entries_upto}
+use Rattle.arsc_reader.specs.Numbers.{max_entries, max_package, package_kind, type_kind}
 
 -- what was read so far: the strings, the entries in the order of the file, and how many of these its types declare
 pub record Found : Type 0 where
@@ -26,7 +28,7 @@ start = record { pool = None; entries = []; count = 0 }
 unfoldable pub listed : List ℕ → ℕ → Option Listing → Found → Result Found Fault
 listed bytes place None s = Ok s
 listed bytes place (Some listing) s =
-    if nat_lt 262144 (s.count + listing.count) then Err (too_big place)
+    if nat_lt max_entries (s.count + listing.count) then Err (too_big place)
     else
     (entries_upto bytes listing s.entries listing.count
     >>= λ entries. Ok (record { pool = s.pool; entries = entries; count = s.count + listing.count }))
@@ -38,7 +40,7 @@ type_read bytes package_id place chunk s =
 -- what was read with a chunk of a package; only types are looked at
 unfoldable pub in_package : List ℕ → ℕ → ℕ → Chunk → Found → Result Found Fault
 in_package bytes package_id place chunk s =
-    if chunk.kind == 0x201 then type_read bytes package_id place chunk s else Ok s
+    if chunk.kind == type_kind then type_read bytes package_id place chunk s else Ok s
 
 -- what was read with one chunk more, and the place after it
 unfoldable pub one_chunk : (ℕ → Chunk → Found → Result Found Fault) → List ℕ → ℕ → ℕ → Found → Result (ℕ × Found) Fault
@@ -62,7 +64,7 @@ all_chunks step bytes end place s = chunks_from step end bytes end place s
 unfoldable pub package_of : List ℕ → ℕ → Chunk → Result ℕ Fault
 package_of bytes place chunk =
     if nat_lt chunk.head 284 then Err (bad_chunk place)
-    else (if nat_lt 255 (number32 bytes (place + 8)) then Err (bad_chunk place)
+    else (if nat_lt max_package (number32 bytes (place + 8)) then Err (bad_chunk place)
     else Ok (number32 bytes (place + 8)))
 
 unfoldable pub package_read : List ℕ → ℕ → Chunk → Found → Result Found Fault
@@ -78,6 +80,6 @@ pool_read bytes place chunk s =
 -- what was read with a chunk of the table: a pool, a package, or one that is passed over
 unfoldable pub in_table : List ℕ → ℕ → Chunk → Found → Result Found Fault
 in_table bytes place chunk s =
-    if chunk.kind == 0x001 then pool_read bytes place chunk s
-    else (if chunk.kind == 0x200 then package_read bytes place chunk s
+    if chunk.kind == pool_kind then pool_read bytes place chunk s
+    else (if chunk.kind == package_kind then package_read bytes place chunk s
     else Ok s)

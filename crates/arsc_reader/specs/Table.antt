@@ -12,6 +12,7 @@ use Rattle.arsc_reader.specs.declared.held.Entry.{Entry}
 use Rattle.arsc_reader.specs.declared.held.Held.{Held}
 use Rattle.arsc_reader.specs.declared.held.Held.TheVariants as held
 use Rattle.arsc_reader.specs.Contents.{Contents}
+use Rattle.arsc_reader.specs.Numbers.{max_references, reference_kind, table_kind}
 use Rattle.arsc_reader.specs.Reading.{start, in_table, all_chunks}
 
 -- the chunk that holds the table; what comes after it is not looked at
@@ -31,7 +32,7 @@ inside_of bytes = do
 unfoldable pub table_of : List ℕ → Result Contents Fault
 table_of bytes =
     if nat_lt (length bytes) 8 then Err (truncated 0)
-    else (if not (number16 bytes 0 == 2) then Err (not_table 0)
+    else (if not (number16 bytes 0 == table_kind) then Err (not_table 0)
     else inside_of bytes)
 
 -- what an entry holds if it has an id, and otherwise what was found before it
@@ -47,11 +48,11 @@ latest_after before (entry ∷ rest) id = latest_after (newer before entry id) r
 abbrev pub latest : List Entry → ℕ → Held
 latest entries id = latest_after held.None entries id
 
--- the id that a value of the type 1 names; a word of 0 names none
+-- the id that a reference names; a word of 0 names none
 abbrev pub named_by : Held → Option ℕ
 named_by held.None = None
 named_by held.Complex = None
-named_by (held.Plain kind word) = if (kind == 1) && not (word == 0) then Some word else None
+named_by (held.Plain kind word) = if (kind == reference_kind) && not (word == 0) then Some word else None
 
 -- what is held, or what the id that it names holds
 abbrev pub through : Held → Option ℕ → (ℕ → Held) → Held
@@ -66,7 +67,7 @@ followed (suc n) entries id =
 
 -- what the resource with an id holds
 abbrev pub value_of : List Entry → ℕ → Held
-value_of entries id = followed 16 entries id
+value_of entries id = followed max_references entries id
 
 -- a string of the table
 abbrev pub text_of : Option StringPool → ℕ → Option (List ℕ)

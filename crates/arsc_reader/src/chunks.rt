@@ -4,6 +4,7 @@ ghost use Rattle.axml_chunks.specs.Chunks.{IsChunk};
 ghost use Rattle.axml_chunks.specs.Steps.{Does, Gives};
 ghost use Rattle.arsc_reader.specs.Entries.{IfListed};
 ghost use Rattle.arsc_reader.specs.Meaning.{found};
+ghost use Rattle.arsc_reader.specs.Numbers.{max_package};
 ghost use Rattle.arsc_reader.specs.Reading.{start, listed, in_package, package_of, package_read, pool_read, in_table, one_chunk, all_chunks};
 
 use crate::entries::{listing_of, push_entries};
@@ -11,6 +12,9 @@ use crate::listing::Listing;
 use crate::reading::Reading;
 use axml_chunks::{Cause, Chunk, Fault, Pool, ReadFault, chunk_at, u32_at};
 use std::alloc::Global;
+
+/// The highest id that a package may have.
+const MAX_PACKAGE: u32 = 255;
 
 /// The most entries that the types of a table may have together.
 const MAX_ENTRIES: usize = 262144;
@@ -29,7 +33,7 @@ const TYPE: u16 = 0x201;
 fn package_of(bytes: &[u8], place: usize, chunk: Chunk) -> Result<u32, Fault>
     requires { IsChunk place (length bytes.now) chunk }
     ensures value { result ≡ package_of bytes.now place chunk }
-    ensures bounds { IfOk result (λ package_id. package_id ≤ 255) }
+    ensures bounds { IfOk result (λ package_id. package_id ≤ max_package) }
 {
     let bad = Fault {
         cause: Cause::BadChunk,
@@ -39,7 +43,7 @@ fn package_of(bytes: &[u8], place: usize, chunk: Chunk) -> Result<u32, Fault>
         return Err(bad);
     }
     let package_id = u32_at(bytes, place + 8);
-    if package_id > 255 {
+    if package_id > MAX_PACKAGE {
         return Err(bad);
     }
     Ok(package_id)
@@ -90,7 +94,7 @@ impl Reading {
         place: usize,
         chunk: Chunk,
     ) -> Result<(), ReadFault>
-        requires package_id { package_id ≤ 255 }
+        requires package_id { package_id ≤ max_package }
         requires chunk { IsChunk place (length bytes.now) chunk }
         ensures { Does (found self.new) result (in_package bytes.now package_id place chunk (found self.old)) }
     {
@@ -110,7 +114,7 @@ impl Reading {
         place: usize,
         end: usize,
     ) -> Result<usize, ReadFault>
-        requires package_id { package_id ≤ 255 }
+        requires package_id { package_id ≤ max_package }
         requires place { place ≤ end }
         requires end { end ≤ length bytes.now }
         ensures value { Gives (λ next. (next, found self.new)) result
@@ -131,7 +135,7 @@ impl Reading {
         place: usize,
         end: usize,
     ) -> Result<(), ReadFault>
-        requires package_id { package_id ≤ 255 }
+        requires package_id { package_id ≤ max_package }
         requires place { place ≤ end }
         requires end { end ≤ length bytes.now }
         ensures { Does (found self.new) result

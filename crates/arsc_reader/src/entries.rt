@@ -3,6 +3,7 @@ ghost use Rattle.std.specs.Prelude.{◌≡◌, ◌+◌, ◌*◌, ◌^◌, ◌<�
 ghost use Rattle.axml_chunks.specs.Chunks.{IsChunk};
 ghost use Rattle.axml_chunks.specs.Steps.{Does};
 ghost use Rattle.arsc_reader.specs.Entries.{are_zeros, listing_of, IfListed, IsListing, plain_at, entry_at, held_at, entry_after, entries_upto};
+ghost use Rattle.arsc_reader.specs.Numbers.{max_package};
 
 use crate::held::{Entry, Held};
 use crate::listing::Listing;
@@ -35,7 +36,7 @@ pub(crate) fn listing_of(
     package_id: u32,
     chunk: Chunk,
 ) -> Result<Option<Listing>, Fault>
-    requires package_id { package_id ≤ 255 }
+    requires package_id { package_id ≤ max_package }
     requires chunk { IsChunk place (length bytes.now) chunk }
     ensures value { result ≡ listing_of bytes.now place package_id chunk }
     ensures bounds { IfOk result (λ listing. IfListed (length bytes.now) listing) }

@@ -1,5 +1,6 @@
 //! A table while it is read.
 ghost use Rattle.std.specs.Prelude.{◌≤◌};
+ghost use Rattle.arsc_reader.specs.Numbers.{max_entries};
 
 use crate::held::Entry;
 use axml_chunks::Pool;
@@ -11,5 +12,5 @@ pub(crate) struct Reading {
     pub(crate) pool: Option<Pool>,
     pub(crate) entries: Vec<Entry>,
     pub(crate) count: usize,
-    ghost few: { count ≤ 262144 },
+    ghost few: { count ≤ max_entries },
 }

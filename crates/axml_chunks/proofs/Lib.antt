@@ -1,3 +1,4 @@
+mod LimitLaws
 pub mod Texts
 pub mod Runs
 pub mod Readings

@@ -1,5 +1,6 @@
 pub mod Causes
 pub mod Faults
+pub mod Limits
 pub mod Numbers
 pub mod Steps
 pub mod Chunks

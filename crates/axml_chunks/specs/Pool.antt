@@ -6,6 +6,7 @@ use Rattle.axml_chunks.specs.declared.chunk.Chunk.{Chunk}
 use Rattle.axml_chunks.specs.declared.fault.Fault.{Fault}
 use Rattle.axml_chunks.specs.declared.pool.Header.{Header}
 use Rattle.axml_chunks.specs.Faults.{bad_pool, bad_string, too_big}
+use Rattle.axml_chunks.specs.Limits.{max_strings, max_text}
 use Rattle.axml_chunks.specs.Numbers.{number32}
 use Rattle.axml_chunks.specs.Spelled.{IsString}
 use Rattle.axml_chunks.specs.Strings.{utf8_text, utf16_text}
@@ -38,13 +39,13 @@ header_of chunk place head =
     if nat_lt head 28 || nat_lt (length chunk) (head + 4 * (string_count chunk + style_count chunk))
     || nat_lt (length chunk) (strings_start chunk)
     then Err (bad_pool place)
-    else (if nat_lt 65536 (string_count chunk) then Err (too_big place)
+    else (if nat_lt max_strings (string_count chunk) then Err (too_big place)
     else Ok (record { utf8 = is_in_utf8 chunk; count = string_count chunk; first = strings_start chunk }))
 
 -- the offsets of the strings lie in a chunk of this length
 pub record IsHeader (len head : ℕ) (header : Header) : Type 0 where
   pub entries : head + 4 * header.count ≤ len
-  pub count : header.count ≤ 65536
+  pub count : header.count ≤ max_strings
   pub first : header.first < 2 ^ 32
 
 -- the string at a place, if it is a text
@@ -64,7 +65,7 @@ pub record Gathered : Type 0 where
 unfoldable pub gathered : Gathered → ℕ → Option (List ℕ) → Result Gathered Fault
 gathered so_far entry None = Err (bad_string entry)
 gathered so_far entry (Some text) =
-    if nat_lt 4194304 (so_far.sum + length text) then Err (too_big entry)
+    if nat_lt max_text (so_far.sum + length text) then Err (too_big entry)
     else Ok (record { texts = so_far.texts ++ text ∷ []; sum = so_far.sum + length text })
 
 abbrev pub one_more : List ℕ → ℕ → ℕ → Header → Gathered → ℕ → Result Gathered Fault
@@ -97,10 +98,10 @@ pub record IsPoolIn (chunk : List ℕ) (head : ℕ) (pool : StringPool) : Type 0
   pub start : strings_start chunk ≤ length chunk
   pub utf8_is : pool.utf8 ≡ is_in_utf8 chunk
   pub count_is : length pool.texts ≡ string_count chunk
-  pub count : string_count chunk ≤ 65536
+  pub count : string_count chunk ≤ max_strings
   pub texts : (k : ℕ) (text : List ℕ) → slice_get pool.texts k ≡ Some text
       → IsString pool.utf8 chunk (strings_start chunk + number32 chunk (head + 4 * k)) text
-  pub room : sum_by length pool.texts ≤ 4194304
+  pub room : sum_by length pool.texts ≤ max_text
 
 abbrev pub IsPool : List ℕ → ℕ → Chunk → StringPool → Type 0
 IsPool bytes place chunk pool = IsPoolIn (bytes_of bytes place chunk) chunk.head pool

@@ -10,6 +10,7 @@ ghost use Rattle.std.specs.Option.{option_map};
 ghost use Rattle.std.specs.String.{string_bytes};
 ghost use Rattle.axml_chunks.specs.Chunks.{IsChunk};
 ghost use Rattle.axml_chunks.specs.Gathering.{gathering};
+ghost use Rattle.axml_chunks.specs.Limits.{max_strings};
 ghost use Rattle.axml_chunks.specs.Pool.{StringPool, header_of, gathered, gathered_upto, one_more, pool_of, IsHeader, IsPool};
 ghost use Rattle.axml_chunks.specs.Short.{IsShort};
 ghost use Rattle.axml_chunks.specs.Steps.{Gives, Does};
@@ -57,6 +58,7 @@ impl Model for Pool {
     ghost use Rattle.std.specs.Prelude.{map, ◌≤◌, length};
     ghost use Rattle.std.specs.List.{All};
     ghost use Rattle.std.specs.String.{string_bytes};
+    ghost use Rattle.axml_chunks.specs.Limits.{max_strings};
     ghost use Rattle.axml_chunks.specs.Pool.{StringPool};
     ghost use Rattle.axml_chunks.specs.Short.{IsShort};
 
@@ -64,7 +66,7 @@ impl Model for Pool {
 
     ghost view = { λ p. record { utf8 = p.utf8; texts = map string_bytes p.texts.items } };
 
-    ghost invariant = { λ p. (length p.texts.items ≤ 65536) × All (λ text. IsShort (string_bytes text)) p.texts.items };
+    ghost invariant = { λ p. (length p.texts.items ≤ max_strings) × All (λ text. IsShort (string_bytes text)) p.texts.items };
 }
 
 impl Pool {
@@ -103,7 +105,7 @@ impl Pool {
     /// How many strings there are.
     pub fn len(&self) -> u32
         ensures value { result ≡ length self.now.texts }
-        ensures most { result ≤ 65536 }
+        ensures most { result ≤ max_strings }
     {
         self.texts.len() as u32
     }

@@ -1,3 +1,4 @@
+mod NumberLaws
 pub mod Answers
 pub mod Loop
 pub mod Attrs

@@ -11,6 +11,7 @@ use Rattle.axml_chunks.specs.Steps.{◌>>=◌}
 use Rattle.axml_reader.specs.Brackets.{nothing_open}
 use Rattle.axml_reader.specs.Document.{Document, State}
 use Rattle.axml_reader.specs.Nodes.{part_at, joined}
+use Rattle.axml_reader.specs.Numbers.{document_kind}
 
 -- nothing was read yet
 abbrev pub start : State
@@ -20,7 +21,7 @@ start = record { pool = None; map = []; nodes = []; attrs = []; stack = nothing_
 unfoldable pub document_of : List ℕ → Result Chunk Fault
 document_of bytes =
     if nat_lt (length bytes) 8 then Err (truncated 0)
-    else (if not (number16 bytes 0 == 3) then Err (not_xml 0)
+    else (if not (number16 bytes 0 == document_kind) then Err (not_xml 0)
     else chunk_of bytes 0 (length bytes))
 
 -- what was read with one chunk more, and the place after it

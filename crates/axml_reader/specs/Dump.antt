@@ -9,6 +9,7 @@ use Rattle.axml_reader.specs.declared.doc.Attr.{Attr}
 use Rattle.axml_reader.specs.declared.doc.Node.{Node}
 use Rattle.axml_reader.specs.declared.doc.Node.TheVariants.{NsStart, NsEnd, Start, End, Chars}
 use Rattle.axml_reader.specs.Document.{Document}
+use Rattle.axml_reader.specs.Numbers.{no_string}
 
 -- the name of string k
 abbrev pub string_mark : ℕ → List ℕ
@@ -16,7 +17,7 @@ string_mark k = codes "s" ⧺ decimal k
 
 -- a string number, or `-` if it means none
 unfoldable pub string_name : ℕ → List ℕ
-string_name n = if n == 4294967295 then codes "-" else string_mark n
+string_name n = if n == no_string then codes "-" else string_mark n
 
 -- fields of a line, each after a space
 abbrev pub name_field : ℕ → List ℕ

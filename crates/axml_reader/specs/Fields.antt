@@ -8,6 +8,7 @@ use Rattle.axml_chunks.specs.Numbers.{number32}
 use Rattle.axml_chunks.specs.Pool.{StringPool}
 use Rattle.axml_chunks.specs.Steps.{◌>>=◌, upto}
 use Rattle.axml_reader.specs.declared.doc.Attr.{Attr}
+use Rattle.axml_reader.specs.Numbers.{no_string, string_kind}
 
 -- how many strings there are; none before a pool was read
 abbrev pub strings : Option StringPool → ℕ
@@ -26,7 +27,7 @@ same_text (Some pool) a b = same_bytes (slice_get pool.texts a) (slice_get pool.
 
 -- the number at a place means no string, or is below the count of strings
 abbrev pub is_reference : ℕ → ℕ → Bool
-is_reference count n = n == 4294967295 || nat_lt n count
+is_reference count n = n == no_string || nat_lt n count
 
 -- a string number below a count, or none
 unfoldable pub reference_at : List ℕ → ℕ → ℕ → Result ℕ Fault
@@ -43,7 +44,7 @@ name_at bytes count place =
 -- the word of the value at a place, which for a string is its number
 unfoldable pub word_at : List ℕ → ℕ → ℕ → Result ℕ Fault
 word_at bytes count place =
-    if slice_index bytes (place + 3) == 3 then name_at bytes count (place + 4)
+    if slice_index bytes (place + 3) == string_kind then name_at bytes count (place + 4)
     else Ok (number32 bytes (place + 4))
 
 -- the attribute at a place

@@ -1,3 +1,4 @@
+pub mod Numbers
 pub mod Document
 pub mod Alike
 pub mod Brackets

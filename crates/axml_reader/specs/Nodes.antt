@@ -12,6 +12,8 @@ use Rattle.axml_reader.specs.declared.fields.StartHead.{StartHead}
 use Rattle.axml_reader.specs.Brackets.{is_closed_by}
 use Rattle.axml_reader.specs.Document.{State}
 use Rattle.axml_reader.specs.Fields.{reference_at, name_at, attrs_upto, words_at, strings, same_text}
+use Rattle.axml_reader.specs.Numbers.{chars_kind, end_kind, map_kind, max_attrs, max_elements, namespace_end_kind}
+use Rattle.axml_reader.specs.Numbers.{namespace_start_kind, pool_kind, start_kind}
 use Rattle.axml_reader.specs.Parts.{Part, Strings, Ids, Item, Other, with_part}
 
 -- a node's header is too short, or its body is shorter than its form
@@ -60,7 +62,8 @@ unfoldable pub start_at : List ℕ → ℕ → Chunk → ℕ → Bool → ℕ �
 start_at bytes place chunk count closed starts = do
   body ← body_at place chunk 20
   if closed then Err (two_roots place)
-      else (if not (nat_lt starts 4096) || nat_lt 256 (number16 bytes (body + 12)) then Err (too_big place)
+      else (if not (nat_lt starts max_elements) || nat_lt max_attrs (number16 bytes (body + 12))
+      then Err (too_big place)
       else (do
         ns ← reference_at bytes count body
         name ← name_at bytes count (body + 4)
@@ -113,13 +116,13 @@ chars_part bytes place chunk s = do
 -- what a chunk is, after what was read before it
 unfoldable pub part_at : List ℕ → ℕ → Chunk → State → Result Part Fault
 part_at bytes place chunk s =
-    if chunk.kind == 0x001 then pool_part bytes place chunk s
-    else (if chunk.kind == 0x180 then map_part bytes place chunk s
-    else (if chunk.kind == 0x100 then namespace_start_part bytes place chunk s
-    else (if chunk.kind == 0x101 then namespace_end_part bytes place chunk s
-    else (if chunk.kind == 0x102 then start_part bytes place chunk s
-    else (if chunk.kind == 0x103 then end_part bytes place chunk s
-    else (if chunk.kind == 0x104 then chars_part bytes place chunk s
+    if chunk.kind == pool_kind then pool_part bytes place chunk s
+    else (if chunk.kind == map_kind then map_part bytes place chunk s
+    else (if chunk.kind == namespace_start_kind then namespace_start_part bytes place chunk s
+    else (if chunk.kind == namespace_end_kind then namespace_end_part bytes place chunk s
+    else (if chunk.kind == start_kind then start_part bytes place chunk s
+    else (if chunk.kind == end_kind then end_part bytes place chunk s
+    else (if chunk.kind == chars_kind then chars_part bytes place chunk s
     else Ok Other))))))
 
 -- what was read, once a part is added to it
@@ -135,7 +138,7 @@ pub record IsBody (place : ℕ) (chunk : Chunk) (form body : ℕ) : Type 0 where
 -- the attributes of an element fit in n bytes, and the element is not one too many
 pub record StartFits (len begun : ℕ) (chunk : Chunk) (head : StartHead) : Type 0 where
   pub header : 16 ≤ chunk.head
-  pub begun_few : begun < 4096
-  pub count : head.count ≤ 256
+  pub begun_few : begun < max_elements
+  pub count : head.count ≤ max_attrs
   pub step : head.step < 2 ^ 16
   pub last : 0 < head.count → (20 ≤ head.step) × (head.place + head.count * head.step ≤ len)

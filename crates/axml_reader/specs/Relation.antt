@@ -11,11 +11,14 @@ use Rattle.axml_reader.specs.declared.doc.Node.TheVariants.{NsStart, NsEnd, Star
 use Rattle.axml_reader.specs.Brackets.{IsRooted}
 use Rattle.axml_reader.specs.Document.{Document}
 use Rattle.axml_reader.specs.Fields.{strings, same_text, words_at}
+use Rattle.axml_reader.specs.Numbers.{chars_kind, document_kind, end_kind, map_kind, max_attrs, max_elements}
+use Rattle.axml_reader.specs.Numbers.{namespace_end_kind, namespace_start_kind, no_string, pool_kind, start_kind}
+use Rattle.axml_reader.specs.Numbers.{string_kind}
 use Rattle.axml_reader.specs.Parts.{Part, Strings, Ids, Item, Other, token, starts_in}
 
 -- a number names one of n strings, or none
 abbrev pub IsReference : ℕ → ℕ → Type 0
-IsReference count n = (n ≡ 4294967295) ⊎ (n < count)
+IsReference count n = (n ≡ no_string) ⊎ (n < count)
 
 -- the field at a place, which names a string or none
 pub record IsReferenceAt (bytes : List ℕ) (count place n : ℕ) : Type 0 where
@@ -34,7 +37,7 @@ pub record IsAttr (bytes : List ℕ) (count place : ℕ) (attr : Attr) : Type 0 
   pub raw : IsReferenceAt bytes count (place + 8) attr.raw
   pub kind_is : attr.kind ≡ slice_index bytes (place + 15)
   pub word_is : attr.word ≡ number32 bytes (place + 16)
-  pub string : attr.kind ≡ 3 → attr.word < count
+  pub string : attr.kind ≡ string_kind → attr.word < count
 
 -- attributes, each of `step` bytes, from a place on
 pub record AreAttrs (bytes : List ℕ) (count place step n : ℕ) (attrs : List Attr) : Type 0 where
@@ -58,13 +61,13 @@ pub record IsNamespace (bytes : List ℕ) (count place kind : ℕ) (chunk : Chun
 -- an element begins, of which these are the attributes; n elements came before it
 pub record IsStartNode (bytes : List ℕ) (count before place : ℕ) (chunk : Chunk) (line ns name first n : ℕ)
     (attrs : List Attr) : Type 0 where
-  pub form : IsForm 0x102 20 chunk
+  pub form : IsForm start_kind 20 chunk
   pub line_is : line ≡ number32 bytes (place + 8)
   pub ns_at : IsReferenceAt bytes count (place + chunk.head) ns
   pub name_at : IsNameAt bytes count (place + chunk.head + 4) name
   pub first_is : first ≡ before
   pub n_is : n ≡ number16 bytes (place + chunk.head + 12)
-  pub few : n ≤ 256
+  pub few : n ≤ max_attrs
   pub begin : 0 < n → 20 ≤ number16 bytes (place + chunk.head + 8)
   pub step : 0 < n → 20 ≤ number16 bytes (place + chunk.head + 10)
   pub within : 0 < n
@@ -75,7 +78,7 @@ pub record IsStartNode (bytes : List ℕ) (count before place : ℕ) (chunk : Ch
 -- an element ends
 pub record IsEndNode (bytes : List ℕ) (count place : ℕ) (chunk : Chunk) (line ns name : ℕ) (attrs : List Attr) : Type 0
   where
-    pub form : IsForm 0x103 8 chunk
+    pub form : IsForm end_kind 8 chunk
     pub line_is : line ≡ number32 bytes (place + 8)
     pub ns_at : IsReferenceAt bytes count (place + chunk.head) ns
     pub name_at : IsNameAt bytes count (place + chunk.head + 4) name
@@ -84,7 +87,7 @@ pub record IsEndNode (bytes : List ℕ) (count place : ℕ) (chunk : Chunk) (lin
 -- character data
 pub record IsCharsNode (bytes : List ℕ) (count place : ℕ) (chunk : Chunk) (line text kind word : ℕ) (attrs : List Attr)
     : Type 0 where
-  pub form : IsForm 0x104 12 chunk
+  pub form : IsForm chars_kind 12 chunk
   pub line_is : line ≡ number32 bytes (place + 8)
   pub text_at : IsReferenceAt bytes count (place + chunk.head) text
   pub kind_is : kind ≡ slice_index bytes (place + chunk.head + 7)
@@ -94,9 +97,9 @@ pub record IsCharsNode (bytes : List ℕ) (count place : ℕ) (chunk : Chunk) (l
 -- the node of the chunk at a place, with its attributes
 abbrev pub IsNode : List ℕ → ℕ → ℕ → ℕ → Chunk → Node → List Attr → Type 0
 IsNode bytes count before place chunk (NsStart prefix uri) attrs =
-    IsNamespace bytes count place 0x100 chunk prefix uri attrs
+    IsNamespace bytes count place namespace_start_kind chunk prefix uri attrs
 IsNode bytes count before place chunk (NsEnd prefix uri) attrs =
-    IsNamespace bytes count place 0x101 chunk prefix uri attrs
+    IsNamespace bytes count place namespace_end_kind chunk prefix uri attrs
 IsNode bytes count before place chunk (Start line ns name first n) attrs =
     IsStartNode bytes count before place chunk line ns name first n attrs
 IsNode bytes count before place chunk (End line ns name) attrs = IsEndNode bytes count place chunk line ns name attrs
@@ -105,19 +108,19 @@ IsNode bytes count before place chunk (Chars line text kind word) attrs =
 
 -- a chunk of a kind that is passed over
 pub record IsOther (kind : ℕ) : Type 0 where
-  pub no_pool : kind ≢ 0x001
-  pub no_map : kind ≢ 0x180
-  pub no_namespace_start : kind ≢ 0x100
-  pub no_namespace_end : kind ≢ 0x101
-  pub no_start : kind ≢ 0x102
-  pub no_end : kind ≢ 0x103
-  pub no_chars : kind ≢ 0x104
+  pub no_pool : kind ≢ pool_kind
+  pub no_map : kind ≢ map_kind
+  pub no_namespace_start : kind ≢ namespace_start_kind
+  pub no_namespace_end : kind ≢ namespace_end_kind
+  pub no_start : kind ≢ start_kind
+  pub no_end : kind ≢ end_kind
+  pub no_chars : kind ≢ chars_kind
 
 -- the part that the chunk at a place is, after this pool and n attributes
 abbrev pub IsPart : List ℕ → Option StringPool → ℕ → ℕ → Chunk → Part → Type 0
-IsPart bytes pool before place chunk (Strings strings) = (chunk.kind ≡ 0x001) × IsPool bytes place chunk strings
+IsPart bytes pool before place chunk (Strings strings) = (chunk.kind ≡ pool_kind) × IsPool bytes place chunk strings
 IsPart bytes pool before place chunk (Ids ids) =
-    (chunk.kind ≡ 0x180) × (ids ≡ words_at bytes (place + chunk.head) ((chunk.size - chunk.head) / 4))
+    (chunk.kind ≡ map_kind) × (ids ≡ words_at bytes (place + chunk.head) ((chunk.size - chunk.head) / 4))
 IsPart bytes pool before place chunk (Item node attrs) = IsNode bytes (strings pool) before place chunk node attrs
 IsPart bytes pool before place chunk Other = IsOther chunk.kind
 
@@ -184,11 +187,11 @@ last_ids before (Other ∷ rest) = last_ids before rest
 
 -- Bytes are the layout file of a document: one chunk holds it, other chunks fill that one to its end, and each is a
 -- part of the document. There is one string pool, the nodes are a word of brackets with one outermost pair, in which
--- an element's two names have the same text, and at most 4096 elements begin.
+-- an element's two names have the same text, and few elements begin.
 pub record IsDocument (bytes : List ℕ) (doc : Document) : Type 0 where
   pub whole : Chunk
   pub whole_at : IsChunkAt bytes 0 (length bytes) whole
-  pub is_xml : whole.kind ≡ 3
+  pub is_xml : whole.kind ≡ document_kind
   pub places : List Place
   pub fills : Fills bytes whole.size whole.head places
   pub parts : List Part
@@ -198,4 +201,4 @@ pub record IsDocument (bytes : List ℕ) (doc : Document) : Type 0 where
   pub nodes_are : doc.nodes ≡ nodes_of parts
   pub attrs_are : doc.attrs ≡ attrs_of parts
   pub rooted : IsRooted (same_text (Some doc.pool)) (map token doc.nodes)
-  pub few : starts_in (map token doc.nodes) ≤ 4096
+  pub few : starts_in (map token doc.nodes) ≤ max_elements

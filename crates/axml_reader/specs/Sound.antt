@@ -10,6 +10,7 @@ use Rattle.axml_reader.specs.declared.doc.Node.TheVariants.{NsStart, NsEnd, Star
 use Rattle.axml_reader.specs.Brackets.{is_rooted}
 use Rattle.axml_reader.specs.Document.{Document}
 use Rattle.axml_reader.specs.Fields.{is_reference, same_text}
+use Rattle.axml_reader.specs.Numbers.{max_attrs, max_elements, string_kind}
 use Rattle.axml_reader.specs.Parts.{token, starts_in}
 
 abbrev pub AreShort : StringPool → Type 0
@@ -30,7 +31,7 @@ HaveStrings pool nodes = All (λ node. has_strings (length pool.texts) node ≡ 
 abbrev pub attr_has_strings : ℕ → Attr → Bool
 attr_has_strings count attr =
     is_reference count attr.ns && nat_lt attr.name count && is_reference count attr.raw
-    && (not (attr.kind == 3) || nat_lt attr.word count)
+    && (not (attr.kind == string_kind) || nat_lt attr.word count)
 
 abbrev pub AttrsHaveStrings : StringPool → List Attr → Type 0
 AttrsHaveStrings pool attrs = All (λ attr. attr_has_strings (length pool.texts) attr ≡ true) attrs
@@ -46,20 +47,20 @@ is_within len (Chars line text kind word) = true
 abbrev pub AreWithin : List Attr → List Node → Type 0
 AreWithin attrs nodes = All (λ node. is_within (length attrs) node ≡ true) nodes
 
--- an element has at most 256 attributes
+-- an element has no more attributes than it may have
 abbrev pub has_few_attrs : Node → Bool
 has_few_attrs (NsStart prefix uri) = true
 has_few_attrs (NsEnd prefix uri) = true
-has_few_attrs (Start line ns name first n) = nat_le n 256
+has_few_attrs (Start line ns name first n) = nat_le n max_attrs
 has_few_attrs (End line ns name) = true
 has_few_attrs (Chars line text kind word) = true
 
 abbrev pub HaveFewAttrs : List Node → Type 0
 HaveFewAttrs nodes = All (λ node. has_few_attrs node ≡ true) nodes
 
--- at most 4096 elements begin
+-- no more elements begin than a document may have
 abbrev pub AreFew : List Node → Type 0
-AreFew nodes = starts_in (map token nodes) ≤ 4096
+AreFew nodes = starts_in (map token nodes) ≤ max_elements
 
 -- elements are a word of brackets with one outermost pair, in which both names of an element have the same text
 abbrev pub AreRooted : StringPool → List Node → Type 0

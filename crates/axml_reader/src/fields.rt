@@ -2,6 +2,7 @@
 ghost use Rattle.std.specs.Prelude.{◌≡◌, ◌+◌, ◌*◌, ◌^◌, ◌<◌, ◌≤◌, length, IfOk};
 ghost use Rattle.axml_chunks.specs.Steps.{Does};
 ghost use Rattle.axml_reader.specs.Fields.{reference_at, name_at, word_at, attr_at, attr_after, attrs_upto, words_at, same_text, strings};
+ghost use Rattle.axml_reader.specs.Numbers.{max_attrs};
 
 use crate::doc::{Attr, NO_STRING};
 use axml_chunks::{Cause, Fault, Pool, ReadFault, u32_at};
@@ -120,7 +121,7 @@ fn push_attr(
     k: usize,
 ) -> Result<(), ReadFault>
     requires number { k < head.count }
-    requires count { head.count ≤ 256 }
+    requires count { head.count ≤ max_attrs }
     requires step { (20 ≤ head.step) × (head.step < 2 ^ 16) }
     requires last { head.place + head.count * head.step ≤ length bytes.now }
     ensures value { Does attrs.new.items result (attr_after bytes.now count head.place head.step attrs.old.items k) }
@@ -139,7 +140,7 @@ pub fn push_attrs(
     count: u32,
     head: StartHead,
 ) -> Result<(), ReadFault>
-    requires count { head.count ≤ 256 }
+    requires count { head.count ≤ max_attrs }
     requires step { head.step < 2 ^ 16 }
     requires last { 0 < head.count → (20 ≤ head.step) × (head.place + head.count * head.step ≤ length bytes.now) }
     ensures value { Does attrs.new.items result

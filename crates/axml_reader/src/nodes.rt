@@ -13,6 +13,7 @@ ghost use Rattle.axml_reader.specs.Brackets.{is_closed_by};
 ghost use Rattle.axml_reader.specs.Fields.{same_text, strings};
 ghost use Rattle.axml_reader.specs.Nodes.{IsBody, StartFits, is_short, body_at, is_outside, pair_at, names_at, chars_at, start_at, pool_part, map_part, namespace_start_part, namespace_end_part, start_part, end_part, chars_part, part_at, joined};
 ghost use Rattle.axml_reader.specs.Meaning.{reading};
+ghost use Rattle.axml_reader.specs.Numbers.{max_attrs};
 
 use crate::alike::{are_alike, none_alike};
 use crate::doc::Node;
@@ -20,6 +21,22 @@ use crate::fields::{StartHead, name_at, push_attrs, reference_at, string_count, 
 use crate::reading::Reading;
 use axml_chunks::{Cause, Chunk, Fault, Pool, ReadFault, u16_at, u32_at};
 use std::alloc::Global;
+
+/// The kinds of chunks: a string pool, a resource map, the start and the end of a namespace and of an element, and
+/// character data.
+const POOL: u16 = 0x001;
+
+const MAP: u16 = 0x180;
+
+const NAMESPACE_START: u16 = 0x100;
+
+const NAMESPACE_END: u16 = 0x101;
+
+const START: u16 = 0x102;
+
+const END: u16 = 0x103;
+
+const CHARS: u16 = 0x104;
 
 /// The most elements that a document may have.
 const MAX_ELEMENTS: u32 = 4096;
@@ -93,7 +110,7 @@ fn chars_at(bytes: &[u8], at: usize, chunk: Chunk, count: u32) -> Result<u32, Fa
 fn is_outside(body: usize, first: usize, step: usize, count: usize) -> bool
     requires first { first < 2 ^ 16 }
     requires step { step < 2 ^ 16 }
-    requires count { count ≤ 256 }
+    requires count { count ≤ max_attrs }
     ensures { result ≡ is_outside body first step count }
 {
     count != 0 && (first < 20 || step < 20 || body < first + count * step)
@@ -302,13 +319,13 @@ impl Reading {
             (joined (reading self.old) (part_at bytes.now at chunk (reading self.old))) }
     {
         match chunk.kind {
-            0x001 => self.read_pool(alloc, bytes, at, chunk),
-            0x180 => self.read_map(alloc, bytes, at, chunk),
-            0x100 => self.read_namespace_start(bytes, at, chunk),
-            0x101 => self.read_namespace_end(bytes, at, chunk),
-            0x102 => self.read_start(bytes, at, chunk),
-            0x103 => self.read_end(bytes, at, chunk),
-            0x104 => self.read_chars(bytes, at, chunk),
+            POOL => self.read_pool(alloc, bytes, at, chunk),
+            MAP => self.read_map(alloc, bytes, at, chunk),
+            NAMESPACE_START => self.read_namespace_start(bytes, at, chunk),
+            NAMESPACE_END => self.read_namespace_end(bytes, at, chunk),
+            START => self.read_start(bytes, at, chunk),
+            END => self.read_end(bytes, at, chunk),
+            CHARS => self.read_chars(bytes, at, chunk),
             _ => Ok(()),
         }
     }

@@ -1,6 +1,7 @@
 //! A document while it is read.
 ghost use Rattle.std.specs.Prelude.{◌≤◌, ◌*◌, length};
 ghost use Rattle.axml_reader.specs.Alike.{AreAlike};
+ghost use Rattle.axml_reader.specs.Numbers.{max_attrs, max_elements};
 
 use crate::doc::{Attr, Node};
 use axml_chunks::Pool;
@@ -19,6 +20,6 @@ pub(crate) struct Reading {
     pub(crate) closed: bool,
     pub(crate) starts: u32,
     ghost known: { AreAlike pool alike.items },
-    ghost few: { starts ≤ 4096 },
-    ghost room: { length attrs.items ≤ 256 * starts },
+    ghost few: { starts ≤ max_elements },
+    ghost room: { length attrs.items ≤ max_attrs * starts },
 }
