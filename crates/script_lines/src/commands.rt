@@ -1,9 +1,7 @@
 //! What a line asks for.
 
 use crate::words::naming::Name;
-use arrayvec::ArrayVec;
 use geom_core::Argb;
-use view_model::limits::MAX_EDITS;
 use view_model::{Act, Change, Class};
 
 /// The greatest side of a window, in pixels.
@@ -94,12 +92,12 @@ pub enum Command<'a> {
         view: Name,
         on: bool,
     },
-    /// Arms the hook of a view: the edits that are made once it has another size, in order. If `bad`, there is one
-    /// after the first `MAX_EDITS`, or one that is not `size`, `min`, `margins`, `padding`, `weight`, `gravity` or
-    /// `bg`; those are not among them.
+    /// Arms the hook of a view: the edits that are made once it has another size, in order, as written; `edits_written`
+    /// reads them. If `bad`, there is one after the first `MAX_EDITS`, or one that is not `size`, `min`, `margins`,
+    /// `padding`, `weight`, `gravity` or `bg`; those are not among them.
     Hook {
         view: Name,
-        edits: ArrayVec<Asked, MAX_EDITS>,
+        edits: &'a [u8],
         bad: bool,
     },
     /// A pointer goes down. Its id is from 0 to `MAX_POINTER`, its coordinates are from `MIN_TOUCH` to `MAX_TOUCH`.

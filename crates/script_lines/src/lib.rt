@@ -23,6 +23,7 @@ mod words;
 pub use commands::{Asked, Command, Given};
 pub use cutting::{Ended, LinePlace, Lines, PassedOver, passes_over};
 pub use fault::LineFault;
+pub use reading::hooks::edits_written;
 pub use reading::line;
 pub use words::escapes::Unescaped;
 pub use words::file_name::is_file_name;

@@ -13,7 +13,7 @@ ghost use Rattle.script_lines.specs.commands.Written.{IsWritten};
 
 mod actions;
 mod changes;
-mod hooks;
+pub mod hooks;
 mod parting;
 pub mod pixels;
 mod resources;

@@ -341,11 +341,7 @@ impl Screen {
             Command::Act { view, act } => self.act(alloc, view, act),
             Command::Text { view, text } => self.set_text(alloc, view, text),
             Command::Disallow { view, on } => self.disallow(view, on),
-            Command::Hook {
-                view,
-                ref edits,
-                bad,
-            } => self.hook(view, edits, bad),
+            Command::Hook { view, edits, bad } => self.hook(view, edits, bad),
             Command::Down { p, x, y } => self.down(p, x, y),
             Command::Move { p, x, y } => self.drag(p, x, y),
             Command::Up(p) => self.up(p),

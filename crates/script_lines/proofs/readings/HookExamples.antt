@@ -15,10 +15,10 @@ use Rattle.script_lines.specs.declared.words.naming.Name.{Name}
 use Rattle.script_lines.specs.declared.words.naming.Name.TheVariants.{Number, Id}
 use Rattle.script_lines.specs.reading.Changes.{change_of, gravity_change_of, insets_of, kids_of, sides_of}
 use Rattle.script_lines.specs.words.Colors.{color_of, last_color}
-use Rattle.script_lines.specs.reading.Commands.{command_by, command_in, command_of}
+use Rattle.script_lines.specs.reading.Commands.{command_by, command_in, command_of, hook_of}
 use Rattle.script_lines.specs.words.Dimensions.{dimension_of, extents_of}
 use Rattle.script_lines.specs.words.Gravities.{across_of, down_of, gravity_of, one_across, one_down, with_word, with_words}
-use Rattle.script_lines.specs.reading.Hooks.{asked_of, begins_edit, begins_line, edit_of, edits_of, hook_of, joined, unmade_of}
+use Rattle.script_lines.specs.reading.Hooks.{asked_of, begins_edit, begins_line, edit_of, edits_of, joined, unmade_of}
 use Rattle.script_lines.specs.words.Names.{hex_digit_of, hex_of, id_of, name_of}
 use Rattle.script_lines.specs.words.Numbers.{integer_of, natural_of, natural_within, pair_of, within_of}
 use Rattle.script_lines.specs.words.Weights.{last_number, weight_of}

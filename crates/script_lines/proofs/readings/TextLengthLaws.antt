@@ -5,11 +5,11 @@ use Rattle.std.specs.List.{prefix_len}
 use Rattle.std.specs.Str.{bytes_eq, is_utf8}
 use Rattle.std.proofs.lemmas.Bool.{cases_lt}
 use Rattle.script_lines.specs.reading.Changes.{act_of}
-use Rattle.script_lines.specs.reading.Commands.{add_of, bounds_of, class_of, command_by, command_in, command_of, digest_of, dpi_of, disallow_of, frame_of, inflate_of, into_of, keep_by, remove_of, set_of, set_text_of, touch_by}
+use Rattle.script_lines.specs.reading.Commands.{add_of, bounds_of, class_of, command_by, command_in, command_of, digest_of, dpi_of, disallow_of, frame_of, inflate_of, into_of, keep_by, remove_of, set_of, set_text_of, touch_by, hook_of}
 use Rattle.script_lines.specs.words.Dimensions.{extents_of}
 use Rattle.script_lines.specs.words.Escapes.{escaped_text_of, has_escapes, rest_of}
 use Rattle.script_lines.specs.words.FileNames.{file_name_in}
-use Rattle.script_lines.specs.reading.Hooks.{edits_of, hook_of}
+use Rattle.script_lines.specs.reading.Hooks.{edits_of}
 use Rattle.script_lines.specs.cutting.Lines.{is_space}
 use Rattle.script_lines.specs.words.Names.{id_in, name_in, parent_in}
 use Rattle.script_lines.specs.words.Numbers.{integer_in, natural_within, pair_of, within_of}

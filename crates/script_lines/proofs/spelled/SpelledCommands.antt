@@ -19,9 +19,8 @@ use Rattle.view_model.specs.declared.kinds.Visibility.TheVariants as visibility
 use Rattle.view_model.specs.declared.placing.Direction.{Direction}
 use Rattle.view_model.specs.declared.placing.Direction.TheVariants.{Inherit, Ltr, Rtl}
 use Rattle.script_lines.specs.reading.Changes.{IsActInBounds, act_of, answer_named, answer_of, change_of, direction_named, direction_of, flag_named, flag_of, new_id_of, orient_of, scroll_of, vertical_of, visibility_of, visible_of}
-use Rattle.script_lines.specs.reading.Commands.{IsInBounds, add_of, bounds_of, class_of, command_by, command_of, digest_of, disallow_of, dpi_of, frame_of, inflate_of, into_of, remove_of, set_of}
+use Rattle.script_lines.specs.reading.Commands.{IsInBounds, add_of, bounds_of, class_of, command_by, command_of, digest_of, disallow_of, dpi_of, frame_of, inflate_of, into_of, remove_of, set_of, hook_of}
 use Rattle.script_lines.specs.words.Numbers.{IsWithin}
-use Rattle.script_lines.specs.reading.Hooks.{hook_of}
 use Rattle.script_lines.specs.reading.Pixels.{IsPart, is_small, part_of, pixels_of}
 use Rattle.script_lines.specs.reading.Rules.{rule_of}
 use Rattle.script_lines.specs.commands.Spelled.{ActHasLine, HasLine, act_head, act_words, change_head, change_words, class_text, edits_words, event_answer_text, extent_text, flag_text, hook_edits, name_text, on_text, parent_text, spelled, touch_words, visibility_text, direction_text}

@@ -14,9 +14,9 @@ use Rattle.view_model.specs.declared.changes.Change.{Change}
 use Rattle.view_model.specs.declared.changes.Change.TheVariants as change
 use Rattle.view_model.specs.Numbers.{max_edits}
 use Rattle.script_lines.specs.reading.Changes.{IsActInBounds, IsChangeInBounds, act_of, change_of, gravity_change_of, new_id_of}
-use Rattle.script_lines.specs.reading.Commands.{IsInBounds, add_of, bounds_of, command_by, command_in, command_of, digest_of, disallow_of, dpi_of, frame_of, inflate_of, into_of, remove_of, set_of, set_text_of}
+use Rattle.script_lines.specs.reading.Commands.{IsInBounds, add_of, bounds_of, command_by, command_in, command_of, digest_of, disallow_of, dpi_of, frame_of, inflate_of, into_of, remove_of, set_of, set_text_of, hook_of}
 use Rattle.script_lines.specs.words.Escapes.{escaped_text_of, has_escapes, rest_of}
-use Rattle.script_lines.specs.reading.Hooks.{asked_in, asked_of, begins_edit, begins_line, edit_of, edit_words, edits_of, hook_of, is_range, is_syntax, is_unmade, joined, line_words, parts_edits, readings_of, unmade_of}
+use Rattle.script_lines.specs.reading.Hooks.{asked_in, asked_of, begins_edit, begins_line, edit_of, edit_words, edits_of, is_range, is_syntax, is_unmade, joined, line_words, parts_edits, readings_of, unmade_of}
 use Rattle.script_lines.specs.words.Names.{id_in}
 use Rattle.script_lines.specs.words.Numbers.{IsWithin}
 use Rattle.script_lines.specs.commands.PlainCommands.{PlainCommand, PlainGiven}

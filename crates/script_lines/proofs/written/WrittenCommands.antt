@@ -10,11 +10,11 @@ use Rattle.view_model.specs.declared.changes.Act.{Act}
 use Rattle.view_model.specs.Numbers.{max_edits}
 use Rattle.script_lines.specs.reading.Changes.{act_of}
 use Rattle.script_lines.specs.words.Colors.{last_color}
-use Rattle.script_lines.specs.reading.Commands.{add_of, bounds_of, class_of, command_by, command_in, command_of, digest_of, disallow_of, dpi_of, frame_of, inflate_of, into_of, keep_by, remove_of, set_of, set_text_of, touch_by}
+use Rattle.script_lines.specs.reading.Commands.{add_of, bounds_of, class_of, command_by, command_in, command_of, digest_of, disallow_of, dpi_of, frame_of, inflate_of, into_of, keep_by, remove_of, set_of, set_text_of, touch_by, hook_of}
 use Rattle.script_lines.specs.words.Dimensions.{extents_of}
 use Rattle.script_lines.specs.words.Escapes.{escaped_text_of, has_escapes, rest_of}
 use Rattle.script_lines.specs.words.FileNames.{file_name_in}
-use Rattle.script_lines.specs.reading.Hooks.{edits_of, hook_of, parts_edits}
+use Rattle.script_lines.specs.reading.Hooks.{edits_of, parts_edits}
 use Rattle.script_lines.specs.words.Names.{id_in, name_in, parent_in}
 use Rattle.script_lines.specs.words.Numbers.{IsWithin, integer_in, natural_within, pair_of, within_of}
 use Rattle.script_lines.specs.reading.Pixels.{is_small, part_of, pixels_of}

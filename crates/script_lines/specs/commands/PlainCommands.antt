@@ -9,6 +9,7 @@ use Rattle.script_lines.specs.declared.commands.Command.TheVariants as command
 use Rattle.script_lines.specs.declared.commands.Given.{Given}
 use Rattle.script_lines.specs.declared.commands.Given.TheVariants as given
 use Rattle.script_lines.specs.declared.words.naming.Name.{Name}
+use Rattle.script_lines.specs.reading.Hooks.{edits_written}
 
 -- what a line gives a resource: a colour, the word of a dimension, or a text with its escapes as written
 pub data PlainGiven : Type 0 where
@@ -54,7 +55,7 @@ plain_command (command.Remove view) = Remove view
 plain_command (command.Act view act) = Act view act
 plain_command (command.Text view text) = SetText view text.now
 plain_command (command.Disallow view on) = Disallow view on
-plain_command (command.Hook view edits bad) = Hook view edits.items bad
+plain_command (command.Hook view edits bad) = Hook view (edits_written edits.now) bad
 plain_command (command.Down p x y) = Down p x y
 plain_command (command.Move p x y) = Move p x y
 plain_command (command.Up p) = Up p

@@ -10,7 +10,7 @@ use Rattle.script_lines.specs.reading.Changes.{IsActInBounds, IsChangeInBounds, 
 use Rattle.script_lines.specs.words.Dimensions.{IsExtent, extents_of}
 use Rattle.script_lines.specs.words.Escapes.{has_escapes, rest_of}
 use Rattle.script_lines.specs.words.FileNames.{file_name_in, is_file_name}
-use Rattle.script_lines.specs.reading.Hooks.{hook_of}
+use Rattle.script_lines.specs.reading.Hooks.{edits_of}
 use Rattle.script_lines.specs.words.Names.{name_in, parent_in}
 use Rattle.script_lines.specs.declared.words.naming.Name.{Name}
 use Rattle.script_lines.specs.words.Numbers.{IsWithin, integer_in, natural_within, pair_of}
@@ -114,6 +114,12 @@ unfoldable pub set_text_of : List ℕ → Result PlainCommand LineFault
 set_text_of rest = do
   view ← name_in (words rest)
   map_ok (SetText view.0) (rest_of (after_word rest))
+
+-- `V E ; E ..`, a view, and one edit or more that are made once it has another size
+unfoldable pub hook_of : List (List ℕ) → Result PlainCommand LineFault
+hook_of words = do
+  view ← name_in words
+  map_ok (λ edits. Hook view.0 edits.0 edits.1) (edits_of view.1)
 
 -- a line that saves, restores, arms a hook or sets something of a view, by its first word and the words after it
 abbrev pub keep_by : List ℕ → List (List ℕ) → Result PlainCommand LineFault

@@ -6,8 +6,7 @@ use Rattle.std.specs.Str.{bytes_eq}
 use Rattle.view_model.specs.Numbers.{max_edits}
 use Rattle.script_lines.specs.reading.Changes.{change_of}
 use Rattle.script_lines.specs.words.Names.{name_in}
-use Rattle.script_lines.specs.commands.PlainCommands.{PlainCommand, Hook}
-use Rattle.script_lines.specs.words.Words.{◌>>=◌, map_ok, word_in}
+use Rattle.script_lines.specs.words.Words.{◌>>=◌, map_ok, word_in, words}
 use Rattle.script_lines.specs.declared.commands.Asked.{Asked}
 use Rattle.script_lines.specs.declared.fault.LineFault.{LineFault}
 use Rattle.script_lines.specs.declared.fault.LineFault.TheVariants.{Syntax, Range}
@@ -92,8 +91,11 @@ joined readings =
 unfoldable pub edits_of : List (List ℕ) → Result (List Asked × Bool) LineFault
 edits_of words = joined (readings_of max_edits (slice_split parts_edits words))
 
--- `V E ; E ..`
-unfoldable pub hook_of : List (List ℕ) → Result PlainCommand LineFault
-hook_of words = do
-  view ← name_in words
-  map_ok (λ edits. Hook view.0 edits.0 edits.1) (edits_of view.1)
+-- the edits that these words give, none if a fault is among them
+abbrev pub edits_given : Result (List Asked × Bool) LineFault → List Asked
+edits_given (Ok edits) = edits.0
+edits_given (Err fault) = []
+
+-- the edits of a hook by the text of its line after the view
+unfoldable pub edits_written : List ℕ → List Asked
+edits_written text = edits_given (edits_of (words text))

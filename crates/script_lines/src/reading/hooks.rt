@@ -5,9 +5,9 @@ ghost use Rattle.std.specs.List.{All, list_any};
 ghost use Rattle.std.specs.Str.{bytes_eq};
 ghost use Rattle.arrayvec.specs.ArrayVec.{array_vec_len};
 ghost use Rattle.script_lines.specs.reading.Changes.{IsChangeInBounds};
-ghost use Rattle.script_lines.specs.reading.Commands.{IsInBounds};
+ghost use Rattle.script_lines.specs.reading.Commands.{IsInBounds, hook_of};
 ghost use Rattle.script_lines.specs.reading.Gathered.{following, edits_after, edits_in, reading_of};
-ghost use Rattle.script_lines.specs.reading.Hooks.{asked_of, begins_edit, begins_line, edit_of, edits_of, hook_of, unmade_of};
+ghost use Rattle.script_lines.specs.reading.Hooks.{asked_of, begins_edit, begins_line, edit_of, edits_of, edits_written, unmade_of};
 ghost use Rattle.script_lines.specs.commands.PlainCommands.{plain_command};
 ghost use Rattle.script_lines.specs.words.Words.{map_ok, words};
 ghost use Rattle.view_model.specs.Numbers.{max_edits};
@@ -208,9 +208,10 @@ fn gather(bytes: &[u8]) -> Result<Gathered, LineFault>
     Ok(gathered)
 }
 
-/// Arms the hook of a view. Its edits take much room, so it is a call of its own in the reading of any line.
+/// Arms the hook of a view. Its edits are read here for their faults, and again where the hook is armed: a command that
+/// held them would be seven times as large, and each line would pay for it.
 #[inline(never)]
-#[tactic(auto, unfolding(crate::specs::reading::Hooks::hook_of), using(crate::proofs::readings::HookLaws::edits_end))]
+#[tactic(auto, unfolding(crate::specs::reading::Commands::hook_of, crate::specs::reading::Hooks::edits_written), using(crate::proofs::readings::HookLaws::edits_end))]
 pub fn hook(bytes: &[u8]) -> Result<Command<'_>, LineFault>
     ensures value { map_ok plain_command result ≡ hook_of (words bytes.now) }
     ensures bounds { IfOk result (λ command. IsInBounds (plain_command command)) }
@@ -222,7 +223,19 @@ pub fn hook(bytes: &[u8]) -> Result<Command<'_>, LineFault>
     }
     Ok(Command::Hook {
         view,
-        edits: gathered.edits,
+        edits: rest,
         bad: gathered.bad,
     })
+}
+
+/// The edits of a hook by the text that `Command::Hook` has of them; none if that text gives none.
+#[inline(never)]
+#[tactic(auto, unfolding(crate::specs::reading::Hooks::edits_written), using(crate::proofs::readings::HookLaws::edits_end))]
+pub fn edits_written(text: &[u8]) -> ArrayVec<Asked, MAX_EDITS>
+    ensures { result.items ≡ edits_written text.now }
+{
+    match gather(text) {
+        Ok(gathered) if !gathered.range => gathered.edits,
+        Ok(_) | Err(_) => ArrayVec::new(),
+    }
 }

@@ -1,6 +1,7 @@
 //! Lines that arm hooks.
 ghost use Rattle.std.specs.Prelude.{◌≡◌, ◌≢◌, [], Err, OnErr, OnOk};
 ghost use Rattle.script_lines.specs.commands.PlainCommands.{Hook};
+ghost use Rattle.script_lines.specs.reading.Hooks.{edits_written};
 ghost use Rattle.view_tree.specs.Views.{IsLive, number_of};
 ghost use Rattle.view_world.specs.screen.Changed.{CarriesOut};
 ghost use Rattle.view_world.specs.screen.KeyedScreen.{world_of};
@@ -14,27 +15,30 @@ use crate::editing::naming::{recall_tree, resolve};
 use crate::fault::StepFault;
 use crate::replying::response::Response;
 use arrayvec::ArrayVec;
-use script_lines::{Asked, Name};
+use script_lines::{Name, edits_written};
 use view_model::limits::MAX_EDITS;
 use view_model::refusals::{HOOK_EDIT, HOOKS, NO_VIEW, WRONG_CLASS};
 use view_model::{NumEdit, Refusal};
 use view_tree::Key;
 
 impl Screen {
-    /// Arms the hook of a view. If `bad`, more is asked of it than a hook may do.
+    /// Arms the hook of a view, with the edits of this text. If `bad`, more is asked of it than a hook may do.
+    #[inline(never)]
     pub(super) fn hook(
         &mut self,
         view: Name,
-        asked: &ArrayVec<Asked, MAX_EDITS>,
+        edits: &[u8],
         bad: bool,
     ) -> Result<Response, StepFault>
-        ensures changed { CarriesOut (step [] (world_of self.old) (Hook view asked.now.items bad)) self.new result }
+        ensures changed { CarriesOut
+            (step [] (world_of self.old) (Hook view (edits_written edits.now) bad)) self.new result }
         ensures unchanged { OnErr result (self.new ≡ self.old) }
         ensures memory { result ≢ Err StepFault.NoMemory }
         ensures numbers { self.new.views.next ≡ self.old.views.next }
-        ensures keeps { OnOk result (KeepsLine (Hook view asked.now.items bad) self.old self.new) }
+        ensures keeps { OnOk result (KeepsLine (Hook view (edits_written edits.now) bad) self.old self.new) }
     {
         let view = resolve(&self.tree, view)?;
+        let asked = edits_written(edits);
         let Some(edits) = numbered_edits(&self.tree, asked.as_slice()) else {
             return Err(StepFault::Refused(Refusal::plain(NO_VIEW)));
         };
