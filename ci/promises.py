@@ -198,7 +198,7 @@ def sentences() -> Dict[str, str]:
 
 
 def unfit(found: Dict[str, str], short: Dict[str, str]) -> List[str]:
-    """What is wrong where functions have these sentences, and the page these short ones in place of what does not fit."""
+    """What is wrong where functions have these sentences, and the page these short ones for what does not fit."""
     unfitting = {name for name, sentence in found.items() if not fits(sentence)}
     wrong = ["%s has no sentence" % name for name, sentence in found.items() if not sentence]
     wrong += ["%s has a sentence that does not fit, and no short one" % name for name in sorted(unfitting - set(short))]

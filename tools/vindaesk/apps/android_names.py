@@ -59,8 +59,8 @@ def of_classes(word: str) -> str:
         return ""
     said = next((plain(by_tool) for _, _, by_tool in rows_of(word.rpartition(".")[2])), "its bounds are exact")
     how = "approximated: " + row.why if row.why else MAPPED.get(said, said)
-    return "The class %s is none of the program's six, %s: refused, 23 UnknownClass. tools/app makes a %s of it; %s.\n" % (
-        word, ", ".join(SIX), row.kind, how)
+    return ("The class %s is none of the program's six, %s: refused, 23 UnknownClass. tools/app makes a %s of it; "
+            "%s.\n" % (word, ", ".join(SIX), row.kind, how))
 
 
 def of_attributes(word: str) -> str:
@@ -85,8 +85,8 @@ def names() -> Set[str]:
 
 
 def explained(word: str) -> str:
-    """What there is to say of a name of Android; nothing where it is none. A class may have its package, an attribute its
-    prefix, and a resource its name."""
+    """What there is to say of a name of Android; nothing where it is none. A class may have its package, an attribute
+    its prefix, and a resource its name."""
     name = kind_of(word)
     found = of_classes(name) or of_page(name) or of_attributes(name)
     return found + "%s has more.\n" % PAGE if found else ""
