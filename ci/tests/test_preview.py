@@ -3,6 +3,7 @@ import os
 import pathlib
 import shutil
 import threading
+import time
 from typing import Any, Iterator, List, Tuple
 
 import pytest
@@ -13,12 +14,22 @@ from vindaesk.preview.subjects import AppSubject
 TOP = os.path.dirname(os.path.dirname(os.path.dirname(os.path.realpath(__file__))))
 SCRIPT = "window 20 20\nadd root View match match\nid v1 @7f080001\nframe\n"
 WAIT = 30
+# what has a later time has changed in a test
+RECENT = time.time_ns() - 3_600_000_000_000
+
+
+def age(top: pathlib.Path, number: int) -> None:
+    """Has what has changed just now a time that is long ago, another one for each number."""
+    for path in [top, *top.rglob("*")]:
+        if path.stat().st_mtime_ns >= RECENT:
+            os.utime(path, (number, number))
 
 
 @pytest.fixture
 def home(tmp_path: pathlib.Path) -> Iterator[Tuple[AppSubject, pathlib.Path]]:
     """A layout of the source of an app, with the folder of its resources."""
     shutil.copytree(os.path.join(TOP, "examples", "trips", "res"), tmp_path / "res")
+    age(tmp_path, 1)
     found = subjects.subject([str(tmp_path)], ["home"])
     assert isinstance(found, AppSubject)
     yield found, tmp_path / "res"
@@ -59,9 +70,11 @@ def test_an_app_is_opened_again_where_its_resources_change(home: Tuple[AppSubjec
     def gone() -> None:
         (res / "layout" / "second.xml").unlink()
 
-    for change in (value, new_id, new_file, gone):
+    changes = [value, new_id, new_file, gone]
+    for change in changes:
         opened = subject.opened
         change()
+        age(res.parent, 2 + changes.index(change))
         subject.load()
         assert subject.opened is not opened, change.__name__
     assert "second" not in subject.opened.layouts(subjects.device()) if subject.opened else False

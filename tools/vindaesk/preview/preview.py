@@ -211,7 +211,7 @@ class Preview:
             self.changed.notify_all()
 
     def complete(self, name: str) -> None:
-        """Has a configuration its views and the values in its files, which nobody has to wait for."""
+        """Puts the views, and the values in the files, into what a configuration shows."""
         shown, messages = self.shown[name], []
         try:
             if shown.layout is not None and not shown.is_whole:
