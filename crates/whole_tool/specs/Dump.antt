@@ -1,17 +1,18 @@
 -- What the tool writes of a file: the text of its document, or why it is refused.
-use Rattle.std.specs.Prelude.{◌≡◌, ℕ, nat_lt, Bool, true, false, if◌then◌else◌, List, length, Option, Some, None}
-use Rattle.std.specs.Prelude.{Result, Ok, Err, codes, decimal}
+use Rattle.std.specs.Prelude.{◌≡◌, ◌==◌, ℕ, nat_lt, Bool, true, false, if◌then◌else◌, List, [], ◌∷◌, length, Option}
+use Rattle.std.specs.Prelude.{Some, None, Result, Ok, Err, codes, decimal}
 use Rattle.axml_chunks.specs.Causes.{cause_number}
 use Rattle.axml_chunks.specs.declared.fault.Fault.{Fault}
 use Rattle.axml_reader.specs.Decoding.{decoded}
 use Rattle.axml_reader.specs.Document.{Document}
 use Rattle.axml_reader.specs.Dump.{dump_text}
 use Rattle.text_lines.specs.Joined.{◌⧺◌}
+use Rattle.tool_io.specs.Counts.{raised}
 use Rattle.tool_io.specs.Fetched.{Files, file_of}
 use Rattle.tool_io.specs.SinkState.{SinkState}
 use Rattle.whole_tool.specs.Numbers.{long_file, max_file, missing_file}
 use Rattle.whole_tool.specs.Refusals.{refused_text}
-use Rattle.whole_tool.specs.Tool.{IsComplete, Writes}
+use Rattle.whole_tool.specs.Tool.{IsComplete, IsOneOf, Writes}
 
 -- a file that is refused, by the number of the refusal
 unfoldable pub refused_file_text : ℕ → List ℕ
@@ -52,6 +53,12 @@ refuses_file files name = is_refused_file (file_of files name)
 pub record Dumps (page : List ℕ) (refused : Bool) (before after : SinkState) (status : ℕ) : Type 0 where
   pub writes : Writes status before.gone after.gone page
   pub ended : IsComplete status → status ≡ (if refused then 1 else 0)
+
+-- how a call that writes one text left its sink, by its status. `SameSink` says that the sink is as it was.
+pub record LeavesSink (before after : SinkState) (status : ℕ) (SameSink : Type 0) : Type 0 where
+  pub known : IsOneOf status (0 ∷ 1 ∷ 4 ∷ 5 ∷ [])
+  pub nothing_written : status ≡ 5 → SameSink
+  pub sink_failed : after.faults ≡ (if status == 4 then raised before.faults else before.faults)
 
 -- the status of a text that was delivered so, or of one that was not
 abbrev pub status_of_text : {E : Type 0} → ℕ → Result (Unit {0}) E → ℕ

@@ -6,7 +6,7 @@ ghost use Rattle.tool_io.specs.Counts.{raised};
 ghost use Rattle.tool_io.specs.Fetched.{Fetched, Files};
 ghost use Rattle.tool_io.specs.Fetches.{with_fetch};
 ghost use Rattle.view_world.specs.world.Carried.{layout_fetch};
-ghost use Rattle.whole_tool.specs.Dump.{Dumps, decoded_text, dump_page, is_fault, refuses_file, status_of_text};
+ghost use Rattle.whole_tool.specs.Dump.{Dumps, LeavesSink, decoded_text, dump_page, is_fault, refuses_file, status_of_text};
 ghost use Rattle.whole_tool.specs.Numbers.{max_file};
 ghost use Rattle.whole_tool.specs.Tool.{IsOneOf};
 
@@ -47,10 +47,7 @@ fn dump_found<K: Sink>(alloc: Global, found: Found, bytes: &[u8], sink: &mut K) 
     ensures dumps { (files : Files) (name : List ℕ)
         → Fetched files name max_file found bytes.now
         → Dumps (dump_page files name) (refuses_file files name) (K.state sink.old) (K.state sink.new) result }
-    ensures known { IsOneOf result (0 ∷ 1 ∷ 4 ∷ 5 ∷ []) }
-    ensures nothing_written { result ≡ 5 → sink.new ≡ sink.old }
-    ensures sink_failed { (K.state sink.new).faults
-        ≡ (if result == 4 then raised (K.state sink.old).faults else (K.state sink.old).faults) }
+    ensures sink { LeavesSink (K.state sink.old) (K.state sink.new) result (sink.new ≡ sink.old) }
 {
     match found {
         Found::Whole => dump_bytes(alloc, bytes, sink),
@@ -63,10 +60,7 @@ fn dump_found<K: Sink>(alloc: Global, found: Found, bytes: &[u8], sink: &mut K) 
 fn dump_bytes<K: Sink>(alloc: Global, bytes: &[u8], sink: &mut K) -> u8
     ensures dumps { Dumps (decoded_text (decoded bytes.now)) (is_fault (decoded bytes.now))
         (K.state sink.old) (K.state sink.new) result }
-    ensures known { IsOneOf result (0 ∷ 1 ∷ 4 ∷ 5 ∷ []) }
-    ensures nothing_written { result ≡ 5 → sink.new ≡ sink.old }
-    ensures sink_failed { (K.state sink.new).faults
-        ≡ (if result == 4 then raised (K.state sink.old).faults else (K.state sink.old).faults) }
+    ensures sink { LeavesSink (K.state sink.old) (K.state sink.new) result (sink.new ≡ sink.old) }
 {
     match read(alloc, bytes) {
         Ok(doc) => status_of(ACCEPTED, print(&doc, sink)),

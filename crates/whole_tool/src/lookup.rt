@@ -8,7 +8,7 @@ ghost use Rattle.text_lines.specs.Delivered.{Delivered};
 ghost use Rattle.tool_io.specs.Counts.{raised};
 ghost use Rattle.tool_io.specs.Fetched.{Fetched, Files};
 ghost use Rattle.tool_io.specs.Fetches.{with_fetch};
-ghost use Rattle.whole_tool.specs.Dump.{Dumps};
+ghost use Rattle.whole_tool.specs.Dump.{Dumps, LeavesSink};
 ghost use Rattle.whole_tool.specs.Lookup.{is_broken, lookup_page, looked_up, max_table, refuses_table, table_fetch};
 ghost use Rattle.whole_tool.specs.Tool.{IsOneOf};
 ghost use Rattle.whole_tool.specs.Usage.{resource_ids};
@@ -69,10 +69,7 @@ fn lookup_found<K: Sink>(
         → Fetched files name max_table found bytes.now
         → Dumps (lookup_page files name (resource_ids ids.now)) (refuses_table files name)
         (K.state sink.old) (K.state sink.new) result }
-    ensures known { IsOneOf result (0 ∷ 1 ∷ 4 ∷ 5 ∷ []) }
-    ensures nothing_written { result ≡ 5 → sink.new ≡ sink.old }
-    ensures sink_failed { (K.state sink.new).faults
-        ≡ (if result == 4 then raised (K.state sink.old).faults else (K.state sink.old).faults) }
+    ensures sink { LeavesSink (K.state sink.old) (K.state sink.new) result (sink.new ≡ sink.old) }
 {
     match found {
         Found::Whole => lookup_bytes(alloc, bytes, ids, sink),
@@ -85,10 +82,7 @@ fn lookup_found<K: Sink>(
 fn lookup_bytes<K: Sink>(alloc: Global, bytes: &[u8], ids: &[String], sink: &mut K) -> u8
     ensures looks_up { Dumps (looked_up (resource_ids ids.now) (table_of bytes.now)) (is_broken (table_of bytes.now))
         (K.state sink.old) (K.state sink.new) result }
-    ensures known { IsOneOf result (0 ∷ 1 ∷ 4 ∷ 5 ∷ []) }
-    ensures nothing_written { result ≡ 5 → sink.new ≡ sink.old }
-    ensures sink_failed { (K.state sink.new).faults
-        ≡ (if result == 4 then raised (K.state sink.old).faults else (K.state sink.old).faults) }
+    ensures sink { LeavesSink (K.state sink.old) (K.state sink.new) result (sink.new ≡ sink.old) }
 {
     match Table::read(alloc, bytes) {
         Ok(table) => status_of(ACCEPTED, write_values(&table, ids, sink)),

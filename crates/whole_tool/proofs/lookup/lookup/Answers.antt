@@ -11,17 +11,17 @@ returns-in-Ok-clause-looks_up g c files reported =
 
 pub returns-in-Ok-clause-nothing_written : goal.returns-in-Ok-clause-nothing_written
 returns-in-Ok-clause-nothing_written g c h = elim h [
-  | inl e ↦ c.lookup_found.ensures.nothing_written e
-  | inr e ↦ absurd (not_status c.lookup_found.result 6 (0 ∷ 1 ∷ 4 ∷ 5 ∷ []) c.lookup_found.ensures.known refl e)
+  | inl e ↦ c.lookup_found.ensures.sink.nothing_written e
+  | inr e ↦ absurd (not_status c.lookup_found.result 6 (0 ∷ 1 ∷ 4 ∷ 5 ∷ []) c.lookup_found.ensures.sink.known refl e)
 ]
 
 pub returns-in-Ok-clause-sink_failed : goal.returns-in-Ok-clause-sink_failed
-returns-in-Ok-clause-sink_failed g c = c.lookup_found.ensures.sink_failed
+returns-in-Ok-clause-sink_failed g c = c.lookup_found.ensures.sink.sink_failed
 
 pub returns-in-Ok-clause-shelf_failed : goal.returns-in-Ok-clause-shelf_failed
 returns-in-Ok-clause-shelf_failed g c = λ _.
     let before = g.F.Shelf.faults c.args.shelf.now in
-    c.in-Ok.ensures.counted ∙ sym (other_status c.lookup_found.result 6 (0 ∷ 1 ∷ 4 ∷ 5 ∷ []) (raised before) before c.lookup_found.ensures.known refl)
+    c.in-Ok.ensures.counted ∙ sym (other_status c.lookup_found.result 6 (0 ∷ 1 ∷ 4 ∷ 5 ∷ []) (raised before) before c.lookup_found.ensures.sink.known refl)
 
 pub returns-in-Err-Failed-clause-shelf_later : goal.returns-in-Err-Failed-clause-shelf_later
 returns-in-Err-Failed-clause-shelf_later g c = failed_later _ _ c.in-Err-Failed.field-0 c.in-Err-Failed.ensures.counted
