@@ -18,8 +18,7 @@ from tools import EXAMPLES, Place, place
 from vindaesk.pictures import png
 from vindaesk.preview import watcher
 
-# from a saved file to the picture of 200 views, in seconds: by the clock, and of processor time; and how many times that
-# is tried
+# from a saved file to the picture of 200 views, in seconds: by the clock, and of processor time; how often it is tried
 MOST, MOST_WORK = 0.150, 0.075
 TRIES = 5
 # numbers that are added up to see how slow the machine is, and how long that takes on one that does nothing else

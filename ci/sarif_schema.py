@@ -28,7 +28,8 @@ def structs_in(text: str) -> Dict[str, Struct]:
     for name, body in STRUCT.findall(text):
         fields = FIELD.findall(body)
         plain = "sarifLog" if name == "Sarif" else name[0].lower() + name[1:]
-        found[plain] = Struct({key: kind for kind, key, _ in fields}, [key for _, key, is_free in fields if not is_free])
+        required = [key for _, key, is_free in fields if not is_free]
+        found[plain] = Struct({key: kind for kind, key, _ in fields}, required)
     return found
 
 

@@ -18,10 +18,10 @@ SIBLING_RULES = tuple(name for name, form in OF_PARENTS.items() if form is known
 PARENT_RULES = tuple(name for name, form in OF_PARENTS.items() if form is known.BOOLEAN)
 TABLE_PARENTS = ("TableLayout", "TableRow")
 LINES = ("LinearLayout", *TABLE_PARENTS)
-MARGINS = keys_of("layout_margin layout_marginLeft layout_marginTop layout_marginRight layout_marginBottom layout_marginStart "
-                  "layout_marginEnd layout_marginHorizontal layout_marginVertical")
-PADDINGS = keys_of("padding paddingLeft paddingTop paddingRight paddingBottom paddingHorizontal paddingVertical paddingStart "
-                   "paddingEnd")
+MARGINS = keys_of("layout_margin layout_marginLeft layout_marginTop layout_marginRight layout_marginBottom "
+                  "layout_marginStart layout_marginEnd layout_marginHorizontal layout_marginVertical")
+PADDINGS = keys_of("padding paddingLeft paddingTop paddingRight paddingBottom paddingHorizontal paddingVertical "
+                   "paddingStart paddingEnd")
 # the API level from which on an attribute is read
 NEW = {"paddingHorizontal": 26, "paddingVertical": 26, "layout_marginHorizontal": 26, "layout_marginVertical": 26}
 

@@ -102,7 +102,7 @@ def is_source(path: str) -> bool:
 
 
 def names_in(body: bytes) -> List[Tuple[str, str]]:
-    """The types and names of which a file makes ids: ids of views, and attributes of the theme that only it may name."""
+    """The types and names of which a file makes ids: ids of views, and attributes of the theme."""
     return [(kind, name.decode("ascii", "replace")) for kind, pattern in (("id", NEW_ID), ("attr", THEMED))
             for name in pattern.findall(body)]
 
