@@ -679,6 +679,7 @@ def is_used_by_keys(browser: chromium.Browser) -> str:
     browser.press("Enter")
     browser.value("document.getElementById('tap').click()")
     browser.until("live && document.querySelectorAll('#log .taken').length >= 2")
+    browser.until("document.querySelector('#configurations [value=landscape]') !== null")
     browser.value("document.querySelector('#configurations [value=landscape]').click()")
     browser.until("state.name === 'landscape' && state.window[0] === 640 && !live")
     browser.value("document.querySelector('#configurations [value=as-it-is]').click()")

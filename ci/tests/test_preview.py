@@ -10,6 +10,7 @@ import pytest
 from vindaesk.preview import drawing, preview, subjects
 from vindaesk.preview.preview import Preview
 from vindaesk.preview.subjects import AppSubject
+from vindaesk.resources.devices import device
 
 TOP = os.path.dirname(os.path.dirname(os.path.dirname(os.path.realpath(__file__))))
 SCRIPT = "window 20 20\nadd root View match match\nid v1 @7f080001\nframe\n"
@@ -77,7 +78,7 @@ def test_an_app_is_opened_again_where_its_resources_change(home: Tuple[AppSubjec
         age(res.parent, 2 + changes.index(change))
         subject.load()
         assert subject.opened is not opened, change.__name__
-    assert "second" not in subject.opened.layouts(subjects.device()) if subject.opened else False
+    assert "second" not in subject.opened.layouts(device()) if subject.opened else False
 
 
 def test_the_picture_comes_before_the_views(tmp_path: pathlib.Path, monkeypatch: Any) -> None:
