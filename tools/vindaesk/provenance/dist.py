@@ -1,5 +1,5 @@
-"""The folder dist/: the program and the libraries of C of a release as their proof built them, SHA256SUMS, and
-PROVENANCE, which says of which sources they are.
+"""The folder dist/: the program, the libraries of C and the WebAssembly module of a release as their proof built them,
+SHA256SUMS, and PROVENANCE, which says of which sources they are.
 
 PROVENANCE has lines of a word and a value:
 
@@ -26,6 +26,7 @@ FOLDER = os.path.join(TOP, "dist")
 PROGRAM = os.path.join(FOLDER, "view_tool")
 # the shared library of C, whose name has the version of its interface, and the static one
 LIBRARY, ARCHIVE = "libvindaesk.so.0", "libvindaesk.a"
+MODULE = "vindaesk.wasm"
 SUMS = os.path.join(FOLDER, "SHA256SUMS")
 PROVENANCE = os.path.join(FOLDER, "PROVENANCE")
 NEEDED = ("PROVENANCE", "view_tool")
@@ -73,7 +74,7 @@ def is_of_commit(wanted: dict[str, list[str]]) -> bool:
 
 def summed() -> list[str]:
     """The files that SHA256SUMS lists."""
-    return sorted([*NEEDED, *(it for it in (ARCHIVE, LIBRARY) if os.path.exists(os.path.join(FOLDER, it)))])
+    return sorted([*NEEDED, *(it for it in (ARCHIVE, LIBRARY, MODULE) if os.path.exists(os.path.join(FOLDER, it)))])
 
 
 def sums() -> str:

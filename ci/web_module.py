@@ -1,0 +1,137 @@
+"""The WebAssembly module: in Node and in Chromium it gives the bytes and the status of the program over each worked call,
+each worked script line by line too, and its memory does not grow with its calls.
+
+The module is that of dist/, or the one that the variable VINDAESK_WASM names; without it these checks are skipped.
+"""
+import base64
+import json
+import os
+import subprocess
+import tempfile
+from functools import partial
+from typing import Callable, Dict, List, Tuple, cast
+
+import chromium
+import native
+from running import PROGRAM, SECONDS, TOP, Checks, Skipped, difference, need, run
+from vindaesk.common import files
+from vindaesk.program import in_process
+from vindaesk.program.native import Answer
+from vindaesk.provenance import dist
+
+LOADER, CALLS = os.path.join(TOP, "bindings", "web", "vindaesk.mjs"), os.path.join(TOP, "ci", "web_calls.mjs")
+# Node before 24 has memories of 64 bits where it is told so
+FLAG = "--experimental-wasm-memory64"
+# how often a call is made before and after its memory is looked at
+REPEATED = 300
+
+Call = Dict[str, object]
+
+
+def module() -> str:
+    """The path of the module."""
+    path = os.environ.get("VINDAESK_WASM") or os.path.join(dist.FOLDER, dist.MODULE)
+    if not os.path.exists(path):
+        raise Skipped(path)
+    return path
+
+
+def text(data: bytes) -> str:
+    return base64.b64encode(data).decode()
+
+
+def worked() -> List[Tuple[native.Call, Call]]:
+    """Each worked call, and each script line by line."""
+    found = []
+    for words, script, folder in native.worked():
+        asked = in_process.asked_of(native.loaded(), words, script)
+        held = in_process.contents_of(asked.names, folder, asked.limit) if asked else None
+        assert held is not None
+        packed = {name.decode(): text(it) for name, it in held.items()}
+        call: Call = {"words": words, "script": text(script), "files": packed}
+        found.append(((words, script, folder), call))
+        if words == ["run"]:
+            found.append(((words, script + b"\n", folder), {**call, "words": ["lines"]}))
+    return found
+
+
+def in_node(script: str, given: object) -> object:
+    """What a script in Node prints as JSON, which finds the class as `Vindaesk`, the module's bytes as `bytes` and what is
+    given as `given`."""
+    version = subprocess.run([need("node"), "--version"], stdout=subprocess.PIPE, check=True).stdout.decode()
+    flags = [FLAG] if int(version[1:].split(".")[0]) < 24 else []
+    begin = """
+        import { readFileSync } from "node:fs";
+        import { Vindaesk } from %s;
+        import { answers } from %s;
+        const vindaesk = await Vindaesk.load(readFileSync(%s)), given = JSON.parse(readFileSync(0, "utf8"));
+    """ % tuple(map(json.dumps, (LOADER, CALLS, module())))
+    words = ["node", *flags, "--no-warnings", "--input-type=module", "-e", begin + "console.log(JSON.stringify(%s));" % script]
+    ended = subprocess.run(words, input=json.dumps(given).encode(), stdout=subprocess.PIPE, timeout=4 * SECONDS, check=True)
+    return json.loads(ended.stdout.decode())
+
+
+def by_node(calls: List[Call]) -> List[Answer]:
+    """What the module answers in Node."""
+    found = cast(List[Tuple[str, int]], in_node("answers(vindaesk, given)", calls))
+    return [(base64.b64decode(page), status) for page, status in found]
+
+
+def by_chromium(calls: List[Call]) -> List[Answer]:
+    """What the module answers in a page of Chromium."""
+    if not chromium.COMMAND:
+        raise Skipped("chromium")
+    parts = (files.read(LOADER).decode(), files.read(CALLS).decode(), json.dumps(text(files.read(module()))), json.dumps(calls))
+    page = """<!DOCTYPE html><script type="module">%s\n%s
+        const bytes = Uint8Array.from(atob(%s), (it) => it.charCodeAt(0));
+        const report = (it) => { window.found = JSON.stringify(it); };
+        Vindaesk.load(bytes).then((it) => report(answers(it, %s))).catch((it) => report(String(it)));
+    </script>""" % tuple(it.replace("</", "<\\/") for it in parts)
+    with tempfile.TemporaryDirectory() as place, chromium.Browser(400, 300) as browser:
+        path = os.path.join(place, "page.html")
+        files.replace(path, page.encode())
+        browser.open(path)
+        browser.until("window.found")
+        found = json.loads(browser.value("window.found"))
+    if isinstance(found, str):
+        raise AssertionError(found)
+    return [(base64.b64decode(page), status) for page, status in found]
+
+
+def same_bytes(answered: Callable[[List[Call]], List[Answer]]) -> str:
+    """Why the module's answer to a worked call is not the program's, or nothing."""
+    calls = worked()
+    for ((words, script, folder), call), answer in zip(calls, answered([call for _, call in calls])):
+        why = difference(*run([PROGRAM, *words], script, folder), *answer)
+        if why:
+            return "%s over %r: %s" % (call["words"], script[:60], why)
+    return "" if len(calls) > 200 else "there are only %d calls" % len(calls)
+
+
+def memory_stays() -> str:
+    """Why the module's memory grows with its calls, or nothing."""
+    calls = [call for _, call in worked()]
+    before, after = cast(List[int], in_node("""(() => {
+        const sizes = [];
+        for (let times = 0; times < 2; times++) {
+            for (let count = 0; count < %d; count++) answers(vindaesk, [given[count %% given.length]]);
+            sizes.push(vindaesk.exports.memory.buffer.byteLength);
+        }
+        return sizes;
+    })()""" % REPEATED, calls))
+    return "" if after <= before else "%d bytes after %d calls, %d after as many more" % (before, REPEATED, after)
+
+
+def statuses() -> str:
+    """Statuses that no worked call has."""
+    calls: List[Call] = [{"words": words, "script": text(script), "files": {}} for words, script in (
+        (["dump", ".a"], b""), (["run"], b"#\n" * (1 << 23) + b"#"), (["focus", "in", "v1"], b""), (["lookup", "a", *[]], b""))]
+    found = by_node(calls)
+    return "" if found == [(b"", 2), (b"", 7), (b"", 2), (b"", 2)] else str(found)
+
+
+def checks() -> Checks:
+    yield "web module/Node gives the bytes of the program", partial(same_bytes, by_node)
+    yield "web module/Chromium gives the bytes of the program", partial(same_bytes, by_chromium)
+    yield "web module/statuses", statuses
+    yield "web module/memory stays", memory_stays
