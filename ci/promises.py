@@ -77,6 +77,7 @@ SHORT = {
     "saved_state::read": "Reads a saved state, or reports its first wrong byte.",
     "saved_state::restore": "Sets the saved offsets and texts of a tree's views.",
     "saved_state::save": "The bytes of the offsets and texts of views with ids.",
+    "script_lines::edits_written": "The edits of a hook by the text that its command has.",
     "seen_parts::part_seen": "What is seen of a view in a rectangle of a canvas.",
     "seen_parts::children_canvas": "The canvas of a view's children, if they can be seen.",
     "seen_parts::follow": "Follows a view to its present bounds, and adds the damage.",

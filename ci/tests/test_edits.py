@@ -1,6 +1,7 @@
 """The places at which edits that must fail were refused, as `rt ci` prints them."""
 import os
 import unittest
+from unittest import mock
 
 import edits
 from running import TOP
@@ -21,6 +22,20 @@ class Refusals(unittest.TestCase):
             ("slab_link", "one"): "src/link.rt none returns",
             ("view_model", "two"): "proofs/NumberLaws.antt refusals",
         })
+
+
+class Clauses(unittest.TestCase):
+    def test_the_line_comes_after_the_one_that_says_why_and_in_the_place_of_another(self) -> None:
+        edit = edits.Edit("a", "b", ["# why: x", "file: src/lib.rt", "# clause: src/lib.rt f returns", "old: 1", "new: 2"])
+        self.assertEqual(edit.with_clause("src/lib.rt g returns"),
+                         ["# why: x", "# clause: src/lib.rt g returns", "file: src/lib.rt", "old: 1", "new: 2"])
+
+    def test_an_edit_that_is_refused_elsewhere_is_named(self) -> None:
+        found = [edits.Edit("a", name, ["# why: x", "# clause: here"]) for name in ("here", "other", "lost")]
+        found.append(edits.Edit("a", "silent", ["# why: x"]))
+        with mock.patch("edits.edits", lambda: iter(found)):
+            wrong = edits.refused_elsewhere({("a", "here"): "here", ("a", "other"): "there", ("a", "silent"): "there"})
+        self.assertEqual(wrong, "a/other: refused at there, not at here; a/lost: refused at nowhere that the log says, not at here")
 
 
 if __name__ == "__main__":
