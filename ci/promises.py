@@ -11,17 +11,16 @@ from running import TOP, Checks
 PAGE = os.path.join(TOP, "docs", "PROMISES.md")
 HEAD = """# Promises
 
-`ci/promises` makes this page of the sources: sentences are the comments above clauses and calls, links lead to their lines. A clause is proved
-for all arguments, whatever was called before; its crate's `specs/` has its terms. [PROOFS](PROOFS.md) says what is trusted, and what is
-promised nowhere.
+`ci/promises` makes this page of the sources' comments; links lead to the clauses. A clause is proved for all arguments, whatever was called before;
+its crate's `specs/` has its terms. [PROOFS](PROOFS.md) has what is trusted, and what is not promised.
 
-Any call may run out of memory; then only what a clause says of that is promised. A clause that reads a script or files presumes that contracts see
-these bytes, as those of objects in memory.
+If a call runs out of memory, only what a clause says of that is promised. A clause that reads a script or files presumes that contracts see these
+bytes, as those of objects in memory.
 """
 TOOL = """
 ## The call `tool`
 
-Program and library of C are this call.
+Program and library of C are this call. A clause in bold is a record of the rows after it.
 
 |promise|clauses|
 |---|---|
@@ -29,7 +28,7 @@ Program and library of C are this call.
 CALLS = """
 ## The calls of the crates
 
-What crates export, the lowest first: functions, what they are for, and their clauses; types, what always holds of their values, and their calls.
+What crates export, the lowest first: functions with their clauses; types with what always holds of their values, and their calls.
 
 |call|what for|clauses or calls|
 |---|---|---|
@@ -44,7 +43,8 @@ TESTED = """
 |A call reports no memory exactly where a request was refused|`ci/examples.py`, `ci/out_of_memory.py`|
 |An empty script runs in 32 KiB of stack, any other in 128 KiB|`ci/memory.py`, on request|
 |A short reply is one write; how often a run measures at least|`crates/integration_tests/src/runs.rt`|
-|Between a program and the library of C: its header's two functions, Python, Java|`ci/native.py`, on request|
+|Between a caller and the library of C: its header's two functions, Python, Java|`ci/native.py`|
+|The WebAssembly module, its heap and loader|`ci/web_module.py`|
 |The launcher, the tools and the packages|`./vindaesk test`|
 |`dist/view_tool` is what the proof built|`.ci/run`|
 """
@@ -144,7 +144,7 @@ def rows_of_tool(call: Call) -> Iterator[str]:
     for clause in call.clauses:
         record = record_named(crate, clause.head)
         if record:
-            yield "|**%s**|%s|" % (cell(clause.promise), clause_links(call.path, [clause]))
+            yield "|**%s**||" % clause_links(call.path, [clause])
             yield from rows_of(record.path, record.fields)
         else:
             yield from rows_of(call.path, [clause])
