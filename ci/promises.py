@@ -38,7 +38,7 @@ TESTED = """
 
 |what|where|
 |---|---|
-|Adapters do what their devices do; clauses say which bytes passed|`crates/integration_tests/src/adapters.rt`|
+|Adapters do what their devices do|`crates/integration_tests/src/adapters.rt`|
 |`main` passes arguments and real objects to `tool`, and ends with its status|the stored run of `crates/view_tool`, `ci/checks`|
 |A call reports no memory exactly where a request was refused|`ci/examples.py`, `ci/out_of_memory.py`|
 |An empty script runs in 32 KiB of stack, any other in 128 KiB|`ci/memory.py`, on request|
@@ -89,6 +89,7 @@ SHORT = {
     "touch_dispatch::cancel_view": "Cancels the gesture of a view that goes away.",
     "seen_edits::restore_views": "Sets the saved offsets and texts, and adds the damage.",
     "seen_edits::note_scrolled": "Adds to the damage what is seen of scrolled views.",
+    "script_lines::edits_written": "The edits of a hook by their text in its command.",
     "vindaesk_c::vindaesk_focus": "Carries out a script, then says which view gets the focus next.",
 }
 UNNAMED = "clause"

@@ -20,7 +20,7 @@ from vindaesk.program.native import Answer
 from vindaesk.provenance import dist
 
 LOADER, CALLS = os.path.join(TOP, "bindings", "web", "vindaesk.mjs"), os.path.join(TOP, "ci", "web_calls.mjs")
-# Node before 24 has memories of 64 bits where it is told so
+# Node before 24 has memories of 64 bits with this alone
 FLAG = "--experimental-wasm-memory64"
 # how often a call is made before and after its memory is looked at
 REPEATED = 300

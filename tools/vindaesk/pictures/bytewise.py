@@ -4,7 +4,7 @@ from typing import List, Tuple
 
 
 def repeated(part: bytes, count: int) -> int:
-    """The number of so many bytes, which are a part again and again."""
+    """The number of this many bytes, which are a part again and again."""
     return int.from_bytes((part * (count // len(part) + 1))[:count], "little")
 
 

@@ -64,7 +64,7 @@ class Joined:
         self.parents = list(range(count))
 
     def top(self, number: int) -> int:
-        """The number that stands for this one by now."""
+        """The number that represents this one by now."""
         parents = self.parents
         while parents[number] != number:
             parents[number] = parents[parents[number]]

@@ -41,7 +41,7 @@ def given(name: str, value: object) -> None:
 
 
 def words(value: object) -> None:
-    """What stands in a line as one word or more."""
+    """What is in a line as one word or more."""
     if not isinstance(value, (str, int)):
         raise TypeError("a value is a text, a whole number, True or False, and not %r" % (value,))
 
