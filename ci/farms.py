@@ -265,13 +265,16 @@ def broken_cases() -> str:
 
 def full_disk() -> str:
     """Standard output that is full, and a report that cannot be written whole: the other one is written all the
-    same."""
+    same. Of two that cannot each is named."""
     with farm(40) as it:
         found = shell(it, "exec '%s' . --no-cache --junit j.xml > /dev/full")
         why = once(it, reported(it)) or ("" if found[0] == 4 else "status %d" % found[0])
         found = shell(it, "ulimit -f 1; exec '%s' . --no-cache --junit k.xml")
         why = why or unlike(found, 2, b"40 passed, 0 failed\n", "k.xml cannot be written: File too large")
-        return why or ("" if "k.xml" not in it.names() else "a report is half written")
+        why = why or ("" if "k.xml" not in it.names() else "a report is half written")
+        found = shell(it, "ulimit -f 1; exec '%s' . --no-cache --junit k.xml --report pages")
+        return why or first(unlike(found, 2, b"40 passed, 0 failed\n", "%s cannot be written: File too large" % name)
+                            for name in ("k.xml", "pages/index.html"))
 
 
 def results_as_they_end() -> str:

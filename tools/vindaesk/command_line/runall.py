@@ -215,12 +215,12 @@ def run_all(given: argparse.Namespace, whole: Suite) -> int:
         # the last one is called first
         stack.callback(at_end.write_sum)
         if given.junit:
-            stack.callback(at_end.write_junit)
+            stack.callback(at_end.attempt, at_end.write_junit)
         if given.report:
-            stack.callback(at_end.write_page)
+            stack.callback(at_end.attempt, at_end.write_page)
         stack.callback(at_end.keep)
         run(given, whole)
-    return failures.WRONG if any(it.problem for it in whole.results()) else 0
+    return at_end.status or (failures.WRONG if any(it.problem for it in whole.results()) else 0)
 
 
 def main(words: Optional[Sequence[str]] = None) -> int:

@@ -1,8 +1,10 @@
 """What `runall` writes: how each case went, and after the last one the reports and the sum."""
 import argparse
 import time
+from typing import Callable
 
 from ..common import files, messages, places
+from ..common.failures import Failure
 from ..testing import last_failures, report
 from ..testing.report import Failed, Sum
 from ..testing.suite import Suite
@@ -31,6 +33,16 @@ class Ending:
         self.given = given
         self.whole = whole
         self.begun, self.first = time.time(), time.monotonic()
+        # of the last report that was lost
+        self.status = 0
+
+    def attempt(self, write: Callable[[], None]) -> None:
+        """Writes a report. One that is lost is named, and others are written all the same."""
+        try:
+            write()
+        except Failure as failure:
+            messages.say(str(failure))
+            self.status = failure.status
 
     def keep(self) -> None:
         """Notes what failed, and bounds what is kept."""
