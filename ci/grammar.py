@@ -170,6 +170,7 @@ frame
 ?pixels 0 0 101 1|1: 30 Range: the part is not within the window, or has more than 65536 pixels
 ?restore 5653|13: 26 BadState: the saved state is cut short or wrong
 ?restore 563|9: 31 Syntax: '563' does not fit: HEX is an even number of hexadecimal digits
+?in 0 |6: 31 Syntax: the line matches no command
 """.replace("\n>", "").strip("\n").split("\n")
 
 

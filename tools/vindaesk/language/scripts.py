@@ -213,7 +213,7 @@ def view_at(found: Analysis, word: str, known: names.Ids) -> Optional[View]:
     if found.tree is None:
         return None
     plain = known.expanded(b"id v1 " + word.encode("utf-8", "replace")).text.split(b" ")[-1].decode()
-    if not grammar.VIEW.fullmatch(plain):
+    if not grammar.matches(grammar.VIEW, plain):
         return None
     try:
         return found.tree.view(plain.encode())

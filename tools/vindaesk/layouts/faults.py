@@ -11,7 +11,7 @@ from typing import Dict, List, Optional, Tuple
 
 from ..common import messages
 from ..common.failures import Failure
-from ..scripts import replies
+from ..scripts import replies, sentences
 from ..scripts.grammar import CLASSES, guess
 from ..scripts.refusals import REFUSALS
 from ..scripts.replies import Part, Refusal
@@ -61,10 +61,10 @@ class Files:
         if refusal.number == MISSING:
             return REFUSALS[MISSING].why + guess(name, tuple(sorted(os.listdir(self.folder))))
         if refusal.number == NOT_XML and self.is_source(name):
-            return "this is the source of a layout; tools/axml compiles it"
+            return sentences.SOURCE
         offset = OFFSET.search(refusal.text)
         if offset and refusal.number in REFUSALS:
-            return "%s, at the byte %d" % (REFUSALS[refusal.number].why, int(offset[1]))
+            return sentences.AT_BYTE % (REFUSALS[refusal.number].why, int(offset[1]))
         numbers = [int(it) for it in (MEMBER if refusal.number == CYCLE else ELEMENT).findall(refusal.text)]
         lines, _ = documents.printed(name, self.folder) if numbers else (None, "")
         starts = documents.starts(list(documents.nodes_in(lines or [])))
@@ -83,14 +83,14 @@ class Files:
 
     def of_elements(self, name: str, found: List[Start], number: int) -> str:
         """Why elements of a file are refused."""
-        places = ", ".join("%s in line %d" % (it.name, it.line) for it in found)
+        places = ", ".join(sentences.IN_LINE % (it.name, it.line) for it in found)
         why = REFUSALS[number].why if number in REFUSALS else ""
         if number == UNKNOWN_CLASS:
             names = tuple(CLASSES.split(" "))
-            why += guess(found[0].name.rpartition(".")[2], names) or ": there are %s" % ", ".join(names)
+            why += guess(found[0].name.rpartition(".")[2], names) or sentences.THERE_ARE % ", ".join(names)
         elif number == NO_SIZE:
             there = {it.name for it in found[0].attributes if it.namespace == ANDROID}
-            why = "the element has no %s" % " and no ".join("android:" + it for it in SIZES if it not in there)
+            why = sentences.NO_SIZE % sentences.AND_NO.join("android:" + it for it in SIZES if it not in there)
         elif number in OF_ATTRIBUTES:
             culprit = self.culprit(found[0], number)
             places += ": " + shown(culprit, self.names) if culprit else ""

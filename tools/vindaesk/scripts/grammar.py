@@ -7,17 +7,18 @@ its own about which lines are refused.
 import difflib
 import functools
 import re
-from typing import Callable, Iterator, List, NamedTuple, Optional, Sequence, Tuple
+from typing import Iterator, List, NamedTuple, Optional, Sequence, Tuple
 
-NUMBER = re.compile(r"0|-?[1-9][0-9]{0,9}")
-VIEW = re.compile(r"v(0|[1-9][0-9]{0,9})|@[0-9A-Fa-f]{1,8}")
-ID = re.compile(r"@[0-9A-Fa-f]{1,8}")
-COLOUR = re.compile(r"#[0-9A-Fa-f]{8}")
-NAME = re.compile(r"[A-Za-z0-9_-][A-Za-z0-9_.-]{0,63}")
-HEX = re.compile(r"([0-9A-Fa-f]{2})+")
-TEXT = re.compile(r"([^\\]|\\n|\\\\)*", re.DOTALL)
-# a text up to the first backslash that begins no escape
-ESCAPES = re.compile(r"((?:[^\\]|\\n|\\\\)*).*", re.DOTALL)
+from . import sentences
+
+# regular expressions of whole words; JavaScript reads them too, for docs/play
+NUMBER = "0|-?[1-9][0-9]{0,9}"
+ID = "@[0-9A-Fa-f]{1,8}"
+VIEW = "v(?:0|[1-9][0-9]{0,9})|" + ID
+COLOUR = "#[0-9A-Fa-f]{8}"
+NAME = "[A-Za-z0-9_-][A-Za-z0-9_.-]{0,63}"
+HEX = "(?:[0-9A-Fa-f]{2})+"
+TEXT = r"(?:[^\\]|\\n|\\\\)*"
 WORD = re.compile(r"[^ ]+")
 MAX_EDITS = 8
 
@@ -26,30 +27,41 @@ class Kind(NamedTuple):
     """What may be in the place of a word of a form.
 
     `says` is that in words, and `choices` are the words that it may be, where these can be listed. A word that does not
-    fit has no form, and one that is not within has a number outside its bounds. A kind may be all the rest of a line,
-    or one or more words. `culprit` is the part of a word by which it does not fit.
+    fit `form` has no form, and one that is not within has a number outside its bounds. A kind may be all the rest of a
+    line, or one or more words. `culprit` finds the part of a word by which it does not fit, where that is not all of it.
     """
 
     says: str
-    fits: Callable[[str], bool]
+    form: str
     choices: Tuple[str, ...] = ()
-    is_within: Callable[[str], bool] = lambda word: True
+    bounds: Optional[Tuple[int, int]] = None
     is_rest: bool = False
     is_many: bool = False
-    culprit: Callable[[str], str] = lambda word: word
+    culprit: str = ""
+
+    def fits(self, word: str) -> bool:
+        """Whether a word has the form."""
+        return matches(self.form, word)
+
+    def is_within(self, word: str) -> bool:
+        """Whether a number, or an id, is within the bounds; another word is."""
+        number = int(word[1:], 16) if matches(ID, word) else int(word) if matches(NUMBER, word) else None
+        return self.bounds is None or number is None or self.bounds[0] <= number <= self.bounds[1]
+
+    def culprit_of(self, word: str) -> str:
+        """The part of a word by which it does not fit."""
+        found = re.match(self.culprit, word, re.DOTALL) if self.culprit else None
+        return found[1] if found else word
 
 
-def fitting(pattern: "re.Pattern[str]") -> Callable[[str], bool]:
+def matches(form: str, word: str) -> bool:
     """Whether a whole word has a form."""
-    return lambda word: bool(pattern.fullmatch(word))
-
-
-is_number = fitting(NUMBER)
+    return bool(re.fullmatch(form, word, re.DOTALL))
 
 
 def number(least: int, most: int, what: str = "a number") -> Kind:
     """A whole number between two bounds."""
-    return Kind("%s, %d..%d" % (what, least, most), is_number, is_within=lambda word: least <= int(word) <= most)
+    return Kind("%s, %d..%d" % (what, least, most), NUMBER, bounds=(least, most))
 
 
 def listed(words: Sequence[str]) -> str:
@@ -60,27 +72,13 @@ def listed(words: Sequence[str]) -> str:
 def choice(text: str) -> Kind:
     """One of some words."""
     words = tuple(text.split(" "))
-    return Kind(listed(words), words.__contains__, words)
+    return Kind(listed(words), "|".join(words), words)
 
 
-def is_gravity(word: str) -> bool:
-    """Whether a word is `none`, or words joined by `|`, at most one for each axis."""
-    parts = word.split("|")
-    if word == "none" or not set(parts) <= set(GRAVITIES):
-        return word == "none"
-    axes = [axis for part in parts for axis in GRAVITIES[part]]
-    return len(axes) == len(set(axes))
-
-
-def unknown_gravity(word: str) -> str:
-    """The first part of a word that is no gravity; without one, all of it."""
-    return next((part for part in word.split("|") if part not in GRAVITIES), word)
-
-
-def unknown_escape(word: str) -> str:
-    """The first backslash of a text that begins no escape, and what follows it."""
-    found = ESCAPES.fullmatch(word)
-    return word[found.end(1) :][:2] if found else ""
+def joined_gravities() -> str:
+    """The form of `none`, or of words joined by `|`, at most one for each axis."""
+    both, x, y = ("(?:%s)" % "|".join(it for it, axes in GRAVITIES.items() if axes == of) for of in ("xy", "x", "y"))
+    return r"none|%s|%s(?:\|%s)?|%s(?:\|%s)?" % (both, x, y, y, x)
 
 
 # the axes for which a word of a gravity counts
@@ -94,34 +92,33 @@ SIBLINGS = ("left_of right_of above below align_left align_top align_right align
             "align_end")
 PARENTS = "parent_left parent_top parent_right parent_bottom parent_start parent_end center center_h center_v"
 
+# the first part of a word that is no gravity, and the first backslash of a text that begins no escape, with what follows
+UNKNOWN_GRAVITY = r"(?:(?:{0})\|)*?(?!(?:{0})(?:\||$))([^|]*)".format("|".join(GRAVITIES))
+UNKNOWN_ESCAPE = TEXT + "(.{0,2})"
+
 LENGTH = 16777215
-view = Kind("a view, as v3, or @7f050001 by its id", fitting(VIEW))
-an_id = Kind("an id, as @7f050001", fitting(ID))
-an_id_of_a_resource = Kind("an id, as @7f050001, and not @0", fitting(ID), is_within=lambda word: int(word[1:], 16) > 0)
-colour = Kind("a colour, alpha first, as #ff0080ff", fitting(COLOUR))
-file_name = Kind("a file of the script's folder, 1 to 64 letters, digits, _, - and ., the first not a dot",
-                 fitting(NAME))
-text = Kind("a text, in which \\n is a line feed, \\\\ a backslash, and nothing else follows a backslash",
-            fitting(TEXT), is_rest=True, culprit=unknown_escape)
-bytes_of_state = Kind("an even number of hexadecimal digits", fitting(HEX))
-dimension = Kind(
-    "match, wrap or a number of pixels, 0..%d" % LENGTH, lambda word: word in ("match", "wrap") or is_number(word),
-    ("match", "wrap"), lambda word: word in ("match", "wrap") or 0 <= int(word) <= LENGTH
-)
-gravity = Kind("none, or one word for each axis, joined by |: %s" % listed(list(GRAVITIES)), is_gravity,
-               ("none", *GRAVITIES), culprit=unknown_gravity)
+view = Kind("a view, as v3, or @7f050001 by its id", VIEW)
+an_id = Kind("an id, as @7f050001", ID)
+an_id_of_a_resource = Kind("an id, as @7f050001, and not @0", ID, bounds=(1, 0xFFFFFFFF))
+colour = Kind("a colour, alpha first, as #ff0080ff", COLOUR)
+file_name = Kind("a file of the script's folder, 1 to 64 letters, digits, _, - and ., the first not a dot", NAME)
+text = Kind("a text, in which \\n is a line feed, \\\\ a backslash, and nothing else follows a backslash", TEXT,
+            is_rest=True, culprit=UNKNOWN_ESCAPE)
+bytes_of_state = Kind("an even number of hexadecimal digits", HEX)
+dimension = Kind("match, wrap or a number of pixels, 0..%d" % LENGTH, "match|wrap|" + NUMBER, ("match", "wrap"), (0, LENGTH))
+gravity = Kind("none, or one word for each axis, joined by |: %s" % listed(list(GRAVITIES)), joined_gravities(),
+               ("none", *GRAVITIES), culprit=UNKNOWN_GRAVITY)
 yes_no = choice("yes no")
 pixels = number(0, LENGTH, "a number of pixels")
 length = number(0, 1048575, "a number of pixels")
 margin = number(-1048575, 1048575, "a number of pixels")
 place = number(-1048576, 1048576, "a number of pixels")
 window_side = number(1, 4096, "a number of pixels")
-whole = Kind("a number, 0 or more, and with K at most 65535", is_number, is_within=lambda word: 0 <= int(word) <= 65535)
+whole = Kind("a number, 0 or more, and with K at most 65535", NUMBER, bounds=(0, 65535))
 part = number(0, 255)
 pointer = number(0, 31)
-touches = Kind("none, or one or more of down, up, move, cancel, pdown and pup", TOUCHES.__contains__, TOUCHES,
-               is_many=True)
-edits = Kind("an edit: a line size, min, margins, padding, weight, gravity or bg", lambda word: True, is_rest=True)
+touches = Kind("none, or one or more of down, up, move, cancel, pdown and pup", "|".join(TOUCHES), TOUCHES, is_many=True)
+edits = Kind("an edit: a line size, min, margins, padding, weight, gravity or bg", ".*", is_rest=True)
 
 
 class Slot(NamedTuple):
@@ -225,14 +222,14 @@ def guess(word: str, choices: Tuple[str, ...]) -> str:
     """What was meant, as the end of a sentence, where something is near."""
     folded = {it.lower(): it for it in choices if it != word}
     near = difflib.get_close_matches(word.lower(), folded, 1, 0.7)
-    return "; did you mean '%s'?" % folded[near[0]] if near else ""
+    return sentences.GUESS % folded[near[0]] if near else ""
 
 
 def expected(slots: Sequence[Slot]) -> str:
     """What may be at a place, by the words that some forms have there."""
     fixed = [slot.name for slot in slots if slot.kind.choices == (slot.name,)]
-    others = ["%s is %s" % (slot.name, slot.kind.says) for slot in slots if slot.name not in fixed]
-    words = ["%s is expected" % listed(["'%s'" % it for it in dict.fromkeys(fixed)])] if fixed else []
+    others = [sentences.MEANS % (slot.name, slot.kind.says) for slot in slots if slot.name not in fixed]
+    words = [sentences.EXPECTED % listed(["'%s'" % it for it in dict.fromkeys(fixed)])] if fixed else []
     return ", or ".join([*words, *dict.fromkeys(others)])
 
 
@@ -244,18 +241,18 @@ def shown(word: str) -> str:
 
 def is_tabbed(word: str) -> str:
     """What is to be said of a word that has a tab in it."""
-    return "; a tab is no space" if "\t" in word else ""
+    return sentences.TAB if "\t" in word else ""
 
 
 def wrong(word: Word, slots: Sequence[Slot]) -> Misfit:
     """A word that may not be where it is."""
     if not slots:
-        note = "; a comment is a line of its own" if word.text.startswith("#") else is_tabbed(word.text)
-        return Misfit(word.column, "'%s' is one word too many%s" % (shown(word.text), note))
-    part = slots[0].kind.culprit(word.text)
+        note = sentences.COMMENT if word.text.startswith("#") else is_tabbed(word.text)
+        return Misfit(word.column, sentences.TOO_MANY % (shown(word.text), note))
+    part = slots[0].kind.culprit_of(word.text)
     column = word.column + max(word.text.find(part), 0)
     note = is_tabbed(part) or guess(part, tuple(it for slot in slots for it in slot.kind.choices))
-    return Misfit(column, "'%s' does not fit%s" % (shown(part), note or ": " + expected(slots)))
+    return Misfit(column, sentences.MISFIT % (shown(part), note or ": " + expected(slots)))
 
 
 def words_from(line: str, at: int = 0) -> Iterator[Word]:
@@ -314,7 +311,7 @@ def read_by(line: str, words: List[Word], forms: Sequence[Form]) -> Reading:
     slots = [it.slot for it in best if it.slot]
     word = best[0].word
     if word is None:
-        return Reading(best[0].words, Misfit(len(line) + 1, "a word is missing: %s" % expected(slots)))
+        return Reading(best[0].words, Misfit(len(line) + 1, sentences.MISSING % expected(slots)))
     return Reading(best[0].words, wrong(word, slots))
 
 
@@ -334,7 +331,7 @@ def read_hook(line: str, before: Reading) -> Reading:
         edit = given[begun:end]
         if not edit:
             column = given[end].column if end < len(given) else len(line) + 1
-            return Reading(words + found, Misfit(column, "an edit is missing"))
+            return Reading(words + found, Misfit(column, sentences.NO_EDIT))
         if edit[0].text not in FIRST_WORDS:
             return Reading(words + found, wrong(edit[0], [Slot("E", edits_by_word)]))
         if edit[0].text in EDIT_WORDS and count < MAX_EDITS:
@@ -347,16 +344,18 @@ def read_hook(line: str, before: Reading) -> Reading:
     return Reading(words + found, None)
 
 
-edits_by_word = Kind(edits.says, lambda word: word in FIRST_WORDS, EDIT_WORDS)
+edits_by_word = Kind(edits.says, "|".join(FIRST_WORDS), EDIT_WORDS)
 
 
 def read(line: str) -> Reading:
-    """A line that is not passed over, less its line feed and a carriage return before that."""
+    """A line less its line feed and a carriage return before that; one without words fits nothing."""
     words = list(words_from(line))
+    if not words:
+        return Reading([], None)
     forms = forms_of(words[0].text)
     if not forms:
         first = words[0]
-        why = "no line begins with '%s'" % shown(first.text)
+        why = sentences.NO_LINE % shown(first.text)
         return Reading([], Misfit(first.column, why + (is_tabbed(first.text) or guess(first.text, FIRST_WORDS))))
     reading = read_by(line, words, forms)
     return read_hook(line, reading) if words[0].text == "hook" and not reading.misfit else reading
@@ -373,7 +372,7 @@ def out_of_bounds(reading: Reading) -> Optional[Misfit]:
     """The first word of a line that is outside its bounds, where it is so by itself."""
     for word in reading.words:
         if word.slot and not word.slot.kind.is_within(word.text):
-            why = "'%s' is out of its bounds: %s is %s" % (word.text, word.slot.name, word.slot.kind.says)
+            why = sentences.OUT_OF_BOUNDS % (word.text, word.slot.name, word.slot.kind.says)
             return Misfit(word.column, why)
     return None
 

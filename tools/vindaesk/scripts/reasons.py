@@ -3,7 +3,7 @@ says; which word does not fit the grammar does."""
 import re
 from typing import NamedTuple, Optional
 
-from . import grammar, refusals, script
+from . import grammar, refusals, script, sentences
 from .grammar import Misfit
 
 # where the bytes of a saved state are wrong
@@ -30,7 +30,7 @@ def undecoded(line: bytes) -> Optional[Misfit]:
         line.decode()
     except UnicodeDecodeError as error:
         column = len(line[: error.start].decode()) + 1
-        return Misfit(column, "the byte %02x is no part of a text in UTF-8" % line[error.start])
+        return Misfit(column, sentences.NO_UTF8 % line[error.start])
     return None
 
 
@@ -41,7 +41,7 @@ def unfit(line: bytes, number: int) -> Optional[Misfit]:
     if number not in (30, 31) or undecoded(line):
         return undecoded(line)
     if line.startswith(MARK_OF_ORDER):
-        return Misfit(1, "the file begins with a byte order mark; save it as UTF-8 without one")
+        return Misfit(1, sentences.MARK)
     reading = grammar.read(line.decode())
     return reading.misfit if number == 31 else grammar.out_of_bounds(reading)
 
@@ -50,7 +50,7 @@ def meant(line: str, number: int, text: bytes) -> Misfit:
     """The word of a line that a refusal is about, by what the program says of it, and what that means."""
     edit = grammar.no_edit(line) if number == 25 else None
     if edit:
-        return Misfit(edit.column, "this may not be in a hook, or is a ninth edit")
+        return Misfit(edit.column, sentences.NO_HOOK_EDIT)
     words = grammar.read(line).words
     why = refusals.why(number, [word.text for word in grammar.words_from(line)])
     about = refusals.REFUSALS[number].about if number in refusals.REFUSALS else ()
@@ -58,7 +58,7 @@ def meant(line: str, number: int, text: bytes) -> Misfit:
     for name in about:
         named = [word for word in words if word.slot and word.slot.name == name]
         if named and number == 28 and len({word.text for word in named}) > 1:
-            return Misfit(named[0].column, "a view of this line has a number or an id that there is not")
+            return Misfit(named[0].column, sentences.A_VIEW)
         if named:
             place = PLACE.search(text)
             return Misfit(named[0].column + (2 * int(place[1]) if place and name == "HEX" else 0), why)
@@ -72,7 +72,7 @@ def reason(line: bytes, number: int, text: bytes) -> Reason:
     inner = line[before.end() :] if before else line
     if number == NO_PANE:
         column = next((it.start() for it in list(WORD.finditer(line))[1:]), 0) + 1
-        return Reason(column, "43 NoPane", "no window of this number is open")
+        return Reason(column, sentences.NO_PANE, sentences.NO_PANE_WHY)
     misfit = unfit(inner, number) or meant(inner.decode() or "?", number, text)
     title = " ".join(text.decode("utf-8", "replace").split(" ")[1:3])
     shift = len(line[: before.end()].decode("utf-8", "replace")) if before else 0

@@ -2,6 +2,8 @@
 and which word of a line it is about. ci/grammar.py compares numbers and names with these pages."""
 from typing import Dict, NamedTuple, Sequence, Tuple
 
+from . import sentences
+
 
 class Refusal(NamedTuple):
     """A refusal: its name, the words of a line's form of which the first that is there is meant, and what it means."""
@@ -93,4 +95,4 @@ def why(number: int, words: Sequence[str]) -> str:
     for wanted, text in AT_LINES.get(number, {}).items():
         if wanted[0] == words[0] and set(wanted) <= set(words[:3]):
             return text
-    return REFUSALS[number].why if number in REFUSALS else "it cannot be carried out"
+    return REFUSALS[number].why if number in REFUSALS else sentences.REFUSED

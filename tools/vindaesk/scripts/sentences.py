@@ -1,0 +1,27 @@
+"""What is said of a line that is refused, as far as no table has it. docs/play says the same by these sentences."""
+
+# of a word that does not fit
+GUESS = "; did you mean '%s'?"
+MEANS = "%s is %s"
+EXPECTED = "%s is expected"
+TAB = "; a tab is no space"
+COMMENT = "; a comment is a line of its own"
+TOO_MANY = "'%s' is one word too many%s"
+MISFIT = "'%s' does not fit%s"
+MISSING = "a word is missing: %s"
+NO_EDIT = "an edit is missing"
+NO_LINE = "no line begins with '%s'"
+OUT_OF_BOUNDS = "'%s' is out of its bounds: %s is %s"
+# of a whole line
+NO_UTF8 = "the byte %02x is no part of a text in UTF-8"
+MARK = "the file begins with a byte order mark; save it as UTF-8 without one"
+NO_HOOK_EDIT = "this may not be in a hook, or is a ninth edit"
+A_VIEW = "a view of this line has a number or an id that there is not"
+NO_PANE, NO_PANE_WHY = "43 NoPane", "no window of this number is open"
+REFUSED = "it cannot be carried out"
+# of a layout file
+SOURCE = "this is the source of a layout; tools/axml compiles it"
+AT_BYTE = "%s, at the byte %d"
+IN_LINE = "%s in line %d"
+THERE_ARE = ": there are %s"
+NO_SIZE, AND_NO = "the element has no %s", " and no "
