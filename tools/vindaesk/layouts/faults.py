@@ -104,7 +104,7 @@ class Files:
             words = [word for word in line.split(b" ") if word]
             if words[0] == b"res" and b"@" + words[1][1:].lstrip(b"0").lower() == name:
                 kind = KINDS.get(words[2].decode("utf-8", "replace"), "another value")
-                return "this resource is %s; here has to be %s" % (kind, values.said(attributes.form_of(it.namespace, it.name)))
+                return sentences.OTHER_KIND % (kind, values.said(attributes.form_of(it.namespace, it.name)))
         return ""
 
     def culprit(self, start: Start, number: int) -> Optional[Attribute]:
