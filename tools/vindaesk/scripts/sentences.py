@@ -1,4 +1,4 @@
-"""What is said of a line that is refused, as far as no table has it. docs/play says the same by these sentences."""
+"""What is said of a line that is refused, where no table has it. docs/play says the same by these sentences."""
 
 # of a word that does not fit
 GUESS = "; did you mean '%s'?"
