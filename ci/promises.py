@@ -89,7 +89,6 @@ SHORT = {
     "touch_dispatch::cancel_view": "Cancels the gesture of a view that goes away.",
     "seen_edits::restore_views": "Sets the saved offsets and texts, and adds the damage.",
     "seen_edits::note_scrolled": "Adds to the damage what is seen of scrolled views.",
-    "script_lines::edits_written": "The edits of a hook by their text in its command.",
     "vindaesk_c::vindaesk_focus": "Carries out a script, then says which view gets the focus next.",
 }
 UNNAMED = "clause"

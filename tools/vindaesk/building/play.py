@@ -3,7 +3,7 @@
     PYTHONPATH=tools python3 -m vindaesk.building.play OUT [MODULE]
 
 The page is of docs/play/; OUT has its style, its scripts, the WebAssembly module, the worked examples, and the tables by
-which tools say why a line is refused. MODULE is out/web/vindaesk.wasm where it is left out; `python3 -m
+which tools say why a line is refused. MODULE is that of dist/ where it is left out; `python3 -m
 vindaesk.building.web_module` makes it.
 """
 import base64
@@ -17,9 +17,10 @@ from ..common import embedding, ending, files
 from ..common.failures import Failure, NOT_RUN
 from ..common.places import TOP, version
 from ..layouts import attributes, faults, values
+from ..provenance import dist
 from ..scripts import grammar, refusals, replies, sentences
 
-MODULE = os.path.join(TOP, "out", "web", "vindaesk.wasm")
+MODULE = os.path.join(dist.FOLDER, dist.MODULE)
 SOURCES = os.path.join(TOP, "docs", "play")
 EXAMPLES = os.path.join(TOP, "examples")
 IMPORT = re.compile(r'^import (\{[^}]*\}) from "(\.[^"]*)";\n', re.M)

@@ -202,7 +202,7 @@ def files_in(folder: str) -> List[Offer]:
         listed = sorted(os.listdir(folder))
     except OSError:
         return []
-    return [Offer(it, FILE) for it in listed if grammar.NAME.fullmatch(it) and os.path.isfile(os.path.join(folder, it))]
+    return [Offer(it, FILE) for it in listed if grammar.matches(grammar.NAME, it) and os.path.isfile(os.path.join(folder, it))]
 
 
 # where things are

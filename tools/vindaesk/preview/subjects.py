@@ -16,8 +16,7 @@ from ..layouts import compiler, source_reader
 from ..lint import refused_lines
 from ..program.statuses import MAX_SCRIPT
 from ..resources.devices import device
-from ..scripts import names, others, script
-from ..scripts.grammar import NAME
+from ..scripts import grammar, names, others, script
 from ..scripts.names import Ids
 from ..scripts.resource_names import Names
 from ..scripts.script import Line, Script
@@ -159,7 +158,7 @@ class LayoutSubject(Subject):
         super().__init__(path)
         self.ids = ids
         name = os.path.basename(path)
-        self.name = name if NAME.fullmatch(name) else "layout.xml"
+        self.name = name if grammar.matches(grammar.NAME, name) else "layout.xml"
         self.known: Ids = names.NONE
         self.places: Dict[int, Place] = {}
 
