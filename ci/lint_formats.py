@@ -32,6 +32,7 @@ def written(it: Place, form: str, name: str = NAME) -> bytes:
 
 
 def writes_json() -> str:
+    """Also of a line that a file has which another includes."""
     with place() as it:
         whole = json.loads(written(it, "json").decode())
     wanted = {
@@ -40,7 +41,19 @@ def writes_json() -> str:
         "included": [],
     }
     is_right = whole["version"] == 1 and len(whole["findings"]) == 4 and whole["findings"][2] == wanted
-    return "" if is_right else "%s" % whole
+    return include_chain() if is_right else "%s" % whole
+
+
+def include_chain() -> str:
+    """What an object of JSON says of the files that include the one of a finding: from the innermost."""
+    with place() as it:
+        it.put("row.lines", "add v1 View 20 5\n")
+        it.put("middle.lines", "# one more file\ninclude row.lines\n")
+        it.put("c.script", "window 9 9\nadd root FrameLayout match match\ninclude middle.lines\nframe\n")
+        out = it.call("lint", "c.script", "--only", "outside", "--format", "json")[1]
+    found = [(one["file"], one["line"], one["included"]) for one in json.loads(out.decode())["findings"]]
+    around = [{"file": "middle.lines", "line": 2, "column": None}, {"file": "c.script", "line": 3, "column": None}]
+    return "" if found == [("row.lines", 1, around)] else "%s" % found
 
 
 def sarif(it: Place, *words: str) -> Dict[str, Any]:
@@ -200,10 +213,11 @@ def lists_rules() -> str:
     with place() as it:
         it.put("own.py", own)
         status, out, said = it.call("lint", "--list", "--format", "json", "--rules", "own.py")
-        found = json.loads(out.decode())["rules"]
+        whole = json.loads(out.decode())
+        found = whole["rules"]
         *listed, last = [(row["rule"], row["severity"], row["android"]) for row in found]
-        if status or listed != wanted or last != ("own-one", "warning", []):
-            return "status %d, %s: %s" % (status, said, found)
+        if status or listed != wanted or last != ("own-one", "warning", []) or whole["version"] != 1:
+            return "status %d, %s: %s" % (status, said, whole)
         categories = {row["rule"]: row["category"] for row in found}
         some = [categories[name] for name in ("outside", "contrast", "own-one")]
         if some != ["placement", "picture", "own"] or found[-1]["sentence"] != "Each view is good.":

@@ -497,6 +497,7 @@ def test_wrong_values() -> None:
         (lambda s: s.drag("v6", 0, 1, steps=10**30), ValueError, "steps is 1 to 1000000"),
         (lambda s: s.gesture([(1, 2), 3]), TypeError, "a place is two whole numbers, x and y, and not 3"),  # type: ignore[list-item]
         (lambda s: s.gesture([(1, 2.5)]), TypeError, "and not (1, 2.5)"),  # type: ignore[list-item]
+        (lambda s: s.gesture([(True, 2)]), TypeError, "and not (True, 2)"),
         (lambda s: s.gesture([(1, 2)], first=None), TypeError, "first is a whole number"),  # type: ignore[arg-type]
         (lambda s: s.tap(6), TypeError, "a view is a name as 'v3' or '@id/send'"),  # type: ignore[arg-type]
         (lambda s: s.tap("v6", check="yes"), TypeError, "check is True or False"),  # type: ignore[arg-type]
