@@ -235,19 +235,30 @@ def recipe(name: str, folder: str, variables: Dict[str, str], mark: str = "") ->
     return (call.returncode if is_killed else -1), out.decode()
 
 
+def by_parallel(folder: str, variables: Dict[str, str]) -> str:
+    """Runs the recipe of GNU parallel on some machines, and looks at the reports, also without one of a part."""
+    status, text = recipe("parallel.sh", folder, variables, os.path.join(folder, "screens"))
+    last = "%d passed, 0 failed" % COUNT
+    if status or text.splitlines()[-1:] != [last]:
+        return "status %d: %s" % (status, text[-1500:])
+    paths = [os.path.join(folder, "out", "%d.xml" % part) for part in range(1, SHARDS + 1)]
+    why = count_once(paths, folder, os.path.join(folder, "screens"))
+    os.unlink(paths[3])
+    lacking = count_once([it for it in paths if os.path.exists(it)], folder, os.path.join(folder, "screens"))
+    return why or ("" if "there is no report of part 4 of 10" in lacking else "without a part: %s" % lacking)
+
+
 def gnu_parallel() -> str:
+    """On this machine, without SSH."""
+    need("parallel")
+    with scripts() as folder:
+        return by_parallel(folder, {"MACHINES": "2/:"})
+
+
+def gnu_parallel_by_ssh() -> str:
     need("parallel")
     with scripts() as folder, machine(folder) as ssh:
-        variables = {"MACHINES": "2/machine", "PARALLEL_SSH": ssh}
-        status, text = recipe("parallel.sh", folder, variables, os.path.join(folder, "screens"))
-        last = "%d passed, 0 failed" % COUNT
-        if status or text.splitlines()[-1:] != [last]:
-            return "status %d: %s" % (status, text[-1500:])
-        paths = [os.path.join(folder, "out", "%d.xml" % part) for part in range(1, SHARDS + 1)]
-        why = count_once(paths, folder, os.path.join(folder, "screens"))
-        os.unlink(paths[3])
-        lacking = count_once([it for it in paths if os.path.exists(it)], folder, os.path.join(folder, "screens"))
-        return why or ("" if "there is no report of part 4 of 10" in lacking else "without a part: %s" % lacking)
+        return by_parallel(folder, {"MACHINES": "2/machine", "PARALLEL_SSH": ssh})
 
 
 # Slurm
@@ -336,4 +347,4 @@ def slurm() -> str:
 
 
 def checks() -> Checks:
-    yield from named("engines", (bazel, gnu_parallel, slurm))
+    yield from named("engines", (bazel, gnu_parallel, gnu_parallel_by_ssh, slurm))
