@@ -105,10 +105,10 @@ class Place:
             return file.read()
 
     def stand_in(self, act: str) -> Dict[str, str]:
-        """The variables under which tools run this in place of the program."""
+        """The variables under which tools run this in place of the program, whichever library others name."""
         self.put("program", "#!/usr/bin/env bash\n%s\n" % act)
         os.chmod(os.path.join(self.folder, "program"), 0o755)
-        return {"VINDAESK_PROGRAM": os.path.join(self.folder, "program")}
+        return {"VINDAESK_PROGRAM": os.path.join(self.folder, "program"), "VINDAESK_LIBRARY": ""}
 
     def start(self, *command: str, stderr: int = subprocess.PIPE, **variables: str) -> "subprocess.Popen[bytes]":
         """A tool, or another program of the repository, as a process of its own."""
