@@ -262,11 +262,11 @@ def links() -> str:
 def ends_long_scripts() -> str:
     """A script that takes long is ended, the page says so, and carries out the next one."""
     with opened() as browser:
-        browser.value("play.carrier.most = 5000")
+        browser.value("play.carrier.most = 100")
         given(browser, Case(LONG.encode(), {}))
         said = browser.value("document.getElementById('state').textContent")
         given(browser, Case(b"window 1 1\n", {}))
-        return first_difference([(said, "No answer: the script was ended after 5 seconds."),
+        return first_difference([(said, "No answer: the script was ended after 0.1 seconds."),
                                  (browser.value("document.getElementById('state').textContent"), "Status 0, no line is refused.")])
 
 

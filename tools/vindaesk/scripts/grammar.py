@@ -219,8 +219,9 @@ class Reading(NamedTuple):
 
 @functools.lru_cache(1024)
 def guess(word: str, choices: Tuple[str, ...]) -> str:
-    """What was meant, as the end of a sentence, where something is near."""
-    folded = {it.lower(): it for it in choices if it != word}
+    """What was meant, as the end of a sentence, where something is near: of two that differ by capitals alone the one
+    that begins as the word does."""
+    folded = {it.lower(): it for it in sorted(choices, key=lambda it: (it[:1] == word[:1], it)) if it != word}
     near = difflib.get_close_matches(word.lower(), folded, 1, 0.7)
     return sentences.GUESS % folded[near[0]] if near else ""
 
