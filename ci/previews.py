@@ -426,7 +426,12 @@ def writes_again() -> str:
             if found != [(200, {})] * len(texts) or it.read("a.xml").decode() != wanted:
                 return "%s, %r" % (found, it.read("a.xml"))
             it.put("a.xml", SOURCE)
-            status, _ = page.post("edit", {**asked["android:padding"], "text": "7dp"})
+            status = 409
+            # nothing is written while the values of a file that changed are not read
+            for _ in range(50):
+                if status == 409:
+                    time.sleep(0.1)
+                    status, _ = page.post("edit", {**asked["android:padding"], "text": "7dp"})
             return "" if status == 200 and it.read("a.xml").decode() == SOURCE.replace("8dp", "7dp") else "%d after that" % status
 
 
