@@ -53,7 +53,8 @@ def toolchain(folder: str, kept: str) -> str:
     os.makedirs(os.path.join(made, "bin"))
     os.symlink(os.path.join(own, "lib"), os.path.join(made, "lib"))
     clang = os.path.join(own, "bin", "clang")
-    os.symlink(clang, os.path.join(made, "bin", "llvm-ar"))
+    for name in ("ld.lld", "llvm-ar"):
+        os.symlink(clang, os.path.join(made, "bin", name))
     path = os.path.join(made, "bin", "clang")
     files.replace(path, (KEEPING % (kept, clang)).encode())
     os.chmod(path, 0o755)
