@@ -3,13 +3,13 @@ use Rattle.std.specs.Prelude.{ℕ, ◌+◌, ◌*◌, ◌-◌, ◌^◌, ◌/◌, 
 use Rattle.std.specs.Prelude.{◌+ℤ◌, ◌*ℤ◌, Bool, Option, Some, None, if◌then◌else◌}
 use Rattle.std.specs.Int.{int_div_euclid}
 use Rattle.std.specs.Ordering.{int_eq}
-use Rattle.view_model.specs.Numbers.{max_weight}
+use Rattle.view_model.specs.Numbers.{max_pixels, max_weight, min_pixels, normal_dpi}
 
 -- what a unit is in pixels at this density, as a numerator and a denominator: px, dip, sp, pt, in, mm
 unfoldable pub unit_of : ℕ → ℕ → Option (ℕ × ℕ)
 unit_of dpi unit =
     if unit == 0 then Some (1, 1)
-    else (if unit == 1 || unit == 2 then Some (dpi, 160)
+    else (if unit == 1 || unit == 2 then Some (dpi, normal_dpi)
     else (if unit == 3 then Some (dpi, 72)
     else (if unit == 4 then Some (dpi, 1)
     else (if unit == 5 then Some (5 * dpi, 127)
@@ -33,9 +33,9 @@ never_lost near x =
 unfoldable pub nearest : ℤ → ℕ → ℤ
 nearest x d = never_lost (int_div_euclid (pos 2 *ℤ x +ℤ pos d) (pos 2 *ℤ pos d)) x
 
--- a number of pixels from -2^30 to 2^30
+-- a number of pixels that is not too far from 0
 unfoldable pub pixels_in_bounds : ℤ → Option ℤ
-pixels_in_bounds n = if int_lt (pos (2 ^ 30)) n || int_lt n (negsuc (2 ^ 30 - 1)) then None else Some n
+pixels_in_bounds n = if int_lt max_pixels n || int_lt n min_pixels then None else Some n
 
 abbrev pub px_in : ℕ → Option (ℕ × ℕ) → Option ℤ
 px_in word None = None

@@ -1,6 +1,6 @@
 -- The numbers of definitions: the limits of a tree, of what may be set of a view, of hooks, resources and layout files,
 -- the cells of texts, and the refusals. The code names each of them once; `NumberLaws` says that its numbers are these.
-use Rattle.std.specs.Prelude.{ℕ, ◌*◌, ◌^◌, ℤ, pos, negsuc}
+use Rattle.std.specs.Prelude.{ℕ, ◌-◌, ◌*◌, ◌^◌, ℤ, pos, negsuc}
 
 -- the most views of a tree
 abbrev pub max_views : ℕ
@@ -46,6 +46,17 @@ max_edits = 8
 abbrev pub normal_dpi : ℕ
 normal_dpi = 160
 
+-- the least and the greatest dimension of a layout file, in pixels
+abbrev pub min_pixels : ℤ
+min_pixels = negsuc (2 ^ 30 - 1)
+
+abbrev pub max_pixels : ℤ
+max_pixels = pos (2 ^ 30)
+
+-- the colour of a new view's text: an opaque white
+abbrev pub new_ink : ℕ
+new_ink = 0xffff_ffff
+
 -- the most bytes of a layout file
 abbrev pub max_file : ℕ
 max_file = 2 ^ 20
@@ -56,6 +67,10 @@ cell_width = 6
 
 abbrev pub cell_height : ℕ
 cell_height = 8
+
+-- the first character of the font
+abbrev pub first_glyph : ℕ
+first_glyph = 32
 
 -- the refusal of an attribute that names a resource which is not defined
 abbrev pub unresolved : ℕ

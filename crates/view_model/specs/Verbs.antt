@@ -2,6 +2,14 @@
 -- twelve name a sibling, the others do not; `NumberLaws` says that the places of the code are these.
 use Rattle.std.specs.Prelude.{ℕ}
 
+-- how many verbs there are
+abbrev pub verb_count : ℕ
+verb_count = 21
+
+-- how many of them name a sibling: these are the first
+abbrev pub sibling_verbs : ℕ
+sibling_verbs = 12
+
 abbrev pub left_of : ℕ
 left_of = 0
 

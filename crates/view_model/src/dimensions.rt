@@ -3,9 +3,12 @@ ghost use Rattle.std.specs.Prelude.{◌≡◌, ◌<◌, ◌≤◌, ℤ, pos, neg
 ghost use Rattle.std.specs.Int.{int_div_euclid};
 ghost use Rattle.view_model.specs.Dimensions.{pixels_in_bounds, weight_in_bounds, mantissa, nearest, never_lost, px_of, radix, unit_of, weight_near, weight_of};
 
-use crate::limits::MAX_WEIGHT;
+use crate::limits::{MAX_WEIGHT, NORMAL_DPI};
 
-/// The most pixels of a dimension.
+/// The least dimension, in pixels.
+const MIN_PIXELS: i64 = -(1 << 30);
+
+/// The greatest dimension, in pixels.
 const MAX_PIXELS: i64 = 1 << 30;
 
 /// The pixels of a dimension's word at a density in dots an inch, to the nearest, a half rounded up; `None` if the unit
@@ -79,7 +82,7 @@ fn unit(dpi: u32, unit: u32) -> Option<(u64, u32)>
     let dpi = u64::from(dpi);
     match unit {
         0 => Some((1, 1)),
-        1 | 2 => Some((dpi, 160)),
+        1 | 2 => Some((dpi, NORMAL_DPI)),
         3 => Some((dpi, 72)),
         4 => Some((dpi, 1)),
         5 => Some((5 * dpi, 127)),
@@ -163,7 +166,7 @@ fn twice(divisor: u32) -> i64
 fn pixels_in_bounds(n: i64) -> Option<i32>
     ensures { result ≡ pixels_in_bounds n }
 {
-    if n > MAX_PIXELS || n < -MAX_PIXELS {
+    if n > MAX_PIXELS || n < MIN_PIXELS {
         return None;
     }
     Some(n as i32)
