@@ -6,6 +6,7 @@ pub mod Cycles
 pub mod Dimensions
 pub mod Directed
 pub mod Direction
+pub mod Facets
 pub mod Facts
 pub mod Font
 pub mod Forest

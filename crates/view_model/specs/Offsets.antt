@@ -1,26 +1,22 @@
 -- How far views are scrolled once they are laid out.
-use Rattle.std.specs.Prelude.{ℤ, List, Option, Some, None}
+use Rattle.std.specs.Prelude.{ℤ, if◌then◌else◌, List, Option, Some, None}
 use Rattle.std.specs.Option.{option_map}
 use Rattle.geom_core.specs.declared.geometry.Rect.{Rect}
 use Rattle.view_model.specs.declared.facts.Facts.{Facts}
 use Rattle.view_model.specs.declared.kinds.Class.{Class}
-use Rattle.view_model.specs.declared.kinds.Class.TheVariants.{View, TextView, FrameLayout, LinearLayout, ScrollView}
-use Rattle.view_model.specs.declared.kinds.Class.TheVariants.{RelativeLayout}
+use Rattle.view_model.specs.Classes.{scrolls}
 use Rattle.view_model.specs.Forest.{Forest, Nothing, Branch}
 use Rattle.view_model.specs.Geometry.{Laid, rect_in, size_of_rect}
 use Rattle.view_model.specs.PlainTree.{PlainView}
 use Rattle.view_model.specs.ScrollView.{offset_within, scroll_range}
 
--- the range of the offset of a view in this rectangle, whose child is in that one: only a scroll view that has bounds
--- has one, and a child that has no bounds counts as none
+-- the range of the offset of a view in this rectangle, whose child is in that one: only a view that scrolls and has
+-- bounds has one, and a child that has no bounds counts as none
 abbrev pub range_by : Class → Facts → Option Rect → Option Rect → Option ℤ
-range_by View own rect child = None
-range_by TextView own rect child = None
-range_by FrameLayout own rect child = None
-range_by LinearLayout own rect child = None
-range_by RelativeLayout own rect child = None
-range_by ScrollView own rect child =
-    option_map (λ (rect : Rect). scroll_range own (size_of_rect rect) (option_map size_of_rect child)) rect
+range_by class own rect child =
+    if scrolls class
+    then option_map (λ (rect : Rect). scroll_range own (size_of_rect rect) (option_map size_of_rect child)) rect
+    else None
 
 -- an offset brought into a range, if there is one
 abbrev pub brought : Option ℤ → ℤ → ℤ
