@@ -6,7 +6,7 @@ use Rattle.std.specs.Prelude.{if◌then◌else◌}
 use Rattle.geom_core.specs.declared.geometry.Rect.{Rect}
 use Rattle.view_model.specs.declared.facts.Facts.{Facts}
 use Rattle.view_model.specs.declared.kinds.Class.{Class}
-use Rattle.view_model.specs.declared.kinds.Class.TheVariants.{View, TextView, FrameLayout, LinearLayout, ScrollView, RelativeLayout}
+use Rattle.view_model.proofs.ClassLaws.{range_nowhere}
 use Rattle.view_model.specs.Facts.{is_shown}
 use Rattle.view_model.specs.Forest.{Forest, Nothing, Branch}
 use Rattle.view_model.specs.Offsets.{brought, range_by}
@@ -24,15 +24,6 @@ pub brought_again : (range : Option ℤ) (offset : ℤ) → brought range (broug
 unfolding offset_within
 brought_again None offset = refl
 brought_again (Some range) offset = grind (arith, ints)
-
--- a view that has no bounds has no range
-pub no_range : (class : Class) (own : Facts) (child : Option Rect) → range_by class own None child ≡ None
-no_range View own child = refl
-no_range TextView own child = refl
-no_range FrameLayout own child = refl
-no_range LinearLayout own child = refl
-no_range ScrollView own child = refl
-no_range RelativeLayout own child = refl
 
 pub brought-along : (old mid new : ℕ → Held) (list : Forest Row) → Same mid new list → Brought old mid list → Brought old new list
 brought-along old mid new Nothing same b = tt
@@ -59,7 +50,7 @@ pub brought_hidden : (keys : List ℕ) (held : ℕ → Held) (up : Around) (list
 brought_hidden keys held up Nothing h k = tt
 brought_hidden keys held up (Branch row kids siblings) h k = (
   sym (ap (λ bounds. brought (range_by row.view.class row.view.facts bounds (first_place held kids)) (held row.key).offset) (k.0 here).bounds
-      ∙ ap (λ range. brought range (held row.key).offset) (no_range row.view.class row.view.facts (first_place held kids))),
+      ∙ ap (λ range. brought range (held row.key).offset) (range_nowhere row.view.class row.view.facts (first_place held kids))),
   brought_hidden keys held (inside up row (held row.key)) kids here k.2,
   brought_hidden keys held up siblings h k.3,
 )
@@ -78,7 +69,7 @@ own_brought held row kids lies = by_bounds (held row.key).state.bounds refl
   where
     by_bounds : (bounds : Option Rect) → (held row.key).state.bounds ≡ bounds
         → (held row.key).offset ≡ brought (range_by row.view.class row.view.facts bounds (first_place held kids)) (held row.key).offset
-    by_bounds None e = sym (ap (λ range. brought range (held row.key).offset) (no_range row.view.class row.view.facts (first_place held kids)))
+    by_bounds None e = sym (ap (λ range. brought range (held row.key).offset) (range_nowhere row.view.class row.view.facts (first_place held kids)))
     by_bounds (Some rect) e = sym (lies rect e)
 
 -- below a view that has nothing to do, all are in range
@@ -96,7 +87,7 @@ brought_calm held (Branch row kids siblings) k r = elim (cases_Bool (is_shown ro
   | inr gone ↦
       let here : hidden_in firm row ≡ true = ap (λ v. if v then false else true) gone in (
         sym (ap (λ bounds. brought (range_by row.view.class row.view.facts bounds (first_place held kids)) (held row.key).offset) (k.0 here).bounds
-            ∙ ap (λ range. brought range (held row.key).offset) (no_range row.view.class row.view.facts (first_place held kids))),
+            ∙ ap (λ range. brought range (held row.key).offset) (range_nowhere row.view.class row.view.facts (first_place held kids))),
         brought_hidden [] held (inside firm row (held row.key)) kids here k.2,
         brought_calm held siblings k.3 r.3,
       )

@@ -7,7 +7,8 @@ use Rattle.std.specs.List.{flat_map}
 use Rattle.geom_core.specs.declared.geometry.Rect.{Rect}
 use Rattle.geom_core.specs.declared.geometry.Size.{Size}
 use Rattle.view_model.specs.declared.kinds.Class.{Class}
-use Rattle.view_model.specs.declared.kinds.Class.TheVariants.{View, TextView, FrameLayout, LinearLayout, ScrollView, RelativeLayout}
+use Rattle.view_model.specs.declared.kinds.Class.TheVariants.{RelativeLayout}
+use Rattle.view_model.proofs.ClassLaws.{place_sides, relative_is}
 use Rattle.view_model.specs.Course.{Child, Requested, last_of}
 use Rattle.view_model.specs.Facts.{is_shown}
 use Rattle.view_model.specs.Forest.{Forest, Nothing, Branch}
@@ -75,16 +76,6 @@ module _ (spot : Spot) (before : List Measured) (kid : Final) (row : Row) (kids 
       ∙ ap (λ (rect : Rect). rect ∷ rects_from spot (before ++ kid_under specs row kids ∷ []) more) place
       ∙ ap (λ (list : List Rect). rect_at_place spot before row kids specs edges ∷ list) g
 
--- only a relative layout looks at sides
-place_same : (class : Class) (spot : Spot) (before : List Measured) (kid : Measured) (some other : Option Rect) → (class ≡ RelativeLayout → some ≡ other)
-    → place_by class spot before kid some ≡ place_by class spot before kid other
-place_same View spot before kid some other same = refl
-place_same TextView spot before kid some other same = refl
-place_same FrameLayout spot before kid some other same = refl
-place_same LinearLayout spot before kid some other same = refl
-place_same ScrollView spot before kid some other same = refl
-place_same RelativeLayout spot before kid some other same = ap (place_by RelativeLayout spot before kid) (same refl)
-
 abbrev edges_in : Specs → List Requested → List (Option Rect)
 edges_in specs kids = map (λ (kid : Final). kid.edges) (finals_in specs kids)
 
@@ -118,7 +109,7 @@ placed_kids spot before specs held (Branch row below siblings) (kid ∷ kids) sa
           let kept : last_edges held (Branch row below siblings) ≡ sides ∷ last_edges held siblings = rw here refl in
           let all : spot.view.class ≡ RelativeLayout → sides ∷ last_edges held siblings ≡ kid.edges ∷ edges_in specs kids =
           λ class. sym kept ∙ edges class ∙ ap (λ (list : List Final). map (λ (kid : Final). kid.edges) list) whole in
-          let place = place_same spot.view.class spot before (kid_under now row below) kid.edges sides (λ class. sym (cons_head (all class))) in
+          let place = place_sides spot.view.class spot before (kid_under now row below) kid.edges sides (λ tied. sym (cons_head (all (relative_is spot.view.class tied)))) in
           let others = placed_kids spot (before ++ kid_under now row below ∷ []) specs held siblings kids rest (cons_tail both) (λ class. cons_tail (all class)) in
           let spots : group_places spot before held (Branch row below siblings) ≡ rect_at_place spot before row below now sides ∷ group_places spot (before ++ kid_sizes now row below) held siblings = rw here refl in
           record {
@@ -225,11 +216,11 @@ placed_kids_back spot specs held (Branch row below siblings) (kid ∷ kids) same
           record {
             lies = ap (laid_back_from spot) whole
                 ∙ one_more_back spot (following_of specs kids) (sizes_back held siblings) own row below now sides (laid_back_from spot (finals_in specs kids)) child (cons_head both) more.following
-                (place_same spot.view.class spot (sizes_back held siblings) (kid_under now row below) kid.edges sides (λ class. sym (cons_head (all class))))
+                (place_sides spot.view.class spot (sizes_back held siblings) (kid_under now row below) kid.edges sides (λ tied. sym (cons_head (all (relative_is spot.view.class tied)))))
                 ∙ ap (λ (list : List Laid). kid_laid spot (sizes_back held siblings) row below now sides ++ list) more.lies;
             places = ap (rects_back_from spot) whole
                 ∙ one_rect_back spot (following_of specs kids) (sizes_back held siblings) own row below now sides (rects_back_from spot (finals_in specs kids)) child (cons_head both) more.following
-                (place_same spot.view.class spot (sizes_back held siblings) (kid_under now row below) kid.edges sides (λ class. sym (cons_head (all class))))
+                (place_sides spot.view.class spot (sizes_back held siblings) (kid_under now row below) kid.edges sides (λ tied. sym (cons_head (all (relative_is spot.view.class tied)))))
                 ∙ ap (λ (list : List Rect). rect_at_place spot (sizes_back held siblings) row below now sides ∷ list) more.places
                 ∙ sym spots;
             following = ap (λ (list : List Final). reverse (map final_size list)) whole

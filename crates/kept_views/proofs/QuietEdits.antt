@@ -3,7 +3,7 @@ use Rattle.std.proofs.Common.{◌≡◌, ℕ, ◌<◌, ◌≤◌, ◌==◌, true
 use Rattle.geom_core.specs.declared.geometry.Rect.{Rect}
 use Rattle.view_model.specs.declared.facts.Facts.{Facts}
 use Rattle.view_model.specs.declared.kinds.Class.{Class}
-use Rattle.view_model.specs.declared.kinds.Class.TheVariants.{FrameLayout, LinearLayout, RelativeLayout, ScrollView, TextView, View}
+use Rattle.view_model.proofs.ClassLaws.{range_layout}
 use Rattle.view_model.specs.Facts.{is_shown, layout_facts}
 use Rattle.view_model.specs.Forest.{Forest, Nothing, Branch, or_else}
 use Rattle.view_model.specs.Layout.{Final, Placed, child_by, children_of, final_by, for_layout, placed_by, total_by}
@@ -17,17 +17,6 @@ use Rattle.view_tree.proofs.forest.NumberLaws.{count_of_key-put}
 use Rattle.kept_views.specs.Kept.{IsKept, loose}
 use Rattle.kept_views.proofs.AroundEdits.{cleared_at, cleared_each, reached_at, reached_each}
 use Rattle.kept_views.proofs.Quiet.{IsUnseen, Kept_unseen, Unseen}
-
--- the range of an offset depends only on what layout reads
-range_layout : (class : Class) (own : Facts) (rect child : Option Rect) → range_by class (layout_facts own) rect child ≡ range_by class own rect child
-range_layout View own rect child = refl
-range_layout TextView own rect child = refl
-range_layout FrameLayout own rect child = refl
-range_layout LinearLayout own rect child = refl
-range_layout RelativeLayout own rect child = refl
-range_layout ScrollView own None child = refl
-range_layout ScrollView own (Some rect) None = refl
-range_layout ScrollView own (Some rect) (Some child) = refl
 
 pub same_unseen : (old new : PlainView) → for_layout new ≡ for_layout old → IsUnseen old new
 same_unseen old new same = record {

@@ -5,11 +5,9 @@ use Rattle.std.specs.BTreeMap.{insert_entry}
 use Rattle.std.specs.List.{fold}
 use Rattle.std.specs.Ordering.{nat_cmp}
 use Rattle.view_model.specs.Forest.{Forest, EveryRow, rows}
-use Rattle.view_model.specs.Classes.{scrolls}
+use Rattle.view_model.specs.Classes.{has_text, scrolls}
 use Rattle.view_model.specs.PlainTree.{PlainView}
 use Rattle.view_model.specs.declared.kinds.Class.{Class}
-use Rattle.view_model.specs.declared.kinds.Class.TheVariants.{View, TextView, FrameLayout, LinearLayout, ScrollView}
-use Rattle.view_model.specs.declared.kinds.Class.TheVariants.{RelativeLayout}
 use Rattle.saved_state.specs.State.{StateEntry}
 use Rattle.saved_state.specs.Numbers.{max_offset, max_text_bytes}
 use Rattle.saved_state.specs.declared.value.Value.{Value}
@@ -21,12 +19,12 @@ text_value text = if nat_lt max_text_bytes (length (encode_utf8_all text)) then 
 
 -- what is saved of a view of this class that has an id
 abbrev pub value_by : Class → PlainView → Option Value
-value_by View view = None
-value_by TextView view = text_value view.text
-value_by FrameLayout view = None
-value_by LinearLayout view = None
-value_by ScrollView view = Some (Offset (unsigned_abs view.facts.offset))
-value_by RelativeLayout view = None
+value_by class view =
+    if scrolls class
+    then Some (Offset (unsigned_abs view.facts.offset))
+    else if has_text class
+    then text_value view.text
+    else None
 
 abbrev pub value_saved : PlainView → Option Value
 value_saved view = if view.facts.id == 0 then None else value_by view.class view

@@ -14,7 +14,7 @@ use crate::value::Value;
 use crate::writing::{put_entry, put_head};
 use std::alloc::{AllocError, Global};
 use std::collections::BTreeMap;
-use view_model::{Class, Text};
+use view_model::Text;
 use view_tree::{Key, ViewTree};
 
 /// The bytes of what is saved of a tree: the offset of each scroll view that has an id, and the text of each text view that
@@ -61,11 +61,14 @@ fn note_view(
     if facts.id == 0 {
         return Ok(());
     }
-    match tree.class(view) {
-        Class::ScrollView => note_offset(saved, facts.id, facts.offset),
-        Class::TextView => note_text(alloc, saved, facts.id, tree.text(view)),
-        Class::View | Class::FrameLayout | Class::LinearLayout | Class::RelativeLayout => Ok(()),
+    let class = tree.class(view);
+    if class.scrolls() {
+        return note_offset(saved, facts.id, facts.offset);
     }
+    if class.has_text() {
+        return note_text(alloc, saved, facts.id, tree.text(view));
+    }
+    Ok(())
 }
 
 /// Notes an offset, in the place of what has the same id.

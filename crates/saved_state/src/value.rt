@@ -30,6 +30,6 @@ pub(crate) fn suits(value: &Value, class: Class) -> bool
 {
     match value {
         Value::Offset(_) => class.scrolls(),
-        Value::Text(_) => matches!(class, Class::TextView),
+        Value::Text(_) => class.has_text(),
     }
 }

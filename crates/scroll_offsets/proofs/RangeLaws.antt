@@ -1,25 +1,10 @@
 -- Ranges of offsets, by look-ups of a view.
-use Rattle.std.proofs.Common.{◌≡◌, ℕ, ℤ, Option, Some, None, refl, ap}
-use Rattle.geom_core.specs.declared.geometry.Rect.{Rect}
+use Rattle.std.proofs.Common.{◌≡◌, ℕ, ap}
 use Rattle.scroll_offsets.specs.Bringing.{child_rect, range_at}
-use Rattle.view_model.specs.declared.facts.Facts.{Facts}
-use Rattle.view_model.specs.declared.kinds.Class.{Class}
-use Rattle.view_model.specs.declared.kinds.Class.TheVariants.{View, TextView, FrameLayout, LinearLayout, ScrollView, RelativeLayout}
 use Rattle.view_model.specs.Offsets.{range_by}
 use Rattle.view_tree.specs.Rows.{children_of_first, head_view, part_from}
 use Rattle.view_tree.specs.Views.{IsLive, Views, held_of}
 use Rattle.view_tree.proofs.forest.KeyLaws.{located}
-
--- a range does not look at the offset
-pub range_unscrolled : (class : Class) (own : Facts) (offset : ℤ) (rect child : Option Rect) → range_by class (record own { offset = offset }) rect child ≡ range_by class own rect child
-range_unscrolled View own offset rect child = refl
-range_unscrolled TextView own offset rect child = refl
-range_unscrolled FrameLayout own offset rect child = refl
-range_unscrolled LinearLayout own offset rect child = refl
-range_unscrolled RelativeLayout own offset rect child = refl
-range_unscrolled ScrollView own offset None child = refl
-range_unscrolled ScrollView own offset (Some rect) None = refl
-range_unscrolled ScrollView own offset (Some rect) (Some child) = refl
 
 -- the range of the view of a key, by look-ups
 pub range_as : (views : Views) (key : ℕ) → IsLive views key

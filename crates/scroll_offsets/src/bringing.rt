@@ -1,15 +1,15 @@
 //! The offset of a scroll view that was laid out is brought into its range.
 ghost use Rattle.std.specs.Prelude.{◌≡◌, ◌≢◌, true, false};
 ghost use Rattle.scroll_offsets.specs.Bringing.{child_rect, range_at};
-ghost use Rattle.view_model.specs.declared.kinds.Class.TheVariants.{ScrollView};
+ghost use Rattle.view_model.specs.Classes.{scrolls};
 ghost use Rattle.view_model.specs.Offsets.{brought, range_by};
 ghost use Rattle.view_model.specs.ScrollView.{offset_within};
 ghost use Rattle.view_tree.specs.Rows.{children_of_first, part_from};
-ghost use Rattle.view_tree.specs.Views.{IsLive, KeepsOthers, SameTree, facts_of, held_of, offset_of, state_of};
+ghost use Rattle.view_tree.specs.Views.{IsLive, KeepsOthers, SameTree, class_of, facts_of, held_of, offset_of, state_of};
 
 use geom_core::Rect;
 use scroll_view::{offset_within, range_in};
-use view_model::{Class, Facts};
+use view_model::Facts;
 use view_tree::{Key, ViewTree};
 
 /// Brings the offset of a view, if it is a scroll view that has bounds, into the range that it has with its present
@@ -59,20 +59,17 @@ fn range_of(tree: &ViewTree, view: Key) -> Option<i32>
     requires { IsLive tree.now view }
     ensures { result ≡ range_at tree.now view }
 {
-    match tree.class(view) {
-        Class::View
-        | Class::TextView
-        | Class::FrameLayout
-        | Class::LinearLayout
-        | Class::RelativeLayout => None,
-        Class::ScrollView => range_where_it_lies(tree, view),
+    if !tree.class(view).scrolls() {
+        return None;
     }
+    range_where_it_lies(tree, view)
 }
 
-/// The range of a scroll view, if it has bounds.
+/// The range of a view that scrolls, if it has bounds.
 fn range_where_it_lies(tree: &ViewTree, view: Key) -> Option<i32>
-    requires { IsLive tree.now view }
-    ensures { result ≡ range_by ScrollView (facts_of tree.now view) (state_of tree.now view).bounds
+    requires live { IsLive tree.now view }
+    requires scrolls { scrolls (class_of tree.now view) ≡ true }
+    ensures { result ≡ range_by (class_of tree.now view) (facts_of tree.now view) (state_of tree.now view).bounds
         (child_rect (held_of tree.now) (children_of_first (part_from view tree.now.tree))) }
 {
     let child = child_rect(tree, view);

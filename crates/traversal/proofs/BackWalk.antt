@@ -7,7 +7,7 @@ use Rattle.kept_views.proofs.LaidFrames.{Fit-along, Fit-first, Fit-later, IsQuie
 use Rattle.seen_parts.specs.declared.frame.Canvas.{Canvas}
 use Rattle.view_model.specs.declared.facts.Facts.{Facts}
 use Rattle.view_model.specs.declared.kinds.Class.{Class}
-use Rattle.view_model.specs.declared.kinds.Class.TheVariants.{View, TextView, FrameLayout, LinearLayout, ScrollView, RelativeLayout}
+use Rattle.view_model.specs.declared.kinds.Class.TheVariants.{RelativeLayout}
 use Rattle.view_model.specs.declared.limits.TheConstants.{MAX_VIEWS}
 use Rattle.view_model.specs.Facts.{is_shown, layout_facts}
 use Rattle.view_model.specs.Forest.{Forest, Nothing, Branch, count_of}
@@ -203,9 +203,4 @@ fewer_back tree view kid live at =
 
 -- whether a view places its children from the last to the first does not depend on its offset
 pub backwards_is : (class : Class) (facts : Facts) → places_backwards class facts ≡ places_backwards class (layout_facts facts)
-backwards_is View facts = refl
-backwards_is TextView facts = refl
-backwards_is FrameLayout facts = refl
-backwards_is LinearLayout facts = refl
-backwards_is ScrollView facts = refl
-backwards_is RelativeLayout facts = refl
+backwards_is class facts = refl

@@ -10,7 +10,10 @@ use Rattle.measure_pass.proofs.Laws.{measured_sides}
 use Rattle.size_hooks.specs.Hook.{Hook}
 use Rattle.size_hooks.specs.Hooks.{reported_as}
 use Rattle.view_model.specs.declared.kinds.Class.{Class}
-use Rattle.view_model.specs.declared.kinds.Class.TheVariants.{View, TextView, FrameLayout, LinearLayout, ScrollView, RelativeLayout}
+use Rattle.view_model.specs.declared.kinds.Class.TheVariants.{RelativeLayout}
+use Rattle.view_model.specs.Classes.{is_relative, lays_in_line}
+use Rattle.view_model.proofs.ClassLaws.{relative_is}
+use Rattle.view_model.specs.RelativeCourse.{relative_place}
 use Rattle.view_model.specs.Course.{Child, Requested}
 use Rattle.view_model.specs.Facts.{is_shown}
 use Rattle.view_model.specs.Forest.{Forest, Nothing, Branch}
@@ -49,16 +52,20 @@ line_narrow : (vertical : Bool) (along beside : ℤ) (size : Size) → IsSide si
 line_narrow true along beside size w h = at_narrow _ _ size w h
 line_narrow false along beside size w h = at_narrow _ _ size w h
 
--- the place of a child, by the class of its group
+sides_narrow : (size : Size) (edges : Option Rect) → IsSide size.w → IsSide size.h → AreSidesNarrow edges → IsNarrow (relative_place size edges)
+sides_narrow size None w h narrow = at_narrow (pos 0) (pos 0) size w h
+sides_narrow size (Some rect) w h narrow = narrow
+
+-- the place of a child, by how its group places it
 place_narrow : (class : Class) (spot : Spot) (before : List Measured) (kid : Measured) (edges : Option Rect) → IsSide kid.size.w → IsSide kid.size.h
     → (class ≡ RelativeLayout → AreSidesNarrow edges) → IsNarrow (place_by class spot before kid edges)
-place_narrow View spot before kid edges w h narrow = at_narrow _ _ kid.size w h
-place_narrow TextView spot before kid edges w h narrow = at_narrow _ _ kid.size w h
-place_narrow FrameLayout spot before kid edges w h narrow = at_narrow _ _ kid.size w h
-place_narrow LinearLayout spot before kid edges w h narrow = line_narrow spot.view.facts.vertical _ _ kid.size w h
-place_narrow ScrollView spot before kid edges w h narrow = at_narrow _ _ kid.size w h
-place_narrow RelativeLayout spot before kid None w h narrow = at_narrow (pos 0) (pos 0) kid.size w h
-place_narrow RelativeLayout spot before kid (Some rect) w h narrow = narrow refl
+place_narrow class spot before kid edges w h narrow = elim (cases_Bool (lays_in_line class)) [
+  | inl line ↦ rw line (line_narrow spot.view.facts.vertical _ _ kid.size w h)
+  | inr apart ↦ elim (cases_Bool (is_relative class)) [
+    | inl tied ↦ rw (apart, tied) (sides_narrow kid.size edges w h (narrow (relative_is class tied)))
+    | inr untied ↦ rw (apart, untied) (at_narrow _ _ kid.size w h)
+  ]
+]
 
 placed_fit : (spot : Spot) (before : List Measured) (kids : List Final) → TidyFinals spot.view.class kids → FitAll (laid_from spot before kids)
 placed_fit spot before [] tidy = tt

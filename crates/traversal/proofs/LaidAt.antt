@@ -10,7 +10,8 @@ use Rattle.geom_core.specs.declared.geometry.Size.{Size}
 use Rattle.kept_views.specs.Kept.{Sized, firm, first_place, hidden_in, owed}
 use Rattle.kept_views.specs.Laying.{Brought, Fit, IsPut, IsQuietAll, Wrote, differ, group_kids, kid_place, kid_under, last_sizes, moved_to, ranged_own, same_bounds, same_place, some_all, spot_of}
 use Rattle.kept_views.specs.Passes.{settled, settled_at}
-use Rattle.kept_views.proofs.Brought.{brought_hidden, no_range}
+use Rattle.kept_views.proofs.Brought.{brought_hidden}
+use Rattle.view_model.proofs.ClassLaws.{range_nowhere}
 use Rattle.kept_views.proofs.LaidCalm.{gone_nowhere, not_both}
 use Rattle.kept_views.proofs.LaidFrames.{Fit-along, Fit-below, differ-along, owed-along, owed_below}
 use Rattle.kept_views.proofs.LaidRows.{calm_row, not_own, put_row, wrote_below}
@@ -267,7 +268,7 @@ kid_gone tree kid placer spot before held live gone fit places =
         places = rw gone refl;
         offsets = (
           sym (ap (λ bounds. brought (range_by f.row.view.class f.row.view.facts bounds (first_place held f.kids)) (held f.row.key).offset) own.bounds
-              ∙ ap (λ range. brought range (held f.row.key).offset) (no_range f.row.view.class f.row.view.facts (first_place held f.kids))),
+              ∙ ap (λ range. brought range (held f.row.key).offset) (range_nowhere f.row.view.class f.row.view.facts (first_place held f.kids))),
           brought_hidden [] held _ f.kids hidden k.2,
           tt,
         );

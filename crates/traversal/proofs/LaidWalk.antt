@@ -11,6 +11,7 @@ use Rattle.view_model.specs.declared.limits.TheConstants.{MAX_VIEWS}
 use Rattle.geom_core.specs.declared.geometry.Rect.{Rect}
 use Rattle.view_model.specs.Facts.{is_shown}
 use Rattle.view_model.specs.Forest.{Forest, Nothing, Branch, count_of}
+use Rattle.view_model.proofs.ClassLaws.{relative_is}
 use Rattle.view_model.specs.Layout.{Spot, places_backwards}
 use Rattle.view_model.specs.Measuring.{Measured}
 use Rattle.view_model.specs.RelativeLayout.{sides_of}
@@ -135,7 +136,7 @@ pub narrow_for : (placer : Placer) (spot : Spot) (before : List Measured) (sides
     → (spot.view.class ≡ RelativeLayout → AreSidesNarrow sides) → IsNarrowFor placer sides
 narrow_for (Over room) spot before sides places narrow = tt
 narrow_for (InLine cursor) spot before sides places narrow = tt
-narrow_for Between spot before sides places narrow = narrow places
+narrow_for Between spot before sides places narrow = narrow (relative_is spot.view.class places.1)
 
 -- the sides of the next child
 pub next_narrow : (tree kids : Forest Row) (placer : Placer) (spot : Spot) (start : ℕ → Held) (begin set : ℕ) (kid : ℕ) (now : ℕ → Held) (measured laid : ℕ)

@@ -7,7 +7,7 @@ use Rattle.kept_views.specs.Kept.{Around, Cleared, Kept, first_place, hidden_in,
 use Rattle.kept_views.specs.Laying.{Brought}
 use Rattle.view_model.specs.declared.facts.Facts.{Facts}
 use Rattle.view_model.specs.declared.kinds.Class.{Class}
-use Rattle.view_model.specs.declared.kinds.Class.TheVariants.{View, TextView, FrameLayout, LinearLayout, ScrollView, RelativeLayout}
+use Rattle.view_model.proofs.ClassLaws.{range_nowhere, range_unscrolled}
 use Rattle.view_model.specs.Facts.{is_shown}
 use Rattle.view_model.specs.Forest.{Forest, Nothing, Branch}
 use Rattle.view_model.specs.Geometry.{rect_in}
@@ -17,16 +17,6 @@ use Rattle.view_tree.specs.Rows.{Row, count_of_key, head_view}
 use Rattle.view_tree.specs.Views.{Held, IsTree, Views, geometry_of, held_of, number_of, plain_rows}
 use Rattle.view_tree.proofs.forest.KeyLaws.{Within, count_of_key-within, from_within, here, in_after, in_below, times_self}
 use Rattle.view_tree.proofs.values.GeometryLaws.{rect_live}
-
-range_unscrolled : (class : Class) (own : Facts) (offset : ℤ) (rect child : Option Rect) → range_by class (record own { offset = offset }) rect child ≡ range_by class own rect child
-range_unscrolled View own offset rect child = refl
-range_unscrolled TextView own offset rect child = refl
-range_unscrolled FrameLayout own offset rect child = refl
-range_unscrolled LinearLayout own offset rect child = refl
-range_unscrolled RelativeLayout own offset rect child = refl
-range_unscrolled ScrollView own offset None child = refl
-range_unscrolled ScrollView own offset (Some rect) None = refl
-range_unscrolled ScrollView own offset (Some rect) (Some child) = refl
 
 pub within_kids : {row : Row} {kids siblings tree : Forest Row} → Within (Branch row kids siblings) tree → Within kids tree
 within_kids here = in_below here
@@ -59,7 +49,7 @@ module _ (new : Views) (is : IsTree new) (old : ℕ → Held) where
       let last = brought (range_by row.view.class (record row.view.facts { offset = offset }) (rect_in G row.view.number) (first_rect G (plain_rows old kids))) offset in
       let same : range_by row.view.class row.view.facts (held_of new row.key).state.bounds (first_place (held_of new) kids)
       ≡ range_by row.view.class (record row.view.facts { offset = offset }) (rect_in G row.view.number) (first_rect G (plain_rows old kids)) =
-      sym (range_unscrolled row.view.class row.view.facts offset _ _
+      sym (range_unscrolled row.view.class row.view.facts offset (rect_in G row.view.number) (first_rect G (plain_rows old kids))
       ∙ ap (λ (rect : Option Rect). range_by row.view.class row.view.facts rect (first_rect G (plain_rows old kids))) (rect_of row kids siblings w)
       ∙ ap (range_by row.view.class row.view.facts (held_of new row.key).state.bounds) (first_rect_is kids (within_kids w))) in
       let set : (held_of new row.key).offset ≡ last = b.0 ∙ ap (λ (range : Option ℤ). brought range offset) same in
@@ -99,7 +89,7 @@ pub ranged_nowhere : (tree : Forest PlainView) → ranged [] tree ≡ tree
 ranged_nowhere Nothing = refl
 ranged_nowhere (Branch view below after) =
     let none : first_rect [] below ≡ None = first_none below in
-    let range : range_by view.class view.facts None (first_rect [] below) ≡ None = no_range view.class view.facts (first_rect [] below) in
+    let range : range_by view.class view.facts None (first_rect [] below) ≡ None = range_nowhere view.class view.facts (first_rect [] below) in
     let own : brought (range_by view.class view.facts None (first_rect [] below)) view.facts.offset ≡ view.facts.offset = ap (λ range. brought range view.facts.offset) range in
     let b = ranged_nowhere below in
     let a = ranged_nowhere after in
@@ -109,11 +99,3 @@ ranged_nowhere (Branch view below after) =
     first_none : (tree : Forest PlainView) → first_rect [] tree ≡ None
     first_none Nothing = refl
     first_none (Branch view below after) = refl
-
-    no_range : (class : Class) (own : Facts) (child : Option Rect) → range_by class own None child ≡ None
-    no_range View own child = refl
-    no_range TextView own child = refl
-    no_range FrameLayout own child = refl
-    no_range LinearLayout own child = refl
-    no_range ScrollView own child = refl
-    no_range RelativeLayout own child = refl

@@ -1,7 +1,7 @@
 -- An offset that is set within its range keeps what every tree keeps between lines.
 use Rattle.std.proofs.Common.{◌≡◌, ℕ, ℤ, Option, Some, refl, sym, ◌∙◌, ap, subst, inl, inr}
 use mathlib.Core.Path.{fun_ext}
-use Rattle.std.proofs.lemmas.Bool.{cases_eq}
+use Rattle.std.proofs.lemmas.Bool.{cases_Bool, cases_eq}
 use Rattle.geom_core.specs.declared.geometry.Rect.{Rect}
 use Rattle.kept_views.proofs.Brought.{brought_again}
 use Rattle.kept_views.proofs.Dragged.{InRanges, offsets_kept, with_offsets}
@@ -10,7 +10,6 @@ use Rattle.touch_dispatch.specs.Dispatch.{range_for}
 use Rattle.touch_dispatch.specs.reaching.TreeEvents.{own_range}
 use Rattle.view_model.specs.declared.facts.Facts.{Facts}
 use Rattle.view_model.specs.declared.kinds.Class.{Class}
-use Rattle.view_model.specs.declared.kinds.Class.TheVariants.{View, TextView, FrameLayout, LinearLayout, ScrollView, RelativeLayout}
 use Rattle.view_model.specs.Forest.{Forest, Nothing, Branch}
 use Rattle.view_model.specs.Classes.{scrolls}
 use Rattle.view_model.specs.Offsets.{brought, range_by}
@@ -32,12 +31,10 @@ range_within range own offset before same is =
 -- an offset that a view in this rectangle may have stays as it is
 range_brought : (class : Class) (own : Facts) (rect : Rect) (child : Option Rect) (offset : ℤ) → offset_within (range_for (scrolls class) own (Some rect) child) offset ≡ offset
     → brought (range_by class own (Some rect) child) offset ≡ offset
-range_brought View own rect child offset within = refl
-range_brought TextView own rect child offset within = refl
-range_brought FrameLayout own rect child offset within = refl
-range_brought LinearLayout own rect child offset within = refl
-range_brought RelativeLayout own rect child offset within = refl
-range_brought ScrollView own rect child offset within = within
+range_brought class own rect child offset within = elim (cases_Bool (scrolls class)) [
+  | inl moves ↦ rw moves (rw moves at within)
+  | inr stays ↦ rw stays refl
+]
 
 module _ (old new : Views) (view : ℕ) (offset : ℤ) (is : IsTree old) (own : held_of new view ≡ record (held_of old view) { offset = offset })
     (others : KeepsOthers old new view) (within : offset_within (own_range old view) offset ≡ offset) where

@@ -10,7 +10,7 @@ ghost use Rattle.kept_views.specs.Laying.{Fit, IsPut, IsQuiet, IsQuietAll, IsQui
 ghost use Rattle.kept_views.specs.Passes.{settled, settled_at};
 ghost use Rattle.measure_pass.specs.Caches.{Grown};
 ghost use Rattle.measure_pass.specs.Measured.{IsFit, Keeps};
-ghost use Rattle.view_model.specs.declared.kinds.Class.TheVariants.{LinearLayout, RelativeLayout, ScrollView};
+ghost use Rattle.view_model.specs.Classes.{is_relative, lays_in_line};
 ghost use Rattle.view_model.specs.declared.limits.TheConstants.{MAX_VIEWS};
 ghost use Rattle.view_model.specs.Forest.{count_of};
 ghost use Rattle.view_model.specs.Facts.{is_shown};
@@ -26,7 +26,7 @@ ghost use Rattle.view_tree.specs.Views.{IsLive, IsTree, KeepsOthers, KeepsOutsid
 ghost use Rattle.traversal.specs.Counting.{IsMeasuringCounted};
 ghost use Rattle.traversal.specs.Laying.{AreFitToLay, HasLaid, stage_of};
 ghost use Rattle.traversal.specs.Narrow.{IsNarrow, IsNarrowFor, IsStretch};
-ghost use Rattle.traversal.specs.Placing.{LaidKids, PlacesAs, Unmarked, lays_over};
+ghost use Rattle.traversal.specs.Placing.{LaidKids, PlacesAs, Unmarked};
 ghost use Rattle.traversal.specs.Resting.{IsAtPlace};
 ghost use Rattle.traversal.specs.Subtrees.{children_at, spot_at, subtree_at};
 
@@ -36,7 +36,7 @@ use geom_core::{Rect, Size};
 use measure_pass::remeasure;
 use scroll_offsets::bring_one;
 use seen_parts::{Canvas, follow, part_seen};
-use view_model::{Class, Facts, Work};
+use view_model::{Facts, Work};
 use view_tree::{Key, ViewTree};
 
 /// What the children of a view are laid in: the size of the view, and the canvas in which they are seen, if they are.
@@ -198,13 +198,13 @@ fn bring(tree: &mut ViewTree, view: Key, rect: Rect, canvas: &Option<Canvas>, da
         → LiesIn (seen_in (Some rect) (as_seen canvas)) box)
         → LiesIn damage.new.rect box }
 {
-    if !is_scrolled(tree, view) {
+    if !tree.class(view).scrolls() {
         return;
     }
     bring_scrolled(tree, view, rect, canvas, damage);
 }
 
-/// The same of a scroll view.
+/// The same of a view that scrolls.
 #[inline(never)]
 fn bring_scrolled(
     tree: &mut ViewTree,
@@ -235,23 +235,6 @@ fn bring_scrolled(
         return;
     };
     damage.add(part_seen(Some(rect), *canvas));
-}
-
-/// Whether a view is a scroll view. The offset of any other has no range.
-#[inline(always)]
-fn is_scrolled(tree: &ViewTree, view: Key) -> bool
-    requires { IsLive tree.now view }
-    ensures is_tree { IsTree tree.now }
-    ensures other { result ≡ false → class_of tree.now view ≢ ScrollView }
-{
-    match tree.class(view) {
-        Class::ScrollView => true,
-        Class::View
-        | Class::TextView
-        | Class::FrameLayout
-        | Class::LinearLayout
-        | Class::RelativeLayout => false,
-    }
 }
 
 /// Whether nothing is to be done below a view.
@@ -373,13 +356,16 @@ fn lay_kids(tree: &mut ViewTree, view: Key, inside: &Inside, context: &mut Layou
         lay_backwards(tree, view, inside, context);
         return;
     }
-    match tree.class(view) {
-        Class::View | Class::TextView | Class::FrameLayout | Class::ScrollView => {
-            lay_over(tree, view, inside, context)
-        }
-        Class::LinearLayout => lay_in_line(tree, view, inside, context),
-        Class::RelativeLayout => lay_between(tree, view, inside, context),
+    let class = tree.class(view);
+    if class.lays_in_line() {
+        lay_in_line(tree, view, inside, context);
+        return;
     }
+    if class.is_relative() {
+        lay_between(tree, view, inside, context);
+        return;
+    }
+    lay_over(tree, view, inside, context);
 }
 
 /// Lays the children of a view that places them over one another.
@@ -387,7 +373,8 @@ fn lay_kids(tree: &mut ViewTree, view: Key, inside: &Inside, context: &mut Layou
 #[inline(never)]
 fn lay_over(tree: &mut ViewTree, view: Key, inside: &Inside, context: &mut LayoutContext)
     requires fit { AreFitToLay tree.old view inside.now.canvas }
-    requires class { lays_over (class_of tree.old view) ≡ true }
+    requires apart { lays_in_line (class_of tree.old view) ≡ false }
+    requires untied { is_relative (class_of tree.old view) ≡ false }
     ensures done { HasLaid inside.now.canvas (stage_of tree.old context.old) (stage_of tree.new context.new)
         (children_at tree.old view) }
     ensures quiet { IsQuiet (held_of tree.new) (spot_at tree.old view inside.now.size) []
@@ -402,7 +389,7 @@ fn lay_over(tree: &mut ViewTree, view: Key, inside: &Inside, context: &mut Layou
 #[inline(never)]
 fn lay_in_line(tree: &mut ViewTree, view: Key, inside: &Inside, context: &mut LayoutContext)
     requires fit { AreFitToLay tree.old view inside.now.canvas }
-    requires class { class_of tree.old view ≡ LinearLayout }
+    requires class { lays_in_line (class_of tree.old view) ≡ true }
     ensures done { HasLaid inside.now.canvas (stage_of tree.old context.old) (stage_of tree.new context.new)
         (children_at tree.old view) }
     ensures quiet { IsQuiet (held_of tree.new) (spot_at tree.old view inside.now.size) []
@@ -417,7 +404,8 @@ fn lay_in_line(tree: &mut ViewTree, view: Key, inside: &Inside, context: &mut La
 #[inline(never)]
 fn lay_between(tree: &mut ViewTree, view: Key, inside: &Inside, context: &mut LayoutContext)
     requires fit { AreFitToLay tree.old view inside.now.canvas }
-    requires class { class_of tree.old view ≡ RelativeLayout }
+    requires apart { lays_in_line (class_of tree.old view) ≡ false }
+    requires tied { is_relative (class_of tree.old view) ≡ true }
     ensures done { HasLaid inside.now.canvas (stage_of tree.old context.old) (stage_of tree.new context.new)
         (children_at tree.old view) }
     ensures quiet { IsQuiet (held_of tree.new) (spot_at tree.old view inside.now.size) []
@@ -457,7 +445,7 @@ fn lay_forwards(
 #[inline(never)]
 fn lay_backwards(tree: &mut ViewTree, view: Key, inside: &Inside, context: &mut LayoutContext)
     requires fit { AreFitToLay tree.old view inside.now.canvas }
-    requires class { class_of tree.old view ≡ LinearLayout }
+    requires class { lays_in_line (class_of tree.old view) ≡ true }
     ensures done { HasLaid inside.now.canvas (stage_of tree.old context.old) (stage_of tree.new context.new)
         (children_at tree.old view) }
     ensures quiet { IsQuietBack (held_of tree.new) (spot_at tree.old view inside.now.size)

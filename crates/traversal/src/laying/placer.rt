@@ -1,7 +1,8 @@
-//! Where a group places its children, one after the other. What is here has one arm per class.
-ghost use Rattle.std.specs.Prelude.{◌≡◌, ◌<◌, true, [], ◌∷◌, ◌++◌, List, length};
+//! Where a group places its children, one after the other.
+ghost use Rattle.std.specs.Prelude.{◌≡◌, ◌<◌, true, false, [], ◌∷◌, ◌++◌, List, length};
 ghost use Rattle.geom_core.specs.Limits.{IsSide};
 ghost use Rattle.view_model.specs.declared.limits.TheConstants.{MAX_VIEWS};
+ghost use Rattle.view_model.specs.Classes.{is_relative, lays_in_line};
 ghost use Rattle.view_model.specs.Facts.{layout_facts};
 ghost use Rattle.view_model.specs.Layout.{Spot, place_in, places_backwards};
 ghost use Rattle.view_model.specs.Measuring.{Measured};
@@ -9,14 +10,13 @@ ghost use Rattle.view_model.specs.RelativeCourse.{relative_place};
 ghost use Rattle.view_model.specs.RelativeLayout.{sides_of};
 ghost use Rattle.view_tree.specs.Views.{IsLive, IsTree, class_of, facts_of};
 ghost use Rattle.traversal.specs.Narrow.{AreSidesNarrow, IsNarrow, IsNarrowFor};
-ghost use Rattle.traversal.specs.Placing.{PlacesAs, lays_over};
+ghost use Rattle.traversal.specs.Placing.{PlacesAs};
 ghost use Rattle.traversal.specs.Subtrees.{spot_at};
-ghost use Rattle.view_model.specs.declared.kinds.Class.TheVariants.{LinearLayout};
 
 use frame_layout::Room;
 use geom_core::{Rect, Size};
 use linear_layout::{Cursor, is_backwards};
-use view_model::{Class, Edges, Facts};
+use view_model::{Edges, Facts};
 use view_tree::{Key, ViewTree};
 
 /// How a view places its children.
@@ -35,7 +35,8 @@ impl Placer {
     #[inline(always)]
     pub fn over(tree: &ViewTree, view: Key, room: Size) -> Placer
         requires live { IsLive tree.now view }
-        requires class { lays_over (class_of tree.now view) ≡ true }
+        requires apart { lays_in_line (class_of tree.now view) ≡ false }
+        requires untied { is_relative (class_of tree.now view) ≡ false }
         ensures places { PlacesAs result (spot_at tree.now view room) [] }
         ensures is_tree { IsTree tree.now }
     {
@@ -46,7 +47,7 @@ impl Placer {
     #[inline(always)]
     pub fn in_line(tree: &ViewTree, view: Key, room: Size) -> Placer
         requires live { IsLive tree.now view }
-        requires class { class_of tree.now view ≡ LinearLayout }
+        requires class { lays_in_line (class_of tree.now view) ≡ true }
         ensures places { PlacesAs result (spot_at tree.now view room) [] }
         ensures is_tree { IsTree tree.now }
     {
@@ -82,14 +83,7 @@ pub fn places_backwards(tree: &ViewTree, view: Key) -> bool
     requires { IsLive tree.now view }
     ensures { result ≡ places_backwards (class_of tree.now view) (facts_of tree.now view) }
 {
-    match tree.class(view) {
-        Class::LinearLayout => is_backwards(tree.facts(view)),
-        Class::View
-        | Class::TextView
-        | Class::FrameLayout
-        | Class::ScrollView
-        | Class::RelativeLayout => false,
-    }
+    tree.class(view).lays_in_line() && is_backwards(tree.facts(view))
 }
 
 /// The rectangle between the sides of a child of this size; at the origin if it has none.

@@ -1,6 +1,6 @@
 use Rattle.std.proofs.Common.{◌≡◌, ◌≢◌, ◌+◌, ◌≤◌, ℕ, None, true, false, length, refl, sym, ◌∙◌, ap, subst, arith}
-use Rattle.std.specs.Prelude.{if◌then◌else◌}
-use Rattle.std.proofs.lemmas.Bool.{cases_eq}
+use Rattle.std.specs.Prelude.{◌&&◌, if◌then◌else◌}
+use Rattle.std.proofs.lemmas.Bool.{and_parts, cases_eq}
 use Rattle.std.proofs.Common.{inl, inr}
 use Rattle.geom_core.specs.declared.geometry.Size.{Size}
 use Rattle.kept_views.specs.Laying.{Wrote, differ, moved_to, same_place, sizes_back, spot_of}
@@ -9,12 +9,12 @@ use Rattle.kept_views.proofs.LaidFrames.{Fit-along, Fit-first, differ-along}
 use Rattle.kept_views.proofs.LaidRows.{moved_is}
 use Rattle.view_model.specs.declared.limits.TheConstants.{MAX_VIEWS}
 use Rattle.view_model.specs.declared.facts.Facts.{Facts}
-use Rattle.view_model.specs.declared.kinds.Class.{Class}
-use Rattle.view_model.specs.declared.kinds.Class.TheVariants.{View, TextView, FrameLayout, LinearLayout, ScrollView, RelativeLayout}
+use Rattle.view_model.specs.Classes.{lays_in_line}
 use Rattle.view_model.specs.Facts.{is_shown, layout_facts}
 use Rattle.view_model.specs.Forest.{count_of}
 use Rattle.view_model.specs.Geometry.{size_of_rect}
 use Rattle.view_model.specs.Layout.{place_in, places_backwards}
+use Rattle.view_model.specs.LinearLayout.{is_backwards}
 use Rattle.view_model.specs.Measuring.{Measured, Specs}
 use Rattle.view_model.specs.RelativeLayout.{sides_of}
 use Rattle.view_tree.specs.declared.node.state.State.{State}
@@ -73,10 +73,12 @@ lay_kid-returns-clause-quiet t c = λ spot before places few.
     let facts_is : layout_facts c.facts-facts.result.now ≡ layout_facts (head_view (part_from c.args.kid c.args.tree.now.tree)).facts =
     ap layout_facts c.facts-facts.ensures.value in
     let kid_of : Size → Measured = λ size. record { facts = layout_facts (head_view (part_from c.args.kid c.args.tree.now.tree)).facts; size = size } in
+    let kid_with : Facts → Measured = λ facts. record { facts = facts; size = c.state-state.result.measured } in
     kid_at c.args.tree.now.tree c.args.kid c.place-rect.new.self spot before c.state-state.result.measured c.place-rect.result
     (held_of c.args.tree.now) (held_of c.lay.new.tree) c.requires.live shown c.requires.fit.sized
     (ap (λ (state : State). state.measured) c.state-state.ensures.value)
-    (rw facts_is at (c.place-rect.ensures.place spot before places)
+    (c.place-rect.ensures.place spot before places
+    ∙ ap (λ (facts : Facts). place_in spot before (kid_with facts) (sides_of c.state-state.result.edges)) facts_is
     ∙ ap (λ (state : State). place_in spot before (kid_of c.state-state.result.measured) (sides_of state.edges)) c.state-state.ensures.value) (rw facts_is at (c.place-rect.ensures.next spot before places (omega arith))) c.lay.ensures.put
 
 pub lay_kid-returns-then-not-is_shown-clause-done : goal.lay_kid-returns-then-not-is_shown-clause-done
@@ -271,35 +273,29 @@ lay_kids-returns-then-places_backwards-clause-quiet t c =
     let back : places_backwards class (layout_facts facts) ≡ true = sym (backwards_is class facts) ∙ sym c.places_backwards.ensures ∙ c.if-places_backwards.true in
     rw back c.lay_backwards.ensures.quiet
 
-is_in_line : (class : Class) (facts : Facts) → places_backwards class facts ≡ true → class ≡ LinearLayout
-is_in_line View facts e = absurd (cc)
-is_in_line TextView facts e = absurd (cc)
-is_in_line FrameLayout facts e = absurd (cc)
-is_in_line LinearLayout facts e = refl
-is_in_line ScrollView facts e = absurd (cc)
-is_in_line RelativeLayout facts e = absurd (cc)
-
 pub lay_kids-lay_backwards-requires : goal.lay_kids-lay_backwards-requires
 lay_kids-lay_backwards-requires t c =
-    let class = is_in_line (class_of c.args.tree.now c.args.view) (facts_of c.args.tree.now c.args.view) (sym c.places_backwards.ensures ∙ c.if-places_backwards.true) in
-    (omega arith, (c.requires.fit, class))
+    let class = class_of c.args.tree.now c.args.view in
+    let facts = facts_of c.args.tree.now c.args.view in
+    let back : (lays_in_line class && is_backwards facts) ≡ true = sym c.places_backwards.ensures ∙ c.if-places_backwards.true in
+    (omega arith, (c.requires.fit, (and_parts (lays_in_line class) (is_backwards facts) back).0))
 
-pub lay_kids-returns-in-View-clause-quiet : goal.lay_kids-returns-in-View-clause-quiet
-lay_kids-returns-in-View-clause-quiet t c =
+pub lay_kids-returns-clause-quiet : goal.lay_kids-returns-clause-quiet
+lay_kids-returns-clause-quiet t c =
     let class = class_of c.args.tree.now c.args.view in
     let facts = facts_of c.args.tree.now c.args.view in
     let on : places_backwards class (layout_facts facts) ≡ false = sym (backwards_is class facts) ∙ sym c.places_backwards.ensures ∙ c.if-places_backwards.false in
     rw on c.lay_over.ensures.quiet
 
-pub lay_kids-returns-in-LinearLayout-clause-quiet : goal.lay_kids-returns-in-LinearLayout-clause-quiet
-lay_kids-returns-in-LinearLayout-clause-quiet t c =
+pub lay_kids-returns-then-lays_in_line-clause-quiet : goal.lay_kids-returns-then-lays_in_line-clause-quiet
+lay_kids-returns-then-lays_in_line-clause-quiet t c =
     let class = class_of c.args.tree.now c.args.view in
     let facts = facts_of c.args.tree.now c.args.view in
     let on : places_backwards class (layout_facts facts) ≡ false = sym (backwards_is class facts) ∙ sym c.places_backwards.ensures ∙ c.if-places_backwards.false in
     rw on c.lay_in_line.ensures.quiet
 
-pub lay_kids-returns-in-RelativeLayout-clause-quiet : goal.lay_kids-returns-in-RelativeLayout-clause-quiet
-lay_kids-returns-in-RelativeLayout-clause-quiet t c =
+pub lay_kids-returns-then-is_relative-clause-quiet : goal.lay_kids-returns-then-is_relative-clause-quiet
+lay_kids-returns-then-is_relative-clause-quiet t c =
     let class = class_of c.args.tree.now c.args.view in
     let facts = facts_of c.args.tree.now c.args.view in
     let on : places_backwards class (layout_facts facts) ≡ false = sym (backwards_is class facts) ∙ sym c.places_backwards.ensures ∙ c.if-places_backwards.false in
