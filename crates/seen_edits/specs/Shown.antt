@@ -1,5 +1,5 @@
 -- What a picture shows of a tree of views that has changed since it was painted.
-use Rattle.std.specs.Prelude.{◌≡◌, ◌<◌, ℕ, ℤ, pos, Bool, true, false}
+use Rattle.std.specs.Prelude.{◌≡◌, ◌<◌, ℕ, ℤ, pos, Bool, true, false, not}
 use Rattle.damage_rect.specs.Within.{LiesIn}
 use Rattle.geom_core.specs.Rects.{holds}
 use Rattle.geom_core.specs.declared.geometry.Rect.{Rect}
@@ -9,11 +9,7 @@ use Rattle.tree_edits.specs.declared.edits.Edit.{Edit}
 use Rattle.tree_edits.specs.declared.edits.Edit.TheVariants as edit
 use Rattle.seen_parts.specs.Meeting.{seen_at}
 use Rattle.view_model.specs.declared.changes.Act.{Act}
-use Rattle.view_model.specs.declared.changes.Act.TheVariants as act
-use Rattle.view_model.specs.declared.changes.Change.{Change}
-use Rattle.view_model.specs.declared.changes.Change.TheVariants as change
-use Rattle.view_model.specs.declared.changes.Flag.{Flag}
-use Rattle.view_model.specs.declared.changes.Flag.TheVariants as flag
+use Rattle.view_model.specs.Facets.{touched_by}
 use Rattle.view_model.specs.Geometry.{rect_at}
 use Rattle.view_model.specs.Painting.{pixel_color}
 use Rattle.view_model.specs.Visible.{whole_window}
@@ -45,36 +41,9 @@ IsChange (edit.Remove view) = ⊥
 IsChange (edit.Act view act) = Unit {0}
 IsChange (edit.Text view text) = Unit {0}
 
--- whether a flag is one that no picture shows
-abbrev pub flag_is_unseen : Flag → Bool
-flag_is_unseen flag.Clip = false
-flag_is_unseen flag.Fill = false
-flag_is_unseen flag.Split = true
-
--- whether a change sets what layout alone reads: a picture shows it by the bounds that the next layout gives
-abbrev pub change_is_unseen : Change → Bool
-change_is_unseen (change.Size width height) = true
-change_is_unseen (change.Min size) = true
-change_is_unseen (change.Margins sides) = true
-change_is_unseen (change.Padding sides) = false
-change_is_unseen (change.Weight weight) = true
-change_is_unseen (change.Gravity kids gravity) = true
-change_is_unseen (change.Background color) = false
-
 -- whether an act sets what no picture shows: what layout alone reads, an id, or which views get events
 abbrev pub act_is_unseen : Act → Bool
-act_is_unseen (act.Change change) = change_is_unseen change
-act_is_unseen (act.WeightSum sum) = true
-act_is_unseen (act.Orient vertical) = true
-act_is_unseen (act.Direction direction) = false
-act_is_unseen (act.Flag flag on) = flag_is_unseen flag
-act_is_unseen (act.Visible visibility) = false
-act_is_unseen (act.Ink color) = false
-act_is_unseen (act.Id id) = true
-act_is_unseen (act.Rule verb value) = true
-act_is_unseen (act.Answer answer) = true
-act_is_unseen (act.Intercept actions) = true
-act_is_unseen (act.Scroll offset) = false
+act_is_unseen act = not (touched_by act).shows
 
 -- whether an edit shows in no picture
 abbrev pub is_unseen : Edit → Bool

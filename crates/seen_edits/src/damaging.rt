@@ -7,7 +7,7 @@ ghost use Rattle.damage_rect.specs.Within.{LiesIn};
 ghost use Rattle.geom_core.specs.Rects.{hull_of};
 ghost use Rattle.geom_core.specs.declared.geometry.Rect.{Rect};
 ghost use Rattle.kept_views.specs.Kept.{IsConsistent};
-ghost use Rattle.seen_edits.specs.Shown.{GrowsWithin, IsChange, KeepsShown, edited, is_unseen, act_is_unseen, change_is_unseen, seen_of};
+ghost use Rattle.seen_edits.specs.Shown.{GrowsWithin, IsChange, KeepsShown, edited, is_unseen, act_is_unseen, seen_of};
 ghost use Rattle.tree_edits.specs.Applied.{AppliesEdit, IsEdit, MayWantMemory, numbered};
 ghost use Rattle.tree_edits.specs.Asking.{LeavesUnasked};
 ghost use Rattle.tree_edits.specs.Editing.{outcome_of_edit};
@@ -24,7 +24,7 @@ use geom_core::{Rect, Size};
 use seen_parts::seen;
 use std::alloc::Global;
 use tree_edits::{Edit, EditFault, apply};
-use view_model::{Act, Change, Flag};
+use view_model::Act;
 use view_tree::{Key, ViewTree};
 
 /// Makes an edit that adds and removes no view. What was seen of its view in the window is damage, unless the edit
@@ -91,31 +91,12 @@ fn is_unseen(edit: &Edit<'_>) -> bool
     }
 }
 
-/// Whether an act sets what layout alone reads, an id, or which views get events.
+/// Whether an act sets what layout alone reads, an id, or which views get events. The picture shows what layout reads once
+/// the next layout has moved something.
 fn act_is_unseen(act: Act) -> bool
     ensures { result ≡ act_is_unseen act }
 {
-    match act {
-        Act::Flag { flag, .. } => matches!(flag, Flag::Split),
-        Act::Change(change) => change_is_unseen(change),
-        Act::WeightSum(_) | Act::Orient { .. } | Act::Rule { .. } => true,
-        Act::Id(_) | Act::Answer(_) | Act::Intercept(_) => true,
-        Act::Direction(_) | Act::Visible(_) | Act::Ink(_) | Act::Scroll(_) => false,
-    }
-}
-
-/// Whether a change sets what layout alone reads. The picture shows it once the next layout has moved something.
-fn change_is_unseen(change: Change) -> bool
-    ensures { result ≡ change_is_unseen change }
-{
-    match change {
-        Change::Size { .. }
-        | Change::Min(_)
-        | Change::Margins(_)
-        | Change::Weight(_)
-        | Change::Gravity { .. } => true,
-        Change::Padding(_) | Change::Background(_) => false,
-    }
+    !act.facet().shows()
 }
 
 /// Removes a view and all below it. What was seen of it in the window is damage.

@@ -27,7 +27,8 @@ use Rattle.view_tree.proofs.forest.PlainLaws.{number_there}
 use Rattle.tree_edits.specs.Applied.{AppliesEdit, IsAddable, IsDoneOrCyclic}
 use Rattle.view_model.specs.declared.fault.Fault.TheVariants as fault
 use Rattle.view_model.specs.Classes.{has_text}
-use Rattle.tree_edits.specs.Editing.{Add, Outcome, cycle_of_act, names_views, outcome_of_add, outcome_of_act, outcome_of_edit, outcome_unless, new_view, outcome_of_remove, takes, outcome_of_text}
+use Rattle.tree_edits.specs.Editing.{Add, Outcome, cycle_of_act, names_views, outcome_of_add, outcome_of_act, outcome_of_edit, outcome_unless, new_view, outcome_of_remove, outcome_of_text}
+use Rattle.view_model.specs.Facets.{takes}
 use Rattle.tree_edits.specs.Scene.{EditScene, scene_of}
 use Rattle.tree_edits.proofs.CycleLaws.{cycle_named, taken_or_cyclic}
 use Rattle.tree_edits.proofs.SceneLaws.{same_scene}

@@ -3,7 +3,7 @@ mod ConsistentLaws
 mod CycleLaws
 mod EditLaws
 mod Examples
-mod FactLaws
+pub mod FactLaws
 pub mod KeepLaws
 mod ParentLaws
 pub mod RequestLaws

@@ -2,7 +2,9 @@
 use Rattle.std.specs.Prelude.{◌≡◌, ℕ, ◌^◌, ◌<◌, true, chars, length, Option, Some, None, Result, Ok, Err}
 use Rattle.std.specs.Option.{option_map}
 use Rattle.view_model.specs.declared.changes.Act.{Act}
-use Rattle.view_model.specs.declared.changes.Act.TheVariants as act
+use Rattle.view_model.specs.declared.facets.Facet.{Facet}
+use Rattle.view_model.specs.declared.facets.Facet.TheVariants as facet
+use Rattle.view_model.specs.Facets.{facet_of}
 use Rattle.view_model.specs.Numbers.{cycle, numbers_end}
 use Rattle.view_model.specs.Forest.{Nothing}
 use Rattle.view_model.specs.Refusals.{plain_refusal}
@@ -26,20 +28,17 @@ abbrev pub IsAddable : Views → Option ℕ → Type 0
 IsAddable views None = (views.tree ≡ Nothing) × (views.next < numbers_end)
 IsAddable views (Some parent) = IsLive views parent × (views.next < numbers_end)
 
--- the rule that an act sets is one of the 21
+-- a rule that is set is one of the 21
+abbrev pub FacetIsVerb : Facet → Type 0
+FacetIsVerb (facet.Set reach) = Unit {0}
+FacetIsVerb (facet.Visible hides) = Unit {0}
+FacetIsVerb (facet.Scrolled offset) = Unit {0}
+FacetIsVerb facet.Turned = Unit {0}
+FacetIsVerb facet.Named = Unit {0}
+FacetIsVerb (facet.Tied verb) = verb < 21
+
 abbrev pub IsVerb : Act → Type 0
-IsVerb (act.Rule verb value) = verb < 21
-IsVerb (act.Change change) = Unit {0}
-IsVerb (act.WeightSum sum) = Unit {0}
-IsVerb (act.Orient vertical) = Unit {0}
-IsVerb (act.Direction direction) = Unit {0}
-IsVerb (act.Flag flag on) = Unit {0}
-IsVerb (act.Visible visibility) = Unit {0}
-IsVerb (act.Ink color) = Unit {0}
-IsVerb (act.Id id) = Unit {0}
-IsVerb (act.Answer answer) = Unit {0}
-IsVerb (act.Intercept actions) = Unit {0}
-IsVerb (act.Scroll offset) = Unit {0}
+IsVerb act = FacetIsVerb (facet_of act)
 
 -- the views of an edit are there, and its numbers are within their limits
 abbrev pub IsEdit : Views → Edit → Type 0

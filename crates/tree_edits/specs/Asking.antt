@@ -3,13 +3,9 @@ use Rattle.std.specs.Prelude.{◌≡◌, ℕ, ◌==◌, Bool, true, false, if◌
 use Rattle.std.specs.Prelude.{None}
 use Rattle.kept_views.specs.Pressing.{path_of}
 use Rattle.view_model.specs.declared.changes.Act.{Act}
-use Rattle.view_model.specs.declared.changes.Act.TheVariants as act
-use Rattle.view_model.specs.declared.changes.Change.{Change}
-use Rattle.view_model.specs.declared.changes.Change.TheVariants as change
-use Rattle.view_model.specs.declared.changes.Flag.{Flag}
-use Rattle.view_model.specs.declared.changes.Flag.TheVariants as flag
 use Rattle.view_model.specs.Changes.{facts_after_act}
 use Rattle.view_model.specs.Directed.{turned}
+use Rattle.view_model.specs.Facets.{touched_by}
 use Rattle.view_model.specs.Facts.{unscrolled_facts}
 use Rattle.view_model.specs.Forest.{Forest}
 use Rattle.view_model.specs.PlainTree.{PlainView}
@@ -20,36 +16,9 @@ use Rattle.tree_edits.specs.declared.edits.Edit.{Edit}
 use Rattle.tree_edits.specs.declared.edits.Edit.TheVariants as edit
 use Rattle.tree_edits.specs.Editing.{hides, turns}
 
--- whether layout reads what a change sets
-abbrev pub change_requests : Change → Bool
-change_requests (change.Size width height) = true
-change_requests (change.Min size) = true
-change_requests (change.Margins sides) = true
-change_requests (change.Padding sides) = true
-change_requests (change.Weight weight) = true
-change_requests (change.Gravity kids gravity) = true
-change_requests (change.Background color) = false
-
--- whether layout reads a flag
-abbrev pub flag_requests : Flag → Bool
-flag_requests flag.Clip = false
-flag_requests flag.Fill = true
-flag_requests flag.Split = false
-
 -- whether an act may change the layout
 abbrev pub requests_layout : Act → Bool
-requests_layout (act.Change change) = change_requests change
-requests_layout (act.WeightSum sum) = true
-requests_layout (act.Orient vertical) = true
-requests_layout (act.Direction direction) = true
-requests_layout (act.Flag flag on) = flag_requests flag
-requests_layout (act.Visible visibility) = true
-requests_layout (act.Ink color) = false
-requests_layout (act.Id id) = true
-requests_layout (act.Rule verb value) = true
-requests_layout (act.Answer answer) = false
-requests_layout (act.Intercept actions) = false
-requests_layout (act.Scroll offset) = true
+requests_layout act = (touched_by act).asks
 
 -- a view, if there is one
 abbrev pub listed : Option ℕ → List ℕ

@@ -1,21 +1,16 @@
 -- The result of an edit on a scene, or why it is refused.
-use Rattle.std.specs.Prelude.{ℕ, ◌+◌, ℤ, Bool, true, false, if◌then◌else◌, List, [], Option, Some, None, Result, Ok}
-use Rattle.std.specs.Prelude.{Err, not}
+use Rattle.std.specs.Prelude.{ℕ, ◌+◌, ℤ, Bool, false, if◌then◌else◌, List, [], Option, Some, None, Result, Ok, Err}
 use Rattle.view_model.specs.Changes.{facts_after_act}
 use Rattle.view_model.specs.declared.changes.Act.{Act}
-use Rattle.view_model.specs.declared.changes.Act.TheVariants as act
-use Rattle.view_model.specs.declared.changes.Change.{Change}
-use Rattle.view_model.specs.declared.changes.Change.TheVariants as change
-use Rattle.view_model.specs.declared.changes.Flag.{Flag}
-use Rattle.view_model.specs.declared.changes.Flag.TheVariants as flag
 use Rattle.view_model.specs.declared.kinds.Class.{Class}
 use Rattle.view_model.specs.declared.refusal.Member.TheVariants as member
 use Rattle.view_model.specs.Cycles.{first_cycle}
 use Rattle.view_model.specs.Directed.{directed, rtl_at}
-use Rattle.view_model.specs.Facts.{new_facts, takes_part}
+use Rattle.view_model.specs.Facets.{takes, touched_by}
+use Rattle.view_model.specs.Facts.{new_facts}
 use Rattle.view_model.specs.Forest.{Forest}
 use Rattle.view_model.specs.Geometry.{Laid, without}
-use Rattle.view_model.specs.Classes.{has_text, is_group, lays_in_line, scrolls}
+use Rattle.view_model.specs.Classes.{has_text}
 use Rattle.view_model.specs.Growth.{grown_at, refusal_at}
 use Rattle.view_model.specs.PlainTree.{PlainView, numbers_of, part_of, pruned, single, view_in, with_facts, with_text}
 use Rattle.view_model.specs.Refusals.{PlainRefusal, refusal_numbered}
@@ -33,81 +28,17 @@ pub data NumberedEdit : Type 0 where
 abbrev pub Outcome : Type 0
 Outcome = Result (EditScene × Option ℕ) PlainRefusal
 
--- only a view that lays its children in a line has a gravity for them
-abbrev pub takes_change : Class → Change → Bool
-takes_change class (change.Gravity kids gravity) = if kids then lays_in_line class else true
-takes_change class (change.Size width height) = true
-takes_change class (change.Min size) = true
-takes_change class (change.Margins sides) = true
-takes_change class (change.Padding sides) = true
-takes_change class (change.Weight weight) = true
-takes_change class (change.Background color) = true
-
--- a view without children clips and splits nothing, and only a view that scrolls makes its child fill it
-abbrev pub takes_flag : Class → Flag → Bool
-takes_flag class flag.Clip = is_group class
-takes_flag class flag.Fill = scrolls class
-takes_flag class flag.Split = is_group class
-
--- whether a view of this class has what an act sets
-abbrev pub takes : Class → Act → Bool
-takes class (act.Change change) = takes_change class change
-takes class (act.WeightSum sum) = lays_in_line class
-takes class (act.Orient vertical) = lays_in_line class
-takes class (act.Direction direction) = true
-takes class (act.Flag flag on) = takes_flag class flag
-takes class (act.Visible visibility) = true
-takes class (act.Ink color) = has_text class
-takes class (act.Id id) = true
-takes class (act.Rule verb value) = true
-takes class (act.Answer answer) = not (scrolls class)
-takes class (act.Intercept actions) = is_group class
-takes class (act.Scroll offset) = scrolls class
-
 -- whether an act takes a view, and all below it, out of the geometry at once
 abbrev pub hides : Act → Bool
-hides (act.Change change) = false
-hides (act.WeightSum sum) = false
-hides (act.Orient vertical) = false
-hides (act.Direction direction) = false
-hides (act.Flag flag on) = false
-hides (act.Visible visibility) = not (takes_part visibility)
-hides (act.Ink color) = false
-hides (act.Id id) = false
-hides (act.Rule verb value) = false
-hides (act.Answer answer) = false
-hides (act.Intercept actions) = false
-hides (act.Scroll offset) = false
+hides act = (touched_by act).hides
 
 -- whether an act sets the name by which a view is found, or the names by which it finds others
 abbrev pub names_views : Act → Bool
-names_views (act.Rule verb value) = true
-names_views (act.Id id) = true
-names_views (act.Change change) = false
-names_views (act.WeightSum sum) = false
-names_views (act.Orient vertical) = false
-names_views (act.Direction direction) = false
-names_views (act.Flag flag on) = false
-names_views (act.Visible visibility) = false
-names_views (act.Ink color) = false
-names_views (act.Answer answer) = false
-names_views (act.Intercept actions) = false
-names_views (act.Scroll offset) = false
+names_views act = (touched_by act).names
 
 -- whether an act sets a direction, which goes down the tree
 abbrev pub turns : Act → Bool
-turns (act.Direction direction) = true
-turns (act.Change change) = false
-turns (act.WeightSum sum) = false
-turns (act.Orient vertical) = false
-turns (act.Flag flag on) = false
-turns (act.Visible visibility) = false
-turns (act.Ink color) = false
-turns (act.Id id) = false
-turns (act.Rule verb value) = false
-turns (act.Answer answer) = false
-turns (act.Intercept actions) = false
-turns (act.Scroll offset) = false
+turns act = (touched_by act).turns
 
 -- the tree after an act on the view of this number
 abbrev pub tree_after_act : ℕ → Act → Forest PlainView → Forest PlainView

@@ -17,14 +17,14 @@ use crate::asking::request_by;
 use crate::changing::change_facts;
 use crate::edits::Edit;
 use crate::hiding::hide;
-use view_model::{Act, Direction, Member, Visibility};
+use view_model::{Act, Direction, Facet, Member};
 use view_tree::{AttachFault, Key, ViewTree};
 
 /// Whether an act sets the name by which a view is found, or the names by which it finds others.
 pub fn names_views(act: Act) -> bool
     ensures { result ≡ names_views act }
 {
-    matches!(act, Act::Id(_) | Act::Rule { .. })
+    matches!(act.facet(), Facet::Named | Facet::Tied { .. })
 }
 
 /// Sets the id or a rule of a view, unless children of a relative layout then name one another in a circle.
@@ -102,5 +102,9 @@ fn hide_by(tree: &mut ViewTree, view: Key, act: Act)
 fn hides(act: Act) -> bool
     ensures { result ≡ hides act }
 {
-    matches!(act, Act::Visible(Visibility::Gone))
+    match act.facet() {
+        Facet::Visible { hides } => hides,
+        Facet::Set(_) | Facet::Scrolled { .. } | Facet::Turned => false,
+        Facet::Named | Facet::Tied { .. } => false,
+    }
 }

@@ -13,7 +13,6 @@ ghost use Rattle.view_tree.specs.Views.{IsLive, IsTree, number_of};
 
 use crate::acting::{names_views, set_direction, set_facts, set_names};
 use crate::asking::request_at;
-use crate::classes::takes;
 use crate::edits::Edit;
 use crate::fault::EditFault;
 use std::alloc::Global;
@@ -128,7 +127,7 @@ fn act_on(tree: &mut ViewTree, view: Key, act: Act) -> Result<Option<u64>, EditF
     ensures asked { LeavesUnasked tree.old tree.new (Edit.Act view act) }
     ensures measures { tree.new.counts.measures ≡ tree.old.counts.measures }
 {
-    if !takes(tree.class(view), act) {
+    if !tree.class(view).takes(act) {
         return Err(EditFault::Refused(Refusal::plain(WRONG_CLASS)));
     }
     if names_views(act) {

@@ -6,54 +6,18 @@
 //! lines that are no edit, `hook`, `disallow` and those of touches never ask, `window` asks at no view, and `restore`
 //! at each view that it sets.
 ghost use Rattle.std.specs.Prelude.{◌≡◌, ℕ, IfSome};
-ghost use Rattle.tree_edits.specs.Asking.{asked_by_act, change_requests, flag_requests, listed, requests_layout};
+ghost use Rattle.tree_edits.specs.Asking.{asked_by_act, listed, requests_layout};
 ghost use Rattle.view_tree.specs.tree.Requests.{requested};
 ghost use Rattle.view_tree.specs.Views.{IsLive, SameTree, held_of};
 
-use view_model::{Act, Change, Flag};
+use view_model::Act;
 use view_tree::{Key, ViewTree};
 
 /// Whether an act may change the layout.
 pub fn requests_layout(act: Act) -> bool
     ensures { result ≡ requests_layout act }
 {
-    match act {
-        Act::Change(change) => change_requests(change),
-        Act::Flag { flag, on: _ } => flag_requests(flag),
-        Act::WeightSum(_)
-        | Act::Orient { .. }
-        | Act::Direction(_)
-        | Act::Visible(_)
-        | Act::Id(_)
-        | Act::Rule { .. }
-        | Act::Scroll(_) => true,
-        Act::Ink(_) | Act::Answer(_) | Act::Intercept(_) => false,
-    }
-}
-
-/// Whether layout reads what a change sets.
-fn change_requests(change: Change) -> bool
-    ensures { result ≡ change_requests change }
-{
-    match change {
-        Change::Background(_) => false,
-        Change::Size { .. }
-        | Change::Min(_)
-        | Change::Margins(_)
-        | Change::Padding(_)
-        | Change::Weight(_)
-        | Change::Gravity { .. } => true,
-    }
-}
-
-/// Whether layout reads a flag.
-fn flag_requests(flag: Flag) -> bool
-    ensures { result ≡ flag_requests flag }
-{
-    match flag {
-        Flag::Fill => true,
-        Flag::Clip | Flag::Split => false,
-    }
+    act.facet().asks()
 }
 
 /// Requests layout at a view after an act, if the act may change it.

@@ -1,9 +1,8 @@
 //! Edits of a tree of views: the effect of a line on the tree, or why it is refused.
 //!
 //! `apply` (`applying`) makes one `Edit` (`edits`): a view is added, removed, given a text, or gets an `Act` (`acting`,
-//! `changing`), and where that may change the layout, layout is requested (`asking`). `classes` has what a view has by
-//! its class, `hiding` what is done to views that leave layout, and `fault` why an edit is not made. An edit that is
-//! refused has changed nothing.
+//! `changing`), and where that may change the layout, layout is requested (`asking`). `hiding` has what is done to views that
+//! leave layout, and `fault` why an edit is not made. An edit that is refused has changed nothing.
 //!
 //! `seen_edits` calls it and adds what has to be painted again; `view_world` makes the `Edit` of a line.
 //!
@@ -16,13 +15,11 @@ mod acting;
 mod applying;
 mod asking;
 mod changing;
-mod classes;
 mod edits;
 mod fault;
 mod hiding;
 
 pub use applying::apply;
 pub use asking::requests_layout;
-pub use classes::takes_change;
 pub use edits::Edit;
 pub use fault::EditFault;

@@ -184,17 +184,7 @@ pub hide_done : (scene after : Edited) (number : ℕ) (doing : Act) (result : Re
     → AppliesEdit (outcome_of_edit scene (ActOn number doing)) after result → (result ≡ Err fault.NoMemory → names_views doing ≡ true) → result ≡ Ok None
 hide_done scene after number (act.Visible visibility) result hiding applied memory =
     visible_done scene after number visibility (view_in scene.tree number) result applied (λ e. let named = memory e in absurd (cc))
-hide_done scene after number (act.Change change) result hiding applied memory = absurd (cc)
-hide_done scene after number (act.WeightSum sum) result hiding applied memory = absurd (cc)
-hide_done scene after number (act.Orient vertical) result hiding applied memory = absurd (cc)
-hide_done scene after number (act.Direction direction) result hiding applied memory = absurd (cc)
-hide_done scene after number (act.Flag flag on) result hiding applied memory = absurd (cc)
-hide_done scene after number (act.Ink color) result hiding applied memory = absurd (cc)
-hide_done scene after number (act.Id id) result hiding applied memory = absurd (cc)
-hide_done scene after number (act.Rule verb value) result hiding applied memory = absurd (cc)
-hide_done scene after number (act.Answer answer) result hiding applied memory = absurd (cc)
-hide_done scene after number (act.Intercept actions) result hiding applied memory = absurd (cc)
-hide_done scene after number (act.Scroll offset) result hiding applied memory = absurd (cc)
+hide_done scene after number _ result hiding applied memory = absurd (cc)
 
 -- a view got a cancel, and then an edit was made
 

@@ -228,18 +228,8 @@ turned_live views above (Branch row kids siblings) every =
 
 -- an act that sets a direction
 turns_is : (a : Act) → turns a ≡ true → (direction : Direction) × (a ≡ act.Direction direction)
-turns_is (act.Change change) is = absurd cc
-turns_is (act.WeightSum sum) is = absurd cc
-turns_is (act.Orient vertical) is = absurd cc
 turns_is (act.Direction direction) is = (direction, refl)
-turns_is (act.Flag flag on) is = absurd cc
-turns_is (act.Visible visibility) is = absurd cc
-turns_is (act.Ink color) is = absurd cc
-turns_is (act.Id id) is = absurd cc
-turns_is (act.Rule verb value) is = absurd cc
-turns_is (act.Answer answer) is = absurd cc
-turns_is (act.Intercept actions) is = absurd cc
-turns_is (act.Scroll offset) is = absurd cc
+turns_is _ is = absurd cc
 
 off_turned : (views : Views) (view key : ℕ) (direction : Direction) → IsTree views → IsLive views view
     → is_on_paths (asked_by_act (plain_of views) (Some (number_of views view)) (act.Direction direction)) (plain_of views) (number_of views key) ≡ false

@@ -1,24 +1,28 @@
 -- What an edit of a screen keeps: if it requests no layout, what rested still does.
 use Rattle.std.proofs.Common.{◌≡◌, ◌≢◌, ℕ, ◌<◌, Bool, true, false, List, [], ◌∷◌, Option, Some, None, Result, Ok, Err, refl, sym, ◌∙◌, ap, subst, arith, inl, inr}
 use Rattle.std.proofs.lemmas.Bool.{cases_Bool}
-use Rattle.std.specs.Prelude.{◌==◌, ◌||◌, if◌then◌else◌, chars, OnOk}
+use Rattle.std.specs.Prelude.{◌==◌, ◌&&◌, ◌||◌, not, if◌then◌else◌, chars, OnOk}
 use Rattle.damage_rect.specs.Within.{LiesIn}
 use Rattle.geom_core.specs.declared.geometry.Size.{Size}
 use Rattle.pixel_raster.specs.Raster.{size_of}
+use Rattle.tree_edits.proofs.FactLaws.{quiet_act}
 use Rattle.tree_edits.proofs.SpreadLaws.{count_of_key-spread, unspread}
-use Rattle.seen_edits.specs.Shown.{GrowsWithin, IsChange, act_is_unseen, edited, flag_is_unseen, is_unseen, seen_of}
+use Rattle.seen_edits.specs.Shown.{GrowsWithin, IsChange, act_is_unseen, edited, is_unseen, seen_of}
 use Rattle.touch_dispatch.specs.reaching.TreeEvents.{OnlyScrolls}
 use Rattle.traversal.specs.Frames.{fired_in}
 use Rattle.geom_core.specs.declared.geometry.Rect.{Rect}
 use Rattle.tree_edits.specs.Applied.{AppliesEdit, IsEdit, numbered}
-use Rattle.tree_edits.specs.Asking.{LeavesUnasked as EditLeaves, acted_view, change_requests, flag_requests, requests_layout}
-use Rattle.tree_edits.specs.Editing.{Outcome, ActOn, cycle_of_act, hides, outcome_of_act, outcome_of_edit, outcome_unless, takes, turns}
+use Rattle.tree_edits.specs.Asking.{LeavesUnasked as EditLeaves, acted_view, requests_layout}
+use Rattle.tree_edits.specs.Editing.{Outcome, ActOn, cycle_of_act, hides, outcome_of_act, outcome_of_edit, outcome_unless}
+use Rattle.view_model.specs.Facets.{takes}
 use Rattle.tree_edits.specs.Keeping.{KeepsViews, spread}
 use Rattle.tree_edits.specs.Scene.{EditScene, scene_of as edited_of}
 use Rattle.tree_edits.specs.declared.edits.Edit.{Edit}
 use Rattle.tree_edits.specs.declared.edits.Edit.TheVariants as edit
 use Rattle.view_model.specs.declared.fault.Fault.{Fault}
 use Rattle.view_model.specs.Changes.{facts_after_act}
+use Rattle.view_model.proofs.FacetLaws.{hidden_asks, quiet_stays, quiet_turns}
+use Rattle.view_model.specs.Facets.{facet_of, touched_by}
 use Rattle.view_model.specs.Facts.{is_shown, unscrolled_facts}
 use Rattle.view_model.specs.Forest.{Forest, Nothing, Branch}
 use Rattle.view_model.specs.Geometry.{Laid}
@@ -26,11 +30,6 @@ use Rattle.view_model.specs.Layout.{root_specs}
 use Rattle.view_model.specs.PlainTree.{PlainView, view_in}
 use Rattle.view_model.specs.Refusals.{PlainRefusal}
 use Rattle.view_model.specs.declared.changes.Act.{Act}
-use Rattle.view_model.specs.declared.changes.Act.TheVariants as act
-use Rattle.view_model.specs.declared.changes.Change.{Change}
-use Rattle.view_model.specs.declared.changes.Change.TheVariants as change
-use Rattle.view_model.specs.declared.changes.Flag.{Flag}
-use Rattle.view_model.specs.declared.changes.Flag.TheVariants as flag
 use Rattle.view_model.specs.declared.facts.Facts.{Facts}
 use Rattle.view_tree.proofs.forest.KeyLaws.{times_self}
 use Rattle.view_tree.proofs.forest.NumberLaws.{count_of_key-put}
@@ -44,7 +43,7 @@ use Rattle.view_world.proofs.frames.SeenLaws.{among_first, number_changed, seen_
 use Rattle.view_world.specs.screen.KeyedScreen.{KeyedScreen}
 use Rattle.view_world.specs.world.Marks.{effect_by, effect_of_edit, leaves_layout}
 use Rattle.view_world.specs.frames.Resting.{AreSeenIn, IsResting, KeepsEdit, seen_on}
-use Rattle.view_world.specs.frames.Seen.{act_paints, change_paints, edited_by_act, flag_paints, numbers_edited}
+use Rattle.view_world.specs.frames.Seen.{act_paints, edited_by_act, numbers_edited}
 use Rattle.view_world.specs.declared.world.marks.Effect.TheVariants.{Asks, Opens, Touches}
 
 -- an act that requests no layout leaves what layout reads of a root
@@ -54,68 +53,15 @@ pub record SameSides (old new : Facts) : Type 0 where
   pub specs : (window : Size) → root_specs window new ≡ root_specs window old
 
 quiet_sides : (act : Act) (facts : Facts) → requests_layout act ≡ false → SameSides facts (unscrolled_facts (facts_after_act act facts))
-quiet_sides (act.Change (change.Background color)) facts quiet = record { shown = refl; specs = λ window. refl }
-quiet_sides (act.Change (change.Size width height)) facts quiet = absurd cc
-quiet_sides (act.Change (change.Min size)) facts quiet = absurd cc
-quiet_sides (act.Change (change.Margins sides)) facts quiet = absurd cc
-quiet_sides (act.Change (change.Padding sides)) facts quiet = absurd cc
-quiet_sides (act.Change (change.Weight weight)) facts quiet = absurd cc
-quiet_sides (act.Change (change.Gravity kids gravity)) facts quiet = absurd cc
-quiet_sides (act.WeightSum sum) facts quiet = absurd cc
-quiet_sides (act.Orient vertical) facts quiet = absurd cc
-quiet_sides (act.Direction direction) facts quiet = absurd cc
-quiet_sides (act.Flag flag.Clip on) facts quiet = record { shown = refl; specs = λ window. refl }
-quiet_sides (act.Flag flag.Fill on) facts quiet = absurd cc
-quiet_sides (act.Flag flag.Split on) facts quiet = record { shown = refl; specs = λ window. refl }
-quiet_sides (act.Visible visibility) facts quiet = absurd cc
-quiet_sides (act.Ink color) facts quiet = record { shown = refl; specs = λ window. refl }
-quiet_sides (act.Id id) facts quiet = absurd cc
-quiet_sides (act.Rule verb value) facts quiet = absurd cc
-quiet_sides (act.Answer answer) facts quiet = record { shown = refl; specs = λ window. refl }
-quiet_sides (act.Intercept actions) facts quiet = record { shown = refl; specs = λ window. refl }
-quiet_sides (act.Scroll offset) facts quiet = absurd cc
-
-quiet_shows : (act : Act) → requests_layout act ≡ false → hides act ≡ false
-quiet_shows (act.Change change) quiet = refl
-quiet_shows (act.WeightSum sum) quiet = refl
-quiet_shows (act.Orient vertical) quiet = refl
-quiet_shows (act.Direction direction) quiet = refl
-quiet_shows (act.Flag flag on) quiet = refl
-quiet_shows (act.Visible visibility) quiet = absurd cc
-quiet_shows (act.Ink color) quiet = refl
-quiet_shows (act.Id id) quiet = refl
-quiet_shows (act.Rule verb value) quiet = refl
-quiet_shows (act.Answer answer) quiet = refl
-quiet_shows (act.Intercept actions) quiet = refl
-quiet_shows (act.Scroll offset) quiet = refl
-
-quiet_turns : (act : Act) → requests_layout act ≡ false → turns act ≡ false
-quiet_turns (act.Change change) quiet = refl
-quiet_turns (act.WeightSum sum) quiet = refl
-quiet_turns (act.Orient vertical) quiet = refl
-quiet_turns (act.Direction direction) quiet = absurd cc
-quiet_turns (act.Flag flag on) quiet = refl
-quiet_turns (act.Visible visibility) quiet = refl
-quiet_turns (act.Ink color) quiet = refl
-quiet_turns (act.Id id) quiet = refl
-quiet_turns (act.Rule verb value) quiet = refl
-quiet_turns (act.Answer answer) quiet = refl
-quiet_turns (act.Intercept actions) quiet = refl
-quiet_turns (act.Scroll offset) quiet = refl
+quiet_sides act facts quiet =
+    let kept = quiet_act act facts quiet in
+    record {
+      shown = ap is_shown kept.layout;
+      specs = λ window. ap (root_specs window) kept.layout;
+    }
 
 pub hides_asks : (act : Act) → hides act ≡ true → effect_by (requests_layout act) (act_paints act) ≡ Asks
-hides_asks (act.Visible visibility) hidden = refl
-hides_asks (act.Change change) hidden = absurd cc
-hides_asks (act.WeightSum sum) hidden = absurd cc
-hides_asks (act.Orient vertical) hidden = absurd cc
-hides_asks (act.Direction direction) hidden = absurd cc
-hides_asks (act.Flag flag on) hidden = absurd cc
-hides_asks (act.Ink color) hidden = absurd cc
-hides_asks (act.Id id) hidden = absurd cc
-hides_asks (act.Rule verb value) hidden = absurd cc
-hides_asks (act.Answer answer) hidden = absurd cc
-hides_asks (act.Intercept actions) hidden = absurd cc
-hides_asks (act.Scroll offset) hidden = absurd cc
+hides_asks act hidden = rw (hidden_asks (facet_of act) hidden) refl
 
 -- an act on a view of a tree leaves its root there
 key_put : (key : ℕ) (change : PlainView → PlainView) (tree : Forest Row) → first_key (changed_at_key key change tree) ≡ first_key tree
@@ -164,8 +110,8 @@ lies_still old new number act made applied stays =
 quiet_rests : (old : KeyedScreen) (new : Views) (view : ℕ) (act : Act) (made : Option ℕ) → requests_layout act ≡ false → outcome_of_edit (edited_of old.views) (ActOn (number_of old.views view) act) ≡ Ok (edited_of new, made)
     → KeepsViews old.views new (edit.Act view act) → EditLeaves old.views new (edit.Act view act) → IsResting old → IsResting (record old { views = new })
 quiet_rests old new view act made quiet applied keeps leaves rests =
-    let stays = quiet_shows act quiet in
-    let still = quiet_turns act quiet in
+    let stays = quiet_stays (facet_of act) quiet in
+    let still = quiet_turns (facet_of act) quiet in
     let tree : new.tree ≡ changed_at_key view (acted_view act) old.views.tree = keeps.tree ∙ unspread act (changed_at_key view (acted_view act) old.views.tree) still in
     let sides = head_sides view act old.views.tree quiet in
     record {
@@ -216,33 +162,13 @@ edit_unopened (edit.Act view act) e = by (requests_layout act) (act_paints act) 
     by false false e = cc
 
 -- an act that is not painted, and that layout does not read, shows in no picture
-unpainted_change : (change : Change) → (change_requests change || change_paints change) ≡ false → act_is_unseen (act.Change change) ≡ true
-unpainted_change (change.Size width height) e = absurd cc
-unpainted_change (change.Min size) e = absurd cc
-unpainted_change (change.Margins sides) e = absurd cc
-unpainted_change (change.Padding sides) e = absurd cc
-unpainted_change (change.Weight weight) e = absurd cc
-unpainted_change (change.Gravity kids gravity) e = absurd cc
-unpainted_change (change.Background color) e = absurd cc
-
-unpainted_flag : (flag : Flag) → (flag_requests flag || flag_paints flag) ≡ false → flag_is_unseen flag ≡ true
-unpainted_flag flag.Clip e = absurd cc
-unpainted_flag flag.Fill e = absurd cc
-unpainted_flag flag.Split e = refl
-
 unpainted : (act : Act) → (requests_layout act || act_paints act) ≡ false → act_is_unseen act ≡ true
-unpainted (act.Change change) e = unpainted_change change e
-unpainted (act.WeightSum sum) e = absurd cc
-unpainted (act.Orient vertical) e = absurd cc
-unpainted (act.Direction direction) e = absurd cc
-unpainted (act.Flag flag on) e = unpainted_flag flag e
-unpainted (act.Visible visibility) e = absurd cc
-unpainted (act.Ink color) e = absurd cc
-unpainted (act.Id id) e = absurd cc
-unpainted (act.Rule verb value) e = absurd cc
-unpainted (act.Answer answer) e = refl
-unpainted (act.Intercept actions) e = refl
-unpainted (act.Scroll offset) e = absurd cc
+unpainted act e = by (touched_by act).asks (touched_by act).shows e
+  where
+    by : (asks shows : Bool) → (asks || (shows && not asks)) ≡ false → not shows ≡ true
+    by true shows e = absurd cc
+    by false true e = absurd cc
+    by false false e = refl
 
 -- what was seen of a view, and what is seen of it after an edit, is within a known rectangle
 seen_edited : (old new : KeyedScreen) (view : ℕ) (box : Rect) → IsTree old.views → IsTree new.views → IsLive old.views view → IsLive new.views view → number_of new.views view ≡ number_of old.views view
@@ -253,6 +179,12 @@ seen_edited old new view box was is live there number size before after = (
   subst (λ (window : Size). LiesIn (seen_of window new.views view) box) size
       (subst (λ (rect : Rect). LiesIn rect box) (seen_named new view is there) (subst (λ (n : ℕ). LiesIn (seen_on new n) box) (sym number) after)),
 )
+
+-- an act that neither layout nor pictures read
+pub neither : (asks shows : Bool) → asks ≡ false → (shows && not asks) ≡ false → (asks || (shows && not asks)) ≡ false
+neither true shows r p = absurd cc
+neither false true r p = absurd cc
+neither false false r p = refl
 
 -- an edit that was made damages only what is seen of its view
 within_act : (old new : KeyedScreen) (view : ℕ) (act : Act) (requests paints : Bool) (box : Rect) → requests_layout act ≡ requests → act_paints act ≡ paints → IsTree old.views → IsTree new.views
@@ -268,7 +200,7 @@ within_act old new view act false true box r p was is live there number size gro
     let own = seen_edited old new view box was is live there number size both.0 both.1 in
     grows box lies own.0 own.1
 within_act old new view act false false box r p was is live there number size grows unseen lies seen =
-    subst (λ (damage : Rect). LiesIn damage box) (sym (unseen (unpainted act (rw (r, p) refl)))) lies
+    subst (λ (damage : Rect). LiesIn damage box) (sym (unseen (unpainted act (neither (touched_by act).asks (touched_by act).shows r p)))) lies
 
 -- an edit of views that only have moved since names the same ones
 pub edited_same : (old mid : Views) (edit : Edit) → mid.tree ≡ old.tree → numbers_edited old edit ≡ numbers_edited mid edit

@@ -18,13 +18,15 @@ use Rattle.traversal.specs.declared.outcome.Frame.{Frame}
 use Rattle.script_lines.specs.reading.Changes.{IsActInBounds}
 use Rattle.tree_edits.specs.Applied.{AppliesEdit, numbered}
 use Rattle.view_model.specs.Classes.{has_text, scrolls}
-use Rattle.tree_edits.specs.Editing.{cycle_of_act, hides, outcome_of_act, outcome_of_add, outcome_of_edit, outcome_of_text, outcome_unless, takes, new_view, turns}
+use Rattle.tree_edits.specs.Editing.{cycle_of_act, hides, outcome_of_act, outcome_of_add, outcome_of_edit, outcome_of_text, outcome_unless, new_view, turns}
+use Rattle.view_model.specs.Facets.{takes}
 use Rattle.tree_edits.specs.Scene.{EditScene, scene_of}
 use Rattle.tree_edits.specs.declared.edits.Edit.{Edit}
 use Rattle.tree_edits.specs.declared.edits.Edit.TheVariants as edit
 use Rattle.view_model.specs.declared.fault.Fault.{Fault}
 use Rattle.view_model.specs.Changes.{facts_after_act, facts_after_change}
 use Rattle.view_model.specs.Directed.{directed, rtl_at, running}
+use Rattle.view_model.specs.Facets.{facet_of, row_of}
 use Rattle.view_model.specs.Facts.{padding_down}
 use Rattle.view_model.specs.Forest.{count_of, Forest, Nothing, Branch, changed_where, joined}
 use Rattle.view_model.specs.Geometry.{Laid, rect_in, size_of_rect}
@@ -43,12 +45,13 @@ use Rattle.view_model.specs.declared.changes.Flag.TheVariants as flag
 use Rattle.view_model.specs.declared.changes.NumEdit.{NumEdit}
 use Rattle.view_model.specs.declared.facts.Facts.{Facts}
 use Rattle.view_model.specs.declared.kinds.Class.{Class}
-use Rattle.view_model.specs.declared.kinds.Class.TheVariants.{View, TextView, FrameLayout, LinearLayout, ScrollView, RelativeLayout}
+use Rattle.view_model.specs.declared.facets.Facet.{Facet}
+use Rattle.view_model.specs.declared.facets.Facet.TheVariants as facet
 use Rattle.view_tree.proofs.forest.ForestLaws.{every-edited, every-joined}
 use Rattle.view_tree.specs.Rows.{Row}
 use Rattle.view_tree.specs.Views.{Held, Views, held_of, number_of, plain_of, plain_rows}
 use Rattle.view_world.proofs.trees.DirectedLaws.{every-directed}
-use Rattle.view_world.specs.saving.Offsets.{AreUnscrolled, EditsWithin, ScrollsWithin}
+use Rattle.view_world.specs.saving.Offsets.{AreUnscrolled, EditsWithin, FacetWithin, ScrollsWithin}
 
 -- a view with another offset
 
@@ -93,30 +96,15 @@ fits_grown (Some parent) new tree added every =
     (λ row below after own kids later. (own, every-joined FitsOffset below new kids added, later)) tree every
 
 pub offset_changed : (change : Change) (facts : Facts) → (facts_after_change change facts).offset ≡ facts.offset
-offset_changed (change.Size width height) facts = refl
-offset_changed (change.Min size) facts = refl
-offset_changed (change.Margins sides) facts = refl
-offset_changed (change.Padding sides) facts = refl
-offset_changed (change.Weight weight) facts = refl
 offset_changed (change.Gravity true gravity) facts = refl
 offset_changed (change.Gravity false gravity) facts = refl
-offset_changed (change.Background color) facts = refl
+offset_changed _ facts = refl
 
 fits_acted : (act : Act) (view : PlainView) → ScrollsWithin act → FitsOffset view → FitsOffset (record view { facts = facts_after_act act view.facts })
 fits_acted (act.Change change) view bounds fits = kept_fits view (facts_after_change change view.facts) (offset_changed change view.facts) fits
-fits_acted (act.WeightSum sum) view bounds fits = fits
-fits_acted (act.Orient vertical) view bounds fits = fits
-fits_acted (act.Direction direction) view bounds fits = fits
 fits_acted (act.Flag flag.Clip on) view bounds fits = fits
-fits_acted (act.Flag flag.Fill on) view bounds fits = fits
-fits_acted (act.Flag flag.Split on) view bounds fits = fits
-fits_acted (act.Visible visibility) view bounds fits = fits
-fits_acted (act.Ink color) view bounds fits = fits
-fits_acted (act.Id id) view bounds fits = fits
-fits_acted (act.Rule verb value) view bounds fits = fits
-fits_acted (act.Answer answer) view bounds fits = fits
-fits_acted (act.Intercept actions) view bounds fits = fits
 fits_acted (act.Scroll offset) view bounds fits = λ moves. bounds
+fits_acted _ view bounds fits = fits
 
 abbrev Fits : Result (EditScene × Option ℕ) PlainRefusal → Type 0
 Fits (Ok after) = OffsetsFit after.0.tree
@@ -167,32 +155,15 @@ fits_edited views (edit.Text view text) within every = fits_text (scene_of views
 
 -- an act of a line scrolls within the limits, and one that hides a view does not scroll
 pub bounds_within : (act : Act) → IsActInBounds act → ScrollsWithin act
-bounds_within (act.Change change) bounds = tt
-bounds_within (act.WeightSum sum) bounds = tt
-bounds_within (act.Orient vertical) bounds = tt
-bounds_within (act.Direction direction) bounds = tt
-bounds_within (act.Flag flag on) bounds = tt
-bounds_within (act.Visible visibility) bounds = tt
-bounds_within (act.Ink color) bounds = tt
-bounds_within (act.Id id) bounds = tt
-bounds_within (act.Rule verb value) bounds = tt
-bounds_within (act.Answer answer) bounds = tt
-bounds_within (act.Intercept actions) bounds = tt
 bounds_within (act.Scroll offset) bounds = bounds
+bounds_within _ bounds = tt
 
 pub hides_within : (act : Act) → hides act ≡ true → ScrollsWithin act
-hides_within (act.Change change) hidden = tt
-hides_within (act.WeightSum sum) hidden = tt
-hides_within (act.Orient vertical) hidden = tt
-hides_within (act.Direction direction) hidden = tt
-hides_within (act.Flag flag on) hidden = tt
-hides_within (act.Visible visibility) hidden = tt
-hides_within (act.Ink color) hidden = tt
-hides_within (act.Id id) hidden = tt
-hides_within (act.Rule verb value) hidden = tt
-hides_within (act.Answer answer) hidden = tt
-hides_within (act.Intercept actions) hidden = tt
-hides_within (act.Scroll offset) hidden = absurd (cc)
+hides_within act hidden = still (facet_of act) hidden
+  where
+    still : (facet : Facet) → (row_of facet).hides ≡ true → FacetWithin facet
+    still (facet.Scrolled offset) hidden = absurd (cc)
+    still _ hidden = tt
 
 -- an edit was made, or was not
 pub offsets_edited : (old new : Views) (edit : Edit) (result : Result (Option ℕ) Fault) → EditsWithin edit
@@ -217,15 +188,10 @@ brought_side own (Some rect) child offset side = within_side (scroll_range own (
 
 fits_brought : (class : Class) (own : Facts) (rect child : Option Rect) (offset : ℤ) → (scrolls class ≡ true → (pos 0 ≤ℤ offset) × (offset ≤ℤ pos 16777215))
     → scrolls class ≡ true → (pos 0 ≤ℤ brought (range_by class own rect child) offset) × (brought (range_by class own rect child) offset ≤ℤ pos 16777215)
-fits_brought View own rect child offset fits moves = fits moves
-fits_brought TextView own rect child offset fits moves = fits moves
-fits_brought FrameLayout own rect child offset fits moves = fits moves
-fits_brought LinearLayout own rect child offset fits moves = fits moves
-fits_brought RelativeLayout own rect child offset fits moves = fits moves
-fits_brought ScrollView own rect child offset fits moves =
+fits_brought class own rect child offset fits moves =
     let both = fits moves in
     let side = brought_side own rect child offset (record { low = both.0; high = both.1 }) in
-    (side.low, side.high)
+    rw moves (side.low, side.high)
 
 pub offsets_ranged : (geometry : List Laid) (tree : Forest PlainView) → OffsetsFit tree → OffsetsFit (ranged geometry tree)
 offsets_ranged geometry Nothing every = tt

@@ -6,7 +6,8 @@ use Rattle.std.specs.List.{list_any}
 use Rattle.traversal.specs.Changing.{FitAll}
 use Rattle.tree_edits.specs.Applied.{AppliesEdit}
 use Rattle.view_model.specs.Classes.{has_text}
-use Rattle.tree_edits.specs.Editing.{NumberedEdit, Add, Remove, ActOn, SetText, Outcome, after_act, cycle_of_act, hides, outcome_of_act, outcome_of_add, outcome_of_edit, outcome_of_text, outcome_unless, takes}
+use Rattle.tree_edits.specs.Editing.{NumberedEdit, Add, Remove, ActOn, SetText, Outcome, after_act, cycle_of_act, hides, outcome_of_act, outcome_of_add, outcome_of_edit, outcome_of_text, outcome_unless}
+use Rattle.view_model.specs.Facets.{takes}
 use Rattle.tree_edits.specs.Scene.{EditScene, scene_of}
 use Rattle.view_model.specs.declared.fault.Fault.{Fault}
 use Rattle.view_model.specs.declared.changes.Act.{Act}

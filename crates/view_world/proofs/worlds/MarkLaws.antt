@@ -1,7 +1,7 @@
 -- What a world keeps of its marks after a line, and what it promises of the next frame.
 use Rattle.std.proofs.Common.{◌≡◌, ◌≢◌, ℕ, ◌+◌, ◌≤◌, Bool, true, false, List, [], ◌∷◌, Option, Result, refl, sym, ◌∙◌, ap, subst, arith, inl, inr}
 use Rattle.std.proofs.lemmas.Bool.{cases_Bool}
-use Rattle.std.specs.Prelude.{◌⊎◌, ◌&&◌, not}
+use Rattle.std.specs.Prelude.{◌⊎◌, ◌&&◌, not, if◌then◌else◌}
 use Rattle.script_lines.specs.commands.PlainCommands.{PlainCommand}
 use Rattle.script_lines.specs.commands.PlainCommands as command
 use Rattle.tree_edits.specs.Asking.{requests_layout}
@@ -10,13 +10,15 @@ use Rattle.touch_dispatch.specs.handling.Scrolled.{is_scroll}
 use Rattle.touch_dispatch.specs.declared.log.Entry.{Entry}
 use Rattle.view_model.specs.declared.changes.Act.{Act}
 use Rattle.view_model.specs.declared.work.Work.{Work}
+use Rattle.view_model.specs.Facets.{touched_by}
 use Rattle.view_tree.specs.Views.{cache_of, state_of}
 use Rattle.view_world.specs.world.Carried.{IsDone}
-use Rattle.view_world.specs.frames.Asked.{LeavesUnasked}
+use Rattle.view_world.specs.frames.Asked.{LeavesUnasked, listed}
 use Rattle.view_world.specs.screen.KeyedScreen.{KeyedScreen, stage_of, world_of}
 use Rattle.view_world.specs.world.KeyedWorld.{KeyedWorld}
 use Rattle.view_world.specs.world.Marked.{IsMarked}
 use Rattle.view_world.specs.world.Marks.{effect_by, effect_of, has_settled, leaves_layout, marked, marks_after, measure_bound}
+use Rattle.view_world.proofs.frames.EditRest.{neither}
 use Rattle.view_world.proofs.frames.FrameLaws.{empty_in}
 use Rattle.view_world.proofs.frames.SeenLaws.{among_none}
 use Rattle.view_world.specs.editing.Naming.{named}
@@ -90,7 +92,8 @@ shows_by Leaves marks scrolled old new kept touched laid was idle = kept refl (w
 unchanged_act : (view : Option ℕ) (act : Act) (requests paints : Bool) → requests_layout act ≡ requests → act_paints act ≡ paints → effect_by requests paints ≡ Leaves → edited_by_act view act ≡ []
 unchanged_act view act true paints r p e = absurd cc
 unchanged_act view act false true r p e = absurd cc
-unchanged_act view act false false r p e = rw (r, p) refl
+unchanged_act view act false false r p e =
+    ap (λ (t : Bool). if t then listed view else []) (neither (touched_by act).asks (touched_by act).shows r p)
 
 unchanged_leaves : (world : World) (line : PlainCommand) → effect_of line ≡ Leaves → changed_views world line ≡ []
 unchanged_leaves world (command.Window w h) e = absurd cc

@@ -10,7 +10,8 @@ use Rattle.script_lines.specs.reading.Pixels.{IsPart}
 use Rattle.script_lines.specs.declared.words.naming.Name.{Name}
 use Rattle.tree_edits.specs.Applied.{AppliesEdit}
 use Rattle.view_model.specs.Classes.{has_text}
-use Rattle.tree_edits.specs.Editing.{NumberedEdit, Add, Remove, ActOn, SetText, Outcome, cycle_of_act, outcome_of_add, outcome_of_act, outcome_of_edit, outcome_unless, hidden, hides, takes, outcome_of_text, tree_after_act}
+use Rattle.tree_edits.specs.Editing.{NumberedEdit, Add, Remove, ActOn, SetText, Outcome, cycle_of_act, outcome_of_add, outcome_of_act, outcome_of_edit, outcome_unless, hidden, hides, outcome_of_text, tree_after_act}
+use Rattle.view_model.specs.Facets.{takes}
 use Rattle.tree_edits.specs.Scene.{EditScene, scene_of}
 use Rattle.view_model.specs.declared.fault.Fault.{Fault}
 use Rattle.view_model.specs.declared.fault.Fault.TheVariants as fault

@@ -19,11 +19,7 @@ use Rattle.tree_edits.specs.Asking.{requests_layout as act_requests}
 use Rattle.tree_edits.specs.declared.edits.Edit.{Edit}
 use Rattle.tree_edits.specs.declared.edits.Edit.TheVariants as edit
 use Rattle.view_model.specs.declared.changes.Act.{Act}
-use Rattle.view_model.specs.declared.changes.Act.TheVariants as act
-use Rattle.view_model.specs.declared.changes.Change.{Change}
-use Rattle.view_model.specs.declared.changes.Change.TheVariants as change
-use Rattle.view_model.specs.declared.changes.Flag.{Flag}
-use Rattle.view_model.specs.declared.changes.Flag.TheVariants as flag
+use Rattle.view_model.specs.Facets.{touched_by}
 use Rattle.view_model.specs.Geometry.{rect_in}
 use Rattle.view_model.specs.PlainTree.{numbers_of}
 use Rattle.view_model.specs.Visible.{no_rect, visible_rect}
@@ -34,36 +30,9 @@ use Rattle.view_world.specs.touching.Pointers.{down_action, event_of, up_action,
 use Rattle.view_world.specs.touching.Touching.{offsets_in, reached_in}
 use Rattle.view_world.specs.world.World.{World}
 
--- whether a change is painted, and layout does not read it
-abbrev pub change_paints : Change → Bool
-change_paints (change.Size width height) = false
-change_paints (change.Min size) = false
-change_paints (change.Margins sides) = false
-change_paints (change.Padding sides) = false
-change_paints (change.Weight weight) = false
-change_paints (change.Gravity kids gravity) = false
-change_paints (change.Background color) = true
-
--- the same of a flag
-abbrev pub flag_paints : Flag → Bool
-flag_paints flag.Clip = true
-flag_paints flag.Fill = false
-flag_paints flag.Split = false
-
--- and of an act: a colour, or whether children are clipped
+-- whether an act is painted, and layout does not read it: a colour, or whether children are clipped
 abbrev pub act_paints : Act → Bool
-act_paints (act.Change change) = change_paints change
-act_paints (act.WeightSum sum) = false
-act_paints (act.Orient vertical) = false
-act_paints (act.Direction direction) = false
-act_paints (act.Flag flag on) = flag_paints flag
-act_paints (act.Visible visibility) = false
-act_paints (act.Ink color) = true
-act_paints (act.Id id) = false
-act_paints (act.Rule verb value) = false
-act_paints (act.Answer answer) = false
-act_paints (act.Intercept actions) = false
-act_paints (act.Scroll offset) = false
+act_paints act = (touched_by act).shows && not (touched_by act).asks
 
 -- the view of an act that may change the layout or the picture
 abbrev pub edited_by_act : Option ℕ → Act → List ℕ

@@ -2,26 +2,25 @@
 use Rattle.std.specs.Prelude.{◌≡◌, pos, ◌≤ℤ◌}
 use Rattle.tree_edits.specs.declared.edits.Edit.{Edit}
 use Rattle.tree_edits.specs.declared.edits.Edit.TheVariants as edit
+use Rattle.view_model.specs.Facets.{facet_of}
 use Rattle.view_model.specs.Forest.{Forest, EveryRow}
 use Rattle.view_model.specs.Sprouts.{Seed}
 use Rattle.view_model.specs.declared.changes.Act.{Act}
-use Rattle.view_model.specs.declared.changes.Act.TheVariants as act
+use Rattle.view_model.specs.declared.facets.Facet.{Facet}
+use Rattle.view_model.specs.declared.facets.Facet.TheVariants as facet
 use Rattle.view_model.specs.Numbers.{max_size}
 
--- an act that scrolls a view scrolls it within the limits of sizes
+-- what scrolls a view scrolls it within the limits of sizes
+abbrev pub FacetWithin : Facet → Type 0
+FacetWithin (facet.Set reach) = Unit {0}
+FacetWithin (facet.Visible hides) = Unit {0}
+FacetWithin (facet.Scrolled offset) = (pos 0 ≤ℤ offset) × (offset ≤ℤ max_size)
+FacetWithin facet.Turned = Unit {0}
+FacetWithin facet.Named = Unit {0}
+FacetWithin (facet.Tied verb) = Unit {0}
+
 abbrev pub ScrollsWithin : Act → Type 0
-ScrollsWithin (act.Change change) = Unit {0}
-ScrollsWithin (act.WeightSum sum) = Unit {0}
-ScrollsWithin (act.Orient vertical) = Unit {0}
-ScrollsWithin (act.Direction direction) = Unit {0}
-ScrollsWithin (act.Flag flag on) = Unit {0}
-ScrollsWithin (act.Visible visibility) = Unit {0}
-ScrollsWithin (act.Ink color) = Unit {0}
-ScrollsWithin (act.Id id) = Unit {0}
-ScrollsWithin (act.Rule verb value) = Unit {0}
-ScrollsWithin (act.Answer answer) = Unit {0}
-ScrollsWithin (act.Intercept actions) = Unit {0}
-ScrollsWithin (act.Scroll offset) = (pos 0 ≤ℤ offset) × (offset ≤ℤ max_size)
+ScrollsWithin act = FacetWithin (facet_of act)
 
 -- so does an edit
 abbrev pub EditsWithin : Edit → Type 0

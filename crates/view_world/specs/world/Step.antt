@@ -26,7 +26,7 @@ use Rattle.touch_event.specs.declared.event.Event.{Event}
 use Rattle.touch_event.specs.declared.event.Point.{Point}
 use Rattle.traversal.specs.Frames.{Framed, after_frame as frame_of}
 use Rattle.tree_edits.specs.Editing.{NumberedEdit, Add, Remove, ActOn, SetText, Outcome, hides, outcome_of_edit}
-use Rattle.tree_edits.specs.Editing.{takes_change}
+use Rattle.view_model.specs.Facets.{takes_change}
 use Rattle.tree_edits.specs.Scene.{EditScene}
 use Rattle.view_model.specs.declared.changes.Act.{Act}
 use Rattle.view_model.specs.declared.changes.Change.{Change}

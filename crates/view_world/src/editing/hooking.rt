@@ -17,7 +17,6 @@ use arrayvec::ArrayVec;
 use geom_core::Size;
 use script_lines::Asked;
 use traversal::near_size;
-use tree_edits::takes_change;
 use view_model::NumEdit;
 use view_model::limits::MAX_EDITS;
 use view_tree::{Key, ViewTree};
@@ -60,7 +59,7 @@ fn may_change(tree: &ViewTree, edit: NumEdit) -> bool
 {
     match tree.find(edit.view) {
         None => true,
-        Some(view) => takes_change(tree.class(view), edit.change),
+        Some(view) => tree.class(view).takes_change(edit.change),
     }
 }
 

@@ -9,7 +9,7 @@ ghost use Rattle.view_world.specs.frames.Seen.{act_paints};
 
 use script_lines::Command;
 use tree_edits::requests_layout;
-use view_model::{Act, Change, Flag};
+use view_model::Act;
 
 /// What is known of the next frame.
 #[derive(Clone, Copy)]
@@ -127,18 +127,6 @@ fn effect_of_act(act: Act) -> Effect
 fn paints(act: Act) -> bool
     ensures { result ≡ act_paints act }
 {
-    match act {
-        Act::Change(Change::Background(_)) | Act::Ink(_) => true,
-        Act::Flag { flag, .. } => matches!(flag, Flag::Clip),
-        Act::Change(_)
-        | Act::WeightSum(_)
-        | Act::Orient { .. }
-        | Act::Direction(_)
-        | Act::Visible(_)
-        | Act::Id(_)
-        | Act::Rule { .. }
-        | Act::Answer(_)
-        | Act::Intercept(_)
-        | Act::Scroll(_) => false,
-    }
+    let facet = act.facet();
+    facet.shows() && !facet.asks()
 }

@@ -1,6 +1,6 @@
 use Rattle.std.proofs.Common.{sym, ◌∙◌, ap}
 use Rattle.std.specs.Prelude.{Option}
-use Rattle.tree_edits.specs.Editing.{takes_change}
+use Rattle.view_model.specs.Facets.{takes_change}
 use Rattle.view_model.specs.PlainTree.{PlainView}
 use Rattle.view_model.specs.declared.kinds.Class.{Class}
 use Rattle.view_world.specs.world.Step.{may_change}
