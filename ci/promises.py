@@ -91,6 +91,8 @@ SHORT = {
     "seen_edits::note_scrolled": "Adds to the damage what is seen of scrolled views.",
     "vindaesk_c::vindaesk_focus": "Carries out a script, then says which view gets the focus next.",
 }
+# crates whose functions are steps of the calls of another crate: each is a link in one row
+STEPS = {"world_parts": "view_world", "world_replies": "view_world"}
 UNNAMED = "clause"
 # in a cell: one link a line
 BREAK = "<br>"
@@ -162,7 +164,10 @@ def row_of_item(crate: str, item: Item) -> str:
 
 def rows_of_crate(crate: str) -> Iterator[str]:
     found = items(crate)
-    if found:
+    if found and crate in STEPS:
+        calls = BREAK.join(link(item.name, item.path, item.line) for item in found)
+        yield "|**%s**|steps of `%s`|%s|" % (crate, STEPS[crate], calls)
+    elif found:
         yield "|**%s**|||" % crate
         yield from (row_of_item(crate, item) for item in found)
 
@@ -195,7 +200,7 @@ def is_fresh() -> str:
 def sentences() -> Dict[str, str]:
     """The first sentence about each function that the page has, by crate and name."""
     return {"%s::%s" % (crate, item.name): first_sentence(item.summary)
-            for crate in crates() if crate != "whole_tool" for item in items(crate) if is_function(item)}
+            for crate in crates() if crate != "whole_tool" and crate not in STEPS for item in items(crate) if is_function(item)}
 
 
 def unfit(found: Dict[str, str], short: Dict[str, str]) -> List[str]:

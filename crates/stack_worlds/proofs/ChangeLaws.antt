@@ -16,7 +16,7 @@ use Rattle.text_lines.specs.Delivered.{Delivered}
 use Rattle.tool_io.specs.SinkState.{SinkState}
 use Rattle.tool_io.specs.declared.faults.Failed.{Failed}
 use Rattle.view_world.specs.world.KeyedWorld.{KeyedWorld, new_world, world_of}
-use Rattle.view_world.specs.world.World.{World, empty_world}
+use Rattle.world_parts.specs.World.{World, empty_world}
 use Rattle.window_stack.specs.PlainPanes.{PlainPanes, closed, is_open, set_at}
 
 abbrev pub stacked : PlainPanes → List (Option KeyedWorld) → KeyedStack

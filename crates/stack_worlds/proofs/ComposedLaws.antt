@@ -17,8 +17,8 @@ use Rattle.text_lines.specs.BufferedText.{BufferedText, Sends}
 use Rattle.text_lines.specs.Joined.{◌⧺◌}
 use Rattle.tool_io.specs.SinkState.{SinkState}
 use Rattle.view_world.specs.world.KeyedWorld.{KeyedWorld, world_of}
-use Rattle.view_world.specs.replying.Replies.{pixel_text, pixels_text, separator, texts_below}
-use Rattle.view_world.specs.world.World.{World}
+use Rattle.world_replies.specs.Replies.{pixel_text, pixels_text, separator, texts_below}
+use Rattle.world_parts.specs.World.{World}
 use Rattle.window_stack.specs.PlainPanes.{corner_of}
 
 -- one text more of those by number

@@ -13,7 +13,7 @@ use Rattle.view_model.specs.declared.limits.TheConstants.{MAX_VIEWS}
 use Rattle.view_model.specs.declared.work.Work.{Work}
 use Rattle.view_world.specs.world.Carried.{IsDone}
 use Rattle.view_world.specs.world.KeyedWorld.{KeyedWorld, new_world}
-use Rattle.view_world.specs.declared.fault.StepFault.{StepFault}
+use Rattle.world_parts.specs.declared.fault.StepFault.{StepFault}
 use Rattle.window_stack.specs.PlainPanes.{corner_of, is_open}
 use Rattle.window_stack.specs.StackLines.{PlainLine, At, Raise, Close, In, Compose, Down, Move, Up, Cancel}
 

@@ -13,11 +13,12 @@ use Rattle.tool_io.specs.Fetched.{Files}
 use Rattle.tool_io.specs.SinkState.{SinkState}
 use Rattle.view_world.specs.world.Carried.{IsDone, WritesReply}
 use Rattle.view_world.specs.world.KeyedWorld.{KeyedWorld, world_of}
-use Rattle.view_world.specs.editing.Inflating.{asked_file}
-use Rattle.view_world.specs.world.Step.{Reply, step}
-use Rattle.view_world.specs.world.Step as world_reply
-use Rattle.view_world.specs.world.World.{World}
-use Rattle.view_world.specs.declared.fault.StepFault.{StepFault}
+use Rattle.world_parts.specs.Inflating.{asked_file}
+use Rattle.world_parts.specs.Reply.{Reply}
+use Rattle.view_world.specs.world.Step.{step}
+use Rattle.world_parts.specs.Reply as world_reply
+use Rattle.world_parts.specs.World.{World}
+use Rattle.world_parts.specs.declared.fault.StepFault.{StepFault}
 
 -- what the world of the window replies, the stack replies
 pub given_done : (files : Files) (old new : KeyedStack) (holder : Option ℕ) (k : ℕ) (said : PlainCommand) (world after : KeyedWorld) (before now : SinkState) (result : Result (Unit {0}) StepFault)

@@ -10,8 +10,9 @@ use Rattle.tool_io.specs.Fetched.{Files}
 use Rattle.stack_worlds.specs.Isolation.{AreAlike, DependsOnShare, IsAlone, IsIsolated, Shared, after_shared, given_by, nothing_shared, opens, replies_alone, replies_from, reply_in, reply_of, share, shared_by, stack_or, world_alone, world_or}
 use Rattle.stack_worlds.specs.PlainStack.{PlainStack, PlainWay, Given, Missed, RefusedBy, ToStack, after_given, by_way, empty_stack, given_to, own_step, way_of, world_at}
 use Rattle.stack_worlds.specs.declared.stack.way.Own.TheVariants as own
-use Rattle.view_world.specs.world.Step.{Reply, Done, Refused, step}
-use Rattle.view_world.specs.world.World.{World, empty_world}
+use Rattle.world_parts.specs.Reply.{Reply, Done, Refused}
+use Rattle.view_world.specs.world.Step.{step}
+use Rattle.world_parts.specs.World.{World, empty_world}
 use Rattle.window_stack.specs.PlainPanes.{is_open}
 use Rattle.window_stack.specs.StackLines.{PlainLine}
 

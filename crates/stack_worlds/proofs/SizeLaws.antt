@@ -5,7 +5,7 @@ use Rattle.std.specs.Option.{option_map}
 use Rattle.std.specs.declared.alloc.Global.{Global}
 use Rattle.stack_worlds.specs.KeptStack.{kept_world}
 use Rattle.view_world.specs.world.KeyedWorld.{KeyedWorld, world_of}
-use Rattle.view_world.specs.world.World.{World}
+use Rattle.world_parts.specs.World.{World}
 
 abbrev Place : Type 0
 Place = Option (Box KeyedWorld Global)

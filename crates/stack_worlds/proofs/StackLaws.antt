@@ -11,10 +11,10 @@ use Rattle.stack_worlds.specs.PlainStack.{PlainStack, Done, after_given, stack_s
 use Rattle.stack_worlds.specs.StackCarried.{IsReplied, WritesStack}
 use Rattle.view_world.specs.world.Carried.{IsDone, WritesReply}
 use Rattle.view_world.specs.world.KeyedWorld.{KeyedWorld, world_of}
-use Rattle.view_world.specs.world.Step.{Reply}
-use Rattle.view_world.specs.world.World.{World}
-use Rattle.view_world.specs.declared.fault.StepFault.{StepFault}
-use Rattle.view_world.specs.declared.fault.StepFault.TheVariants as fault
+use Rattle.world_parts.specs.Reply.{Reply}
+use Rattle.world_parts.specs.World.{World}
+use Rattle.world_parts.specs.declared.fault.StepFault.{StepFault}
+use Rattle.world_parts.specs.declared.fault.StepFault.TheVariants as fault
 use Rattle.window_stack.specs.PlainPanes.{is_open}
 use Rattle.window_stack.specs.StackLines.{PlainLine}
 

@@ -7,8 +7,9 @@ use Rattle.stack_worlds.specs.PlainStack.{PlainStack, PlainWay, Given, Missed, R
 use Rattle.stack_worlds.specs.PlainStack.{empty_stack, stack_step, way_of, world_at}
 use Rattle.stack_worlds.specs.PlainStack as stack_reply
 use Rattle.stack_worlds.specs.declared.stack.way.Own.TheVariants as own
-use Rattle.view_world.specs.world.Step.{Reply, Done, Refused, step}
-use Rattle.view_world.specs.world.World.{World, empty_world}
+use Rattle.world_parts.specs.Reply.{Reply, Done, Refused}
+use Rattle.view_world.specs.world.Step.{step}
+use Rattle.world_parts.specs.World.{World, empty_world}
 use Rattle.window_stack.specs.PlainPanes.{is_open}
 use Rattle.window_stack.specs.StackLines.{PlainLine}
 

@@ -14,11 +14,12 @@ use Rattle.view_model.specs.Refusals.{PlainRefusal, refusal_numbered}
 use Rattle.stack_worlds.specs.declared.stack.way.Own.{Own}
 use Rattle.stack_worlds.specs.declared.stack.way.Own.TheVariants as own
 use Rattle.stack_worlds.specs.Numbers.{max_panes, max_touch, min_touch, no_pane, out_of_range, wrong_pointer}
-use Rattle.view_world.specs.editing.Inflating.{asked_file}
-use Rattle.view_world.specs.replying.Replies.{pixels_text}
-use Rattle.view_world.specs.world.Step.{Reply, step}
-use Rattle.view_world.specs.world.Step as world_reply
-use Rattle.view_world.specs.world.World.{World, Stage, NoWindow, NoFrame, Unsettled, Settled, empty_world}
+use Rattle.world_parts.specs.Inflating.{asked_file}
+use Rattle.world_replies.specs.Replies.{pixels_text}
+use Rattle.world_parts.specs.Reply.{Reply}
+use Rattle.view_world.specs.world.Step.{step}
+use Rattle.world_parts.specs.Reply as world_reply
+use Rattle.world_parts.specs.World.{World, Stage, NoWindow, NoFrame, Unsettled, Settled, empty_world}
 use Rattle.window_stack.specs.PlainPanes.{PlainPanes, closed, corner_of, holds_gesture, is_open, no_panes, raised}
 use Rattle.window_stack.specs.PlainPanes.{set_at, topmost}
 use Rattle.window_stack.specs.StackLines.{PlainLine, At, Raise, Close, In, Compose, Down, Move, Up, Cancel}

@@ -17,8 +17,8 @@ use Rattle.stack_worlds.specs.declared.stack.way.Way.{Way}
 use Rattle.stack_worlds.specs.declared.stack.way.Way.TheVariants as way
 use Rattle.script_lines.specs.commands.PlainCommands.{PlainCommand, plain_command, text_length}
 use Rattle.view_world.specs.world.Carried.{MayWantMemory}
-use Rattle.view_world.specs.declared.fault.StepFault.{StepFault}
-use Rattle.view_world.specs.declared.fault.StepFault.TheVariants as fault
+use Rattle.world_parts.specs.declared.fault.StepFault.{StepFault}
+use Rattle.world_parts.specs.declared.fault.StepFault.TheVariants as fault
 use Rattle.window_stack.specs.Numbers.{max_pane}
 use Rattle.window_stack.specs.PlainPanes.{is_open}
 use Rattle.window_stack.specs.StackLines.{PlainLine}

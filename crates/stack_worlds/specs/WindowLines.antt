@@ -18,7 +18,7 @@ use Rattle.view_world.specs.world.KeyedWorld.{KeyedWorld, new_world, world_of}
 use Rattle.view_world.specs.world.Marks.{marks_after, measure_bound}
 use Rattle.view_world.specs.frames.Resting.{CountsMeasures, LaysOut}
 use Rattle.view_world.specs.frames.Watched.{HasBox, IsWatched, IsWorth, costs_of, watched_after, watched_in}
-use Rattle.view_world.specs.declared.fault.StepFault.{StepFault}
+use Rattle.world_parts.specs.declared.fault.StepFault.{StepFault}
 use Rattle.window_stack.specs.PlainPanes.{is_open}
 
 -- what a command counts in a world, and what it leaves there

@@ -10,7 +10,8 @@ ghost use Rattle.stack_worlds.specs.PlainStack.{Done, PlainStack, asked_by, aske
 ghost use Rattle.stack_worlds.specs.StackCarried.{IsGivenSound, IsOwnSound, IsReplied, LineWants, OwnWants, WayWants, WritesStack, plain_given, written};
 ghost use Rattle.stack_worlds.specs.WindowLines.{WorksBy, next_at, worlds_after};
 ghost use Rattle.script_lines.specs.commands.PlainCommands.{Frame};
-ghost use Rattle.view_world.specs.world.Carried.{AreAtHand, AsksShelf, CountsShelf, IsDone, faults_after_line, fetches_after};
+ghost use Rattle.world_parts.specs.Shelves.{AreAtHand, AsksShelf, CountsShelf, fetches_after};
+ghost use Rattle.view_world.specs.world.Carried.{IsDone, faults_after_line};
 ghost use Rattle.view_world.specs.world.KeyedWorld.{KeyedWorld, world_of};
 ghost use Rattle.window_stack.specs.Numbers.{max_pane};
 ghost use Rattle.window_stack.specs.PlainPanes.{is_open};
@@ -28,8 +29,9 @@ use std::marker::Model;
 use text_lines::put;
 use tool_io::{Failed, Shelf, Sink};
 use view_model::{Refusal, Work};
-use view_world::{StepFault, World};
+use view_world::World;
 use window_stack::{MAX_PANES, Panes, StackLine};
+use world_parts::StepFault;
 
 /// The windows of a stack, and the world of each that is open.
 #[derive(Drop)]

@@ -1,10 +1,6 @@
 -- Laws of lines that change the tree: of files, names, texts and hooks, and of views that are added or go away.
 pub mod ArmedLaws
-pub mod EscapeLaws
 pub mod FileLaws
-pub mod ForgettingLaws
-pub mod FreshLaws
-pub mod GraftedLaws
 pub mod GraftingLaws
 pub mod GrowingLaws
 pub mod GrownShown
@@ -13,6 +9,3 @@ pub mod InflatingLaws
 pub mod LeaveLaws
 pub mod LeaveSound
 pub mod NamedLaws
-pub mod OpeningLaws
-pub mod RemovalLaws
-pub mod ResolvedLaws

@@ -1,7 +1,5 @@
 -- Laws of saved states, and of the offsets that they have.
 pub mod CommandLaws
-pub mod HexLaws
 pub mod OffsetLaws
 pub mod RestoredAsked
-pub mod SeedOffsets
 pub mod StateLaws

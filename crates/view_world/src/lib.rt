@@ -1,10 +1,9 @@
 //! The world of a script: what its lines so far have made, and what each line does to it.
 //!
 //! `World` (`world`) has a screen, and `world::marks`, what is known of the next frame. `screen` has what lines have
-//! made, such as the tree, the picture, the stage and the resources, and carries commands out. What these need is in a
-//! folder for each subject: `editing` the views that lines name, what lines give them, views that are added and views
-//! that go away; `touching` the pointers and the gesture; `saving` saved states; `replying` what is printed. `fault` is
-//! why a line was not carried out.
+//! made, such as the tree, the picture, the stage and the resources, and carries commands out. `hooking` has the
+//! conditions on a hook, and `saving` reads states and takes them up. The parts that need no frame are `world_parts`,
+//! and what is printed is `world_replies`.
 //!
 //! `whole_tool` passes it the commands of a run, and `stack_worlds` keeps one for each window.
 //!
@@ -13,15 +12,10 @@
 //!     world.carry(alloc, &line(b"bounds")?, shelf, sink, work)             // refused: there was no frame yet
 #![tactic(auto)]
 
-mod editing;
-mod fault;
-mod replying;
+mod hooking;
 mod saving;
 mod screen;
-mod touching;
 mod world;
 
-pub use editing::naming::find;
-pub use fault::StepFault;
 pub use screen::stage::Stage;
 pub use world::World;

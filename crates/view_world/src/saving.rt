@@ -1,59 +1,27 @@
-//! States as they are printed, and as they are read.
-ghost use Rattle.std.specs.Prelude.{◌≡◌, ℕ, false, ◌∷◌, [], Err, IfOk, OnErr, OnOk};
+//! States as they are read, and taken up.
+ghost use Rattle.std.specs.Prelude.{◌≡◌, ℕ, false, Err, IfOk, OnErr, OnOk};
 ghost use Rattle.damage_rect.specs.Within.{LiesIn};
 ghost use Rattle.geom_core.specs.declared.geometry.Rect.{Rect};
-ghost use Rattle.hex.specs.Hex.{encode_lower};
 ghost use Rattle.saved_state.specs.Restored.{Restates, on_paths, set_by};
 ghost use Rattle.saved_state.specs.Restoring.{is_for_other_class, restored};
 ghost use Rattle.saved_state.specs.Saving.{OffsetsFit};
 ghost use Rattle.saved_state.specs.State.{decoded};
 ghost use Rattle.seen_edits.specs.Scrolled.{GivenIn};
 ghost use Rattle.seen_edits.specs.Shown.{KeepsShown};
-ghost use Rattle.text_lines.specs.BufferedText.{Sends};
 ghost use Rattle.view_model.specs.Forest.{rows};
 ghost use Rattle.kept_views.specs.Kept.{IsConsistent};
 ghost use Rattle.view_tree.specs.Views.{IsTree, geometry_of, held_of, plain_of};
-ghost use Rattle.view_world.specs.replying.Replies.{state_bytes, state_text};
+ghost use Rattle.world_replies.specs.Replies.{state_bytes};
 ghost use Rattle.view_world.specs.saving.Stated.{ReadsState, TakesUp};
 
-use crate::fault::StepFault;
-use crate::replying::response::Response;
 use damage_rect::Damage;
 use geom_core::Size;
 use saved_state::{States, read};
 use seen_edits::restore_views;
 use std::alloc::Global;
-use text_lines::TextBuffer;
-use tool_io::Sink;
 use view_tree::ViewTree;
-
-/// The digits of a byte.
-fn digits_of(byte: u8) -> [u8; 2]
-    ensures { result ≡ encode_lower (byte ∷ []) }
-{
-    let mut digits = [0; 2];
-    let _ = hex::encode_to_slice([byte], &mut digits);
-    digits
-}
-
-/// Bytes in hexadecimal digits.
-fn put_bytes<K: Sink>(text: &mut TextBuffer, sink: &mut K, bytes: &[u8])
-    ensures { Sends (K.state sink.old) (K.state sink.new) text.old text.new (encode_lower bytes.now) }
-{
-    for byte in bytes {
-        text.put(sink, &digits_of(*byte));
-    }
-}
-
-/// The reply with a state of these bytes.
-#[tactic(auto, using(text_lines::proofs::Sending::sends_both))]
-pub fn put_state<K: Sink>(text: &mut TextBuffer, sink: &mut K, bytes: &[u8])
-    ensures { Sends (K.state sink.old) (K.state sink.new) text.old text.new (state_text bytes.now) }
-{
-    text.put(sink, b"state ");
-    put_bytes(text, sink, bytes);
-    text.put(sink, b"\n");
-}
+use world_parts::StepFault;
+use world_replies::Response;
 
 /// The bytes that hexadecimal digits write. A line has an even number of them, so only memory can run out.
 pub fn bytes_of(alloc: Global, digits: &str) -> Result<Vec<u8>, StepFault>

@@ -12,17 +12,21 @@ ghost use Rattle.tree_edits.specs.Editing.{names_views};
 ghost use Rattle.view_model.specs.Numbers.{max_views, numbers_end};
 ghost use Rattle.view_model.specs.Forest.{Nothing};
 ghost use Rattle.view_model.specs.Resources.{definition_refusal_of};
-ghost use Rattle.view_world.specs.world.World.{World as PlainWorld};
+ghost use Rattle.world_parts.specs.World.{World as PlainWorld};
 ghost use Rattle.view_tree.specs.Views.{plain_of};
 ghost use Rattle.view_world.specs.world.AfterLine.{Reports};
-ghost use Rattle.view_world.specs.world.Carried.{AreAtHand, AsksShelf, IsDone, MayWantMemory, WritesReply, faults_after_line};
+ghost use Rattle.world_parts.specs.Shelves.{AreAtHand, AsksShelf};
+ghost use Rattle.view_world.specs.world.Carried.{IsDone, MayWantMemory, WritesReply, faults_after_line};
 ghost use Rattle.view_world.specs.screen.Changed.{CarriesOut, Inflates, LeavesViews, Pictured};
 ghost use Rattle.view_world.specs.frames.Counting.{RisesWithin, paint_bound};
-ghost use Rattle.view_world.specs.editing.Inflating.{asked_file, asked_for, inflation_of};
+ghost use Rattle.world_parts.specs.Inflating.{asked_file, asked_for, inflation_of};
 ghost use Rattle.view_world.specs.saving.Offsets.{EditsWithin};
-ghost use Rattle.view_world.specs.replying.Responses.{IsReportable, response_text};
-ghost use Rattle.view_world.specs.frames.Seen.{black_picture, has_any_scrolled};
-ghost use Rattle.view_world.specs.world.Step.{Done, after_edit, defined, dpi_reported, inflation, resource_given, step, with_window};
+ghost use Rattle.world_replies.specs.Responses.{IsReportable, response_text};
+ghost use Rattle.view_world.specs.frames.Seen.{black_picture};
+ghost use Rattle.world_parts.specs.Touching.{has_any_scrolled};
+ghost use Rattle.world_parts.specs.Reply.{Done};
+ghost use Rattle.view_world.specs.world.Step.{after_edit, defined, dpi_reported, inflation, step, with_window};
+ghost use Rattle.world_parts.specs.Resources.{resource_given};
 ghost use Rattle.view_world.specs.screen.KeyedScreen.{new_screen, window_of, world_of};
 ghost use Rattle.view_world.specs.world.Marks.{has_settled};
 ghost use Rattle.view_world.specs.frames.Resting.{IsFrameDone, IsIdle, IsShown, KeepsEdit, KeepsLine};
@@ -32,20 +36,13 @@ mod grow;
 mod hook;
 mod leave;
 mod readers;
-mod resources;
+mod respond;
 pub mod stage;
 mod state;
 mod touch;
 
-use crate::editing::inflating::{fetch, inflation_of, views_of};
-use crate::editing::naming::{find, place_of, recall_tree, resolve};
-use crate::editing::texts::resolved;
-use crate::fault::StepFault;
-use crate::replying::pixels::part_in;
-use crate::replying::response::{ReplySource, Response, respond, write_response};
-use crate::screen::resources::value_of;
+use crate::screen::respond::respond;
 use crate::screen::stage::Stage;
-use crate::touching::gesture::{has_any_scrolled, hides};
 use arrayvec::ArrayVec;
 use damage_rect::Damage;
 use geom_core::Size;
@@ -69,6 +66,11 @@ use view_model::refusals::{
 };
 use view_model::{Act as ViewAct, Class, Refusal, Work};
 use view_tree::ViewTree;
+use world_parts::{
+    StepFault, fetch, find, has_any_scrolled, hides, inflation_of, place_of, recall_tree, resolve,
+    resolved, value_of, views_of,
+};
+use world_replies::{ReplySource, Response, part_in, write_response};
 
 /// The screen of a script: what its lines so far have made.
 #[derive(Drop)]

@@ -15,11 +15,11 @@ use Rattle.whole_tool.specs.declared.carrier.Carrier.{Carrier}
 use Rattle.whole_tool.specs.declared.carrier.Carrier.TheVariants as carrier
 use Rattle.view_world.specs.world.Carried.{IsDone, WritesReply}
 use Rattle.view_world.specs.world.KeyedWorld.{KeyedWorld}
-use Rattle.view_world.specs.world.Step.{Reply}
+use Rattle.world_parts.specs.Reply.{Reply}
 use Rattle.view_world.specs.frames.Watched.{Watched}
-use Rattle.view_world.specs.world.World.{World}
-use Rattle.view_world.specs.declared.fault.StepFault.{StepFault}
-use Rattle.view_world.specs.declared.fault.StepFault.TheVariants as fault
+use Rattle.world_parts.specs.World.{World}
+use Rattle.world_parts.specs.declared.fault.StepFault.{StepFault}
+use Rattle.world_parts.specs.declared.fault.StepFault.TheVariants as fault
 
 -- the numbers of the views of a stack
 

@@ -23,7 +23,7 @@ use Rattle.whole_tool.proofs.RunLaws.{parts_further}
 use Rattle.whole_tool.proofs.SumLaws.{worth_none}
 use Rattle.whole_tool.proofs.ToolLaws.{not_ended}
 use Rattle.view_world.specs.frames.Watched.{IsWorth}
-use Rattle.view_world.specs.world.World.{empty_world}
+use Rattle.world_parts.specs.World.{empty_world}
 
 pub works_none : (start : Carried) (files : Files) (work : Work) (lines : List Line) → WorksPartFrom start files work work lines
 unfolding tally_from

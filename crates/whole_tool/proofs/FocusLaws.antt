@@ -31,11 +31,12 @@ use Rattle.whole_tool.proofs.ToolLaws.{not_ended, runs_with, whole_prefix}
 use Rattle.view_tree.specs.Rows.{Row, first_key}
 use Rattle.view_tree.specs.Views.{Held, held_of, plain_rows}
 use Rattle.view_world.specs.screen.KeyedScreen.{KeyedScreen, stage_of, window_of, world_of}
-use Rattle.view_world.specs.editing.Naming.{named}
-use Rattle.view_world.specs.world.Step.{bounds_asked, bounds_in, bounds_reported, with_named}
+use Rattle.world_parts.specs.Naming.{named}
+use Rattle.view_world.specs.world.Step.{bounds_asked, bounds_in, bounds_reported}
+use Rattle.world_parts.specs.Reply.{with_named}
 use Rattle.view_world.specs.frames.Watched.{IsWorth}
-use Rattle.view_world.specs.world.World.{World, empty_world}
-use Rattle.view_world.specs.world.World as plain
+use Rattle.world_parts.specs.World.{World, empty_world}
+use Rattle.world_parts.specs.World as plain
 use Rattle.view_world.specs.declared.screen.stage.Stage.{Stage}
 use Rattle.view_world.specs.declared.screen.stage.Stage.TheVariants as early
 

@@ -13,7 +13,7 @@ use Rattle.whole_tool.specs.Gen.{gen_outcome}
 use Rattle.whole_tool.specs.Run.{HasCarriedOut}
 use Rattle.whole_tool.specs.Tally.{tally_from}
 use Rattle.whole_tool.specs.Transcript.{after_lines}
-use Rattle.view_world.specs.world.World.{empty_world}
+use Rattle.world_parts.specs.World.{empty_world}
 
 pub outcome_is : (n : ℕ) (script page : List ℕ) (old new : Work) (runner : LineRunner) (outcome : Outcome) → outcome ≡ record { lines = runner.lines; refused = runner.refused; digest = sha256 page } → script ≡ load n
     → HasCarriedOut (record { gone = Some []; work = old; fetches = Unseen }) (record { gone = Some page; work = new; fetches = Unseen }) runner (after_lines [] (lines_of script)) (tally_from (Alone empty_world) [] (lines_of script)) → outcome ≡ gen_outcome n

@@ -27,9 +27,10 @@ use Rattle.tool_io.specs.Counts.{raised}
 use Rattle.tool_io.specs.SinkState.{SinkState}
 use Rattle.view_model.specs.declared.refusal.Refusal.{Refusal}
 use Rattle.view_model.specs.Refusals.{PlainRefusal, plain_refusal}
-use Rattle.view_world.specs.declared.fault.StepFault.{StepFault}
-use Rattle.view_world.specs.declared.fault.StepFault.TheVariants as step
-use Rattle.view_world.specs.world.Carried.{IsDone, fetches_after, layout_fetch}
+use Rattle.world_parts.specs.declared.fault.StepFault.{StepFault}
+use Rattle.world_parts.specs.declared.fault.StepFault.TheVariants as step
+use Rattle.view_world.specs.world.Carried.{IsDone}
+use Rattle.world_parts.specs.Shelves.{fetches_after, layout_fetch}
 use Rattle.view_world.specs.frames.Watched.{IsWorth}
 use Rattle.whole_tool.proofs.CarrierLaws.{watching_same}
 use Rattle.whole_tool.proofs.SumLaws.{worth_same}

@@ -21,7 +21,7 @@ use Rattle.whole_tool.proofs.CarrierLaws.{first_watching}
 use Rattle.whole_tool.proofs.RunLaws.{after_from-push, line_after}
 use Rattle.whole_tool.proofs.SumLaws.{worth_none}
 use Rattle.view_world.specs.frames.Watched.{no_costs}
-use Rattle.view_world.specs.world.World.{empty_world}
+use Rattle.world_parts.specs.World.{empty_world}
 
 first_false : (a b : Bool) → (a || b) ≡ false → a ≡ false
 first_false true b e = e

@@ -28,12 +28,13 @@ use Rattle.whole_tool.proofs.SumLaws.{worth_both}
 use Rattle.whole_tool.proofs.WatchedLaws.{stack_same, way_watched}
 use Rattle.view_world.specs.world.Carried.{IsDone, WritesReply}
 use Rattle.view_world.specs.world.KeyedWorld.{KeyedWorld, world_of}
-use Rattle.view_world.specs.world.Step.{Reply, step}
-use Rattle.view_world.specs.world.Step as world
+use Rattle.world_parts.specs.Reply.{Reply}
+use Rattle.view_world.specs.world.Step.{step}
+use Rattle.world_parts.specs.Reply as world
 use Rattle.view_world.specs.frames.Watched.{LineCosts, HasBox, IsWatched, IsWorth, Watched, costs_of, watched_after, watched_in}
-use Rattle.view_world.specs.world.World.{World}
-use Rattle.view_world.specs.declared.fault.StepFault.{StepFault}
-use Rattle.view_world.specs.declared.fault.StepFault.TheVariants as fault
+use Rattle.world_parts.specs.World.{World}
+use Rattle.world_parts.specs.declared.fault.StepFault.{StepFault}
+use Rattle.world_parts.specs.declared.fault.StepFault.TheVariants as fault
 use Rattle.window_stack.specs.StackLines.{PlainLine, stack_line_of}
 
 -- more lines

@@ -17,11 +17,12 @@ use Rattle.whole_tool.specs.WatchedStack.{WatchedStack, after_own, after_said, a
 use Rattle.whole_tool.proofs.SumLaws.{worth_none}
 use Rattle.view_world.specs.world.Carried.{IsDone}
 use Rattle.view_world.specs.world.KeyedWorld.{KeyedWorld, new_world, world_of}
-use Rattle.view_world.specs.world.Step.{Reply, step}
-use Rattle.view_world.specs.world.Step as world
+use Rattle.world_parts.specs.Reply.{Reply}
+use Rattle.view_world.specs.world.Step.{step}
+use Rattle.world_parts.specs.Reply as world
 use Rattle.view_world.specs.frames.Watched.{IsWatched, IsWorth, Watched, costs_of, no_costs, watched_after}
-use Rattle.view_world.specs.world.World.{World, empty_world}
-use Rattle.view_world.specs.declared.fault.StepFault.{StepFault}
+use Rattle.world_parts.specs.World.{World, empty_world}
+use Rattle.world_parts.specs.declared.fault.StepFault.{StepFault}
 use Rattle.window_stack.specs.PlainPanes.{PlainPanes, is_open}
 
 -- lists

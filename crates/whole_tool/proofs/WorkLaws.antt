@@ -4,7 +4,7 @@ use Rattle.std.specs.Prelude.{◌⊎◌, Result}
 use Rattle.script_lines.specs.commands.PlainCommands.{PlainCommand}
 use Rattle.script_lines.specs.commands.PlainCommands as command
 use Rattle.view_model.specs.declared.work.Work.{Work}
-use Rattle.view_world.specs.declared.fault.StepFault.{StepFault}
+use Rattle.world_parts.specs.declared.fault.StepFault.{StepFault}
 use Rattle.view_world.specs.world.Carried.{IsDone}
 
 stays : (before after : Work) → after ≡ before → min before.measured (2 ^ 64 - 1) ≤ after.measured

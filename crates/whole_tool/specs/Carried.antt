@@ -10,10 +10,11 @@ use Rattle.stack_worlds.specs.StackCarried.{LineWants}
 use Rattle.tool_io.specs.Fetched.{Files}
 use Rattle.view_model.specs.Refusals.{PlainRefusal, refusal_numbered}
 use Rattle.view_world.specs.world.Carried.{MayWantMemory}
-use Rattle.view_world.specs.editing.Inflating.{asked_file}
-use Rattle.view_world.specs.world.Step.{Reply, step}
-use Rattle.view_world.specs.world.Step as world_reply
-use Rattle.view_world.specs.world.World.{World, empty_world}
+use Rattle.world_parts.specs.Inflating.{asked_file}
+use Rattle.world_parts.specs.Reply.{Reply}
+use Rattle.view_world.specs.world.Step.{step}
+use Rattle.world_parts.specs.Reply as world_reply
+use Rattle.world_parts.specs.World.{World, empty_world}
 use Rattle.window_stack.specs.StackLines.{PlainLine, stack_line_of}
 use Rattle.whole_tool.specs.Numbers.{bad_syntax, out_of_range}
 

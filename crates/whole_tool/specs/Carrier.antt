@@ -14,8 +14,8 @@ use Rattle.whole_tool.specs.declared.carrier.Carrier.{Carrier}
 use Rattle.whole_tool.specs.declared.carrier.Carrier.TheVariants as carrier
 use Rattle.view_world.specs.world.KeyedWorld.{KeyedWorld, new_world, world_of}
 use Rattle.view_world.specs.frames.Watched.{IsWatched, Watched}
-use Rattle.view_world.specs.declared.fault.StepFault.{StepFault}
-use Rattle.view_world.specs.declared.fault.StepFault.TheVariants as fault
+use Rattle.world_parts.specs.declared.fault.StepFault.{StepFault}
+use Rattle.world_parts.specs.declared.fault.StepFault.TheVariants as fault
 
 abbrev pub carried_of : Carrier → Carried
 carried_of (carrier.Alone world) = Alone (world_of world)

@@ -24,10 +24,11 @@ use Rattle.whole_tool.specs.Tool.{Given, IsComplete, Writes}
 use Rattle.whole_tool.specs.Transcript.{after_lines, carried_lines, cut_transcript, has_refusal, max_script, transcript}
 use Rattle.whole_tool.specs.Usage.{Focus}
 use Rattle.whole_tool.specs.Works.{HasFetched, Trace, Works, WorksBefore, WorksPart, WorksToFetch, WorksToWrite}
-use Rattle.view_world.specs.editing.Naming.{named}
-use Rattle.view_world.specs.world.Step.{Reply, Done, Refused, step}
+use Rattle.world_parts.specs.Naming.{named}
+use Rattle.world_parts.specs.Reply.{Reply, Done, Refused}
+use Rattle.view_world.specs.world.Step.{step}
 use Rattle.view_world.specs.frames.Watched.{IsWorth}
-use Rattle.view_world.specs.world.World.{World, empty_world}
+use Rattle.world_parts.specs.World.{World, empty_world}
 
 -- the view that gets the focus next in a window of this size, from the view of this number
 abbrev pub next_in : World → Side → Option Size → Option ℕ → Option ℕ

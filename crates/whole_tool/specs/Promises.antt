@@ -10,8 +10,8 @@ use Rattle.tool_io.specs.Counts.{Rose, raised}
 use Rattle.tool_io.specs.Fetched.{Files}
 use Rattle.tool_io.specs.Fetches.{Fetches, with_fetch, with_fetches}
 use Rattle.view_world.specs.frames.Watched.{IsWorth}
-use Rattle.view_world.specs.world.Carried.{layout_fetch}
-use Rattle.view_world.specs.world.World.{empty_world}
+use Rattle.world_parts.specs.Shelves.{layout_fetch}
+use Rattle.world_parts.specs.World.{empty_world}
 use Rattle.whole_tool.specs.Carried.{Alone, Stacked}
 use Rattle.whole_tool.specs.Dump.{dump_page, refuses_file}
 use Rattle.whole_tool.specs.Focus.{AsksWith, IsFocusOf, focus_page, refuses_focus}

@@ -19,7 +19,7 @@ use Rattle.whole_tool.specs.Tally.{Tally, tally_from}
 use Rattle.whole_tool.specs.Transcript.{Asks, MayWant, ScriptProgress, after_from}
 use Rattle.whole_tool.specs.Works.{Trace, WorksBefore, WorksToFetch, WorksToWrite}
 use Rattle.view_world.specs.frames.Watched.{IsWorth}
-use Rattle.view_world.specs.world.World.{empty_world}
+use Rattle.world_parts.specs.World.{empty_world}
 
 -- a line as the code has it: it is not too long
 abbrev pub line_now : Option (Bor (List ℕ)) → Line

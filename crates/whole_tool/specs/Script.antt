@@ -11,7 +11,7 @@ use Rattle.whole_tool.specs.declared.script.End.TheVariants as ends
 use Rattle.whole_tool.specs.Run.{CountsStop, StopsIn, stop_counted}
 use Rattle.whole_tool.specs.Transcript.{after_from, carried_lines, max_script}
 use Rattle.whole_tool.specs.Works.{Trace, Works}
-use Rattle.view_world.specs.world.World.{empty_world}
+use Rattle.world_parts.specs.World.{empty_world}
 
 -- the bytes that were taken of a script are at its front, and the rest is left
 pub record Takes (script : List ℕ) (now : Option (List ℕ)) (taken : List ℕ) : Type 0 where

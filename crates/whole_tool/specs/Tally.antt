@@ -10,9 +10,10 @@ use Rattle.tool_io.specs.Fetched.{Files}
 use Rattle.whole_tool.specs.Carried.{Carried, Alone, Stacked}
 use Rattle.whole_tool.specs.WatchedStack.{WatchedStack, after_way, costs_of_way, plain_stack, stack_first}
 use Rattle.whole_tool.specs.WatchedStack.{watched_first}
-use Rattle.view_world.specs.world.Step.{Reply, Done, Refused, step}
+use Rattle.world_parts.specs.Reply.{Reply, Done, Refused}
+use Rattle.view_world.specs.world.Step.{step}
 use Rattle.view_world.specs.frames.Watched.{LineCosts, Watched, costs_of, no_costs, watched_after}
-use Rattle.view_world.specs.world.World.{empty_world}
+use Rattle.world_parts.specs.World.{empty_world}
 use Rattle.window_stack.specs.StackLines.{PlainLine, stack_line_of}
 
 -- the costs of some lines, and of the lines after them

@@ -10,8 +10,8 @@ use Rattle.whole_tool.specs.Carried.{Carried, Alone, Stacked, LineReply, Done, R
 use Rattle.whole_tool.specs.Carried.{reply_to_bytes}
 use Rattle.whole_tool.specs.Numbers.{long_line}
 use Rattle.whole_tool.specs.Refusals.{refused_line}
-use Rattle.view_world.specs.world.Carried.{layout_fetch}
-use Rattle.view_world.specs.world.World.{empty_world}
+use Rattle.world_parts.specs.Shelves.{layout_fetch}
+use Rattle.world_parts.specs.World.{empty_world}
 
 -- what a line does: too long a line is refused whatever it begins with, and one that is passed over does nothing
 unfoldable pub reply_to_line : Files → Carried → Line → LineReply

@@ -8,9 +8,10 @@ use Rattle.stack_worlds.specs.declared.stack.way.Own.TheVariants as own
 use Rattle.tool_io.specs.Fetched.{Files}
 use Rattle.view_model.specs.Visible.{no_rect}
 use Rattle.view_world.specs.world.Marks.{no_marks}
-use Rattle.view_world.specs.world.Step.{Reply, Done, Refused, step}
+use Rattle.world_parts.specs.Reply.{Reply, Done, Refused}
+use Rattle.view_world.specs.world.Step.{step}
 use Rattle.view_world.specs.frames.Watched.{LineCosts, Watched, costs_of, no_costs, watched_after}
-use Rattle.view_world.specs.world.World.{World, empty_world}
+use Rattle.world_parts.specs.World.{World, empty_world}
 use Rattle.window_stack.specs.PlainPanes.{PlainPanes, is_open}
 
 -- a world of which nothing is known

@@ -12,7 +12,7 @@ use Rattle.whole_tool.specs.Carried.{Carried, Alone}
 use Rattle.whole_tool.specs.Tally.{costs_from}
 use Rattle.whole_tool.specs.Transcript.{Asks, MayWant, after_from, line_text}
 use Rattle.view_world.specs.frames.Watched.{IsWorth}
-use Rattle.view_world.specs.world.World.{empty_world}
+use Rattle.world_parts.specs.World.{empty_world}
 
 -- what is known of a run at a moment: the bytes that were written, if the sink makes them visible, what was counted,
 -- and what the shelf shows of the calls on it

@@ -7,7 +7,7 @@ use Rattle.whole_tool.specs.Script.{WorksTaken}
 use Rattle.whole_tool.specs.Tool.{IsComplete}
 use Rattle.whole_tool.specs.Transcript.{carried_lines}
 use Rattle.whole_tool.specs.Works.{Trace, Works, WorksBefore, WorksPartFrom, WorksToFetch, WorksToWrite}
-use Rattle.view_world.specs.world.World.{empty_world}
+use Rattle.world_parts.specs.World.{empty_world}
 
 -- what the carried out lines cost, besides the texts that were written: the first lines in any case
 pub record WorksWithFrom (start : Carried) (files : Files) (script : List ℕ) (left : Option (List ℕ))

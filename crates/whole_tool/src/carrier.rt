@@ -12,8 +12,9 @@ ghost use Rattle.whole_tool.specs.Numbers.{max_views, numbers_end};
 ghost use Rattle.whole_tool.specs.Run.{HasTallied, IsShort, line_now};
 ghost use Rattle.whole_tool.specs.Tally.{Tally, after_bytes, with_cost};
 ghost use Rattle.whole_tool.specs.Transcript.{Asks, MayWant, asked_by_line, reply_to_line};
-ghost use Rattle.view_world.specs.world.Carried.{CountsShelf, IsDone, faults_after_line, fetches_after};
-ghost use Rattle.view_world.specs.world.World.{empty_world};
+ghost use Rattle.world_parts.specs.Shelves.{CountsShelf, fetches_after};
+ghost use Rattle.view_world.specs.world.Carried.{IsDone, faults_after_line};
+ghost use Rattle.world_parts.specs.World.{empty_world};
 
 use script_lines::{LineFault, line};
 use stack_worlds::Stack;
@@ -21,8 +22,9 @@ use std::alloc::Global;
 use tool_io::{Shelf, Sink};
 use view_model::refusals::{LONG_LINE, RANGE, SYNTAX};
 use view_model::{Refusal, Work};
-use view_world::{StepFault, World};
+use view_world::World;
 use window_stack::stack_line;
+use world_parts::StepFault;
 
 /// What carries out the lines of a script.
 #[derive(Drop)]

@@ -5,7 +5,7 @@ ghost use Rattle.axml_reader.specs.Decoding.{decoded};
 ghost use Rattle.tool_io.specs.Counts.{raised};
 ghost use Rattle.tool_io.specs.Fetched.{Fetched, Files};
 ghost use Rattle.tool_io.specs.Fetches.{with_fetch};
-ghost use Rattle.view_world.specs.world.Carried.{layout_fetch};
+ghost use Rattle.world_parts.specs.Shelves.{layout_fetch};
 ghost use Rattle.whole_tool.specs.Dump.{Dumps, LeavesSink, decoded_text, dump_page, is_fault, refuses_file, status_of_text};
 ghost use Rattle.whole_tool.specs.Numbers.{max_file};
 ghost use Rattle.whole_tool.specs.Tool.{IsOneOf};

@@ -14,7 +14,7 @@ ghost use Rattle.whole_tool.specs.Script.{CountsEnd, ends_counted, reads_counted
 ghost use Rattle.whole_tool.specs.Works.{Trace, trace};
 ghost use Rattle.view_tree.specs.Views.{IsLive, number_of};
 ghost use Rattle.view_world.specs.world.KeyedWorld.{world_of};
-ghost use Rattle.view_world.specs.world.World.{empty_world};
+ghost use Rattle.world_parts.specs.World.{empty_world};
 
 use crate::carrier::Carrier;
 use crate::refusals::{put_counted, put_refused};
@@ -29,7 +29,8 @@ use tool_io::{Failed, Shelf, Sink, Source};
 use view_model::Work;
 use view_model::refusals::{NO_FRAME, NO_ROOT, NO_VIEW, NO_WINDOW, UNSETTLED};
 use view_tree::{Key, ViewTree};
-use view_world::{Stage, World, find};
+use view_world::{Stage, World};
+use world_parts::find;
 
 /// A question that is asked after a script: which view gets the focus next, from a view to a side of it.
 #[derive(Clone, Copy)]

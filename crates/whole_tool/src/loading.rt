@@ -21,7 +21,7 @@ ghost use Rattle.whole_tool.specs.Tool.{IsOneOf};
 ghost use Rattle.whole_tool.specs.Transcript.{after_lines, max_script};
 ghost use Rattle.whole_tool.specs.Works.{Trace, WorksPart};
 ghost use Rattle.view_world.specs.frames.Watched.{IsWorth};
-ghost use Rattle.view_world.specs.world.World.{empty_world};
+ghost use Rattle.world_parts.specs.World.{empty_world};
 
 use crate::carrier::Carrier;
 use crate::dump::status_of;

@@ -23,7 +23,7 @@ use std::alloc::Global;
 use text_lines::TextBuffer;
 use tool_io::{Shelf, Sink};
 use view_model::Work;
-use view_world::StepFault;
+use world_parts::StepFault;
 
 /// What ends a run before its last line.
 #[derive(Clone, Copy)]

@@ -6,7 +6,7 @@
 ghost use Rattle.std.specs.Prelude.{◌≡◌, ℕ, ◌≤◌, List, Some, length};
 ghost use Rattle.stack_worlds.specs.PlainStack.{empty_stack};
 ghost use Rattle.tool_io.specs.Fetched.{Files};
-ghost use Rattle.view_world.specs.world.World.{empty_world};
+ghost use Rattle.world_parts.specs.World.{empty_world};
 ghost use Rattle.whole_tool.specs.Carried.{Alone, Stacked};
 ghost use Rattle.whole_tool.specs.Outside.{EndsWith, outside};
 ghost use Rattle.whole_tool.specs.Promises.{FetchesFiles, CountsWork, HasStatus, LeavesAlone, LeavesRest, ReportsFailures, ReportsRefusals, Stops, WritesPages, failures};

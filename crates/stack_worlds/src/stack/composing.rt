@@ -13,7 +13,7 @@ ghost use Rattle.stack_worlds.specs.Composed.{IsComposed, composed_in, part_of};
 ghost use Rattle.stack_worlds.specs.KeptStack.{kept_world, stack_of};
 ghost use Rattle.stack_worlds.specs.PlainStack.{color_from, color_in, color_of_picture, color_of_world, composed_text, settled_size, settled_sizes};
 ghost use Rattle.view_world.specs.world.KeyedWorld.{world_of};
-ghost use Rattle.view_world.specs.replying.Replies.{pixel_text, pixels_text, row_text, separator};
+ghost use Rattle.world_replies.specs.Replies.{pixel_text, pixels_text, row_text, separator};
 ghost use Rattle.window_stack.specs.Numbers.{max_pane};
 ghost use Rattle.window_stack.specs.PlainPanes.{topmost};
 

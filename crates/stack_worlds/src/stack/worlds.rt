@@ -7,13 +7,15 @@ ghost use Rattle.script_lines.specs.commands.PlainCommands.{plain_command, text_
 ghost use Rattle.tool_io.specs.Fetched.{Files};
 ghost use Rattle.stack_worlds.specs.KeptStack.{HaveNumbers, kept_world, keyed_at, stack_of};
 ghost use Rattle.stack_worlds.specs.PlainStack.{asked_on, is_none_down, size_in, sizes_of};
-ghost use Rattle.view_world.specs.world.Carried.{AreAtHand, AsksShelf, IsDone, MayWantMemory, WritesReply, faults_after_line};
-ghost use Rattle.view_world.specs.editing.Inflating.{asked_file};
+ghost use Rattle.world_parts.specs.Shelves.{AreAtHand, AsksShelf};
+ghost use Rattle.view_world.specs.world.Carried.{IsDone, MayWantMemory, WritesReply, faults_after_line};
+ghost use Rattle.world_parts.specs.Inflating.{asked_file};
 ghost use Rattle.view_world.specs.world.KeyedWorld.{KeyedWorld, new_world, world_of};
 ghost use Rattle.stack_worlds.specs.StackCarried.{plain_given};
 ghost use Rattle.stack_worlds.specs.WindowLines.{WorksIn};
-ghost use Rattle.view_world.specs.world.Step.{Done, step};
-ghost use Rattle.view_world.specs.world.World.{World as PlainWorld};
+ghost use Rattle.world_parts.specs.Reply.{Done};
+ghost use Rattle.view_world.specs.world.Step.{step};
+ghost use Rattle.world_parts.specs.World.{World as PlainWorld};
 ghost use Rattle.window_stack.specs.Numbers.{max_pane};
 ghost use Rattle.window_stack.specs.PlainPanes.{is_open};
 
@@ -23,8 +25,9 @@ use geom_core::Size;
 use std::alloc::{AllocError, Global};
 use tool_io::{Shelf, Sink};
 use view_model::Work;
-use view_world::{StepFault, World};
+use view_world::World;
 use window_stack::MAX_PANES;
+use world_parts::StepFault;
 
 /// Opens a world in an empty place.
 pub fn open_in(

@@ -6,12 +6,12 @@ use Rattle.script_lines.specs.commands.PlainCommands as command
 use Rattle.script_lines.specs.declared.words.naming.Name.{Name}
 use Rattle.tool_io.specs.Fetched.{Files}
 use Rattle.tool_io.specs.Fetches.{Fetches}
-use Rattle.view_world.specs.world.World.{World}
-use Rattle.view_world.specs.world.Carried.{AsksShelf, CountsShelf}
-use Rattle.view_world.specs.editing.Inflating.{inflation_of}
+use Rattle.world_parts.specs.World.{World}
+use Rattle.world_parts.specs.Shelves.{AsksShelf, CountsShelf}
+use Rattle.world_parts.specs.Inflating.{inflation_of}
 use Rattle.view_world.specs.world.Step.{inflation, step}
-use Rattle.view_world.specs.declared.fault.StepFault.{StepFault}
-use Rattle.view_world.specs.declared.fault.StepFault.TheVariants as fault
+use Rattle.world_parts.specs.declared.fault.StepFault.{StepFault}
+use Rattle.world_parts.specs.declared.fault.StepFault.TheVariants as fault
 
 -- a command that takes no file does the same with any files at hand
 pub unaided : (files : Files) (world : World) (line : PlainCommand) → inflation_of line ≡ None → step files world line ≡ step [] world line

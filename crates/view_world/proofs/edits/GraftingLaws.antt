@@ -29,20 +29,20 @@ use Rattle.view_model.specs.declared.fault.Fault.{Fault}
 use Rattle.view_model.specs.declared.fault.Fault.TheVariants as fault
 use Rattle.view_tree.proofs.forest.KeyLaws.{number_live, zero_or_more}
 use Rattle.view_tree.proofs.forest.PlainLaws.{plain-count}
-use Rattle.view_world.proofs.touches.CaughtLaws.{times-plain}
-use Rattle.view_world.proofs.trees.DirectedLaws.{count-directed, every-directed, times-directed}
+use Rattle.world_parts.proofs.touches.CaughtLaws.{times-plain}
+use Rattle.world_parts.proofs.trees.DirectedLaws.{count-directed, every-directed, times-directed}
 use Rattle.view_world.proofs.edits.GrowingLaws.{placed_root, plain_root}
-use Rattle.view_world.proofs.touches.GrownCaught.{gesture_grafted}
+use Rattle.world_parts.proofs.touches.GrownCaught.{gesture_grafted}
 use Rattle.view_world.proofs.edits.GrownShown.{nowhere_numbered, shown_come}
-use Rattle.view_world.proofs.trees.PartCounts.{times-joined}
-use Rattle.view_world.proofs.trees.ShapeLaws.{times_in}
+use Rattle.world_parts.proofs.trees.PartCounts.{times-joined}
+use Rattle.world_parts.proofs.trees.ShapeLaws.{times_in}
 use Rattle.view_world.specs.screen.Changed.{CarriesOut}
-use Rattle.view_world.specs.Faults.{step_fault_of}
+use Rattle.world_parts.specs.Faults.{step_fault_of}
 use Rattle.view_world.specs.screen.KeyedScreen.{KeyedScreen}
-use Rattle.view_world.specs.editing.Places.{AreOpened, HasGained}
+use Rattle.world_parts.specs.Places.{AreOpened, HasGained}
 use Rattle.view_world.specs.screen.Sound.{IsSound}
 use Rattle.view_world.specs.world.Step.{grafted}
-use Rattle.view_world.specs.world.World.{World}
+use Rattle.world_parts.specs.World.{World}
 use Rattle.view_world.specs.declared.screen.Screen.TheInside.{Inside}
 
 length-preorder : (depth : ℕ) (seeds : Forest Seed) → length (preorder depth seeds) ≡ count_of seeds

@@ -33,16 +33,18 @@ use Rattle.view_tree.specs.tree.Directions.{running_below}
 use Rattle.view_tree.specs.Rows.{Row, count_of_key, count_of_number, leaf}
 use Rattle.view_tree.specs.Views.{IsTree, Views, geometry_of, held_of, number_of, plain_of, plain_rows}
 use Rattle.view_tree.proofs.forest.NumberLaws.{count-with_child, number-leaf_own, sum-with_child}
-use Rattle.view_world.proofs.edits.FreshLaws.{free_next, none_from}
-use Rattle.view_world.proofs.touches.GrownCaught.{gesture_grown}
+use Rattle.world_parts.proofs.edits.FreshLaws.{free_next, none_from}
+use Rattle.world_parts.proofs.touches.GrownCaught.{gesture_grown}
 use Rattle.view_world.specs.screen.Changed.{CarriesOut}
 use Rattle.view_world.specs.screen.KeyedScreen.{KeyedScreen, world_of}
-use Rattle.view_world.specs.replying.Responses.{response_of, response_text}
-use Rattle.view_world.specs.screen.Sound.{HasNoneElse, IsSound}
-use Rattle.view_world.specs.world.Step.{Done, Reply}
-use Rattle.view_world.specs.declared.fault.StepFault.{StepFault}
-use Rattle.view_world.specs.declared.fault.StepFault.TheVariants as fault
-use Rattle.view_world.specs.declared.replying.response.Response.{Response}
+use Rattle.view_world.specs.screen.Changed.{response_of}
+use Rattle.world_replies.specs.Responses.{response_text}
+use Rattle.world_parts.specs.Places.{HasNoneElse}
+use Rattle.view_world.specs.screen.Sound.{IsSound}
+use Rattle.world_parts.specs.Reply.{Done, Reply}
+use Rattle.world_parts.specs.declared.fault.StepFault.{StepFault}
+use Rattle.world_parts.specs.declared.fault.StepFault.TheVariants as fault
+use Rattle.world_replies.specs.declared.response.Response.{Response}
 use Rattle.view_world.specs.declared.screen.Screen.TheInside.{Inside}
 
 -- what a call ensures if it has failed

@@ -17,8 +17,9 @@ use Rattle.view_model.specs.Refusals.{refusal_numbered}
 use Rattle.view_model.specs.declared.changes.NumEdit.{NumEdit}
 use Rattle.view_model.specs.Numbers.{max_hooks, too_many_hooks}
 use Rattle.view_world.specs.screen.KeyedScreen.{KeyedScreen, geometry_in, world_of}
-use Rattle.view_world.specs.world.Step.{Done, Refused, hook_asked, hooked, is_full, may_change, size_in}
-use Rattle.view_world.specs.world.World.{World}
+use Rattle.world_parts.specs.Reply.{Done, Refused}
+use Rattle.view_world.specs.world.Step.{hook_asked, hooked, is_full, may_change, size_in}
+use Rattle.world_parts.specs.World.{World}
 
 -- the edits of a hook, after those that have their numbers already
 abbrev pub after_edits : List NumEdit → Option (List NumEdit) → Option (List NumEdit)

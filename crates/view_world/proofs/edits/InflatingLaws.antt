@@ -15,20 +15,23 @@ use Rattle.view_model.specs.Sprouts.{numbered}
 use Rattle.view_model.specs.PlainTree.{PlainView}
 use Rattle.view_model.specs.Refusals.{PlainRefusal}
 use Rattle.view_model.specs.Resources.{Entries}
-use Rattle.view_world.specs.world.World.{World}
+use Rattle.world_parts.specs.World.{World}
 use Rattle.view_tree.specs.Views.{Views, number_of, plain_of}
 use Rattle.tool_io.specs.SinkState.{SinkState}
-use Rattle.view_world.specs.world.Carried.{AreAtHand, AsksShelf, CountsShelf, IsDone, WritesReply}
-use Rattle.view_world.specs.screen.Changed.{CarriesOut, Inflates, IsPlace}
-use Rattle.view_world.specs.editing.Inflating.{asked_for, bytes_in, place_in, views_in, views_of}
+use Rattle.world_parts.specs.Shelves.{AreAtHand, AsksShelf, CountsShelf}
+use Rattle.view_world.specs.world.Carried.{IsDone, WritesReply}
+use Rattle.view_world.specs.screen.Changed.{CarriesOut, Inflates}
+use Rattle.world_parts.specs.Given.{IsPlace}
+use Rattle.world_parts.specs.Inflating.{asked_for, bytes_in, place_in, views_in, views_of}
 use Rattle.view_world.specs.screen.KeyedScreen.{KeyedScreen, world_of}
-use Rattle.view_world.specs.editing.Places.{HasGained}
-use Rattle.view_world.specs.replying.Replies.{inflated_text}
-use Rattle.view_world.specs.world.Step.{Reply, Done, graft_reason, grafted, inflation, reply_with}
-use Rattle.view_world.specs.declared.fault.StepFault.{StepFault}
-use Rattle.view_world.specs.declared.fault.StepFault.TheVariants as fault
-use Rattle.view_world.specs.declared.replying.response.Response.{Response}
-use Rattle.view_world.specs.declared.replying.response.Response.TheVariants as response
+use Rattle.world_parts.specs.Places.{HasGained}
+use Rattle.world_replies.specs.Replies.{inflated_text}
+use Rattle.world_parts.specs.Reply.{Reply, Done}
+use Rattle.view_world.specs.world.Step.{graft_reason, grafted, inflation, reply_with}
+use Rattle.world_parts.specs.declared.fault.StepFault.{StepFault}
+use Rattle.world_parts.specs.declared.fault.StepFault.TheVariants as fault
+use Rattle.world_replies.specs.declared.response.Response.{Response}
+use Rattle.world_replies.specs.declared.response.Response.TheVariants as response
 use Rattle.view_world.proofs.worlds.WorldLaws.{geometry_in-same}
 
 -- the number of a place, and that the place is there

@@ -28,20 +28,22 @@ use Rattle.view_model.specs.declared.kinds.Visibility.{Visibility}
 use Rattle.view_tree.proofs.forest.PlainLaws.{number_there}
 use Rattle.view_tree.specs.Rows.{ancestors}
 use Rattle.view_tree.specs.Views.{IsLive, IsTree, SameTree, Views, facts_of, number_of, plain_of}
-use Rattle.view_world.proofs.trees.AncestorLaws.{parent_named}
-use Rattle.view_world.proofs.touches.CancelLaws.{same_cancel, still_cancelled}
+use Rattle.world_parts.proofs.trees.AncestorLaws.{parent_named}
+use Rattle.world_parts.proofs.touches.CancelLaws.{same_cancel, still_cancelled}
 use Rattle.view_world.proofs.touches.EventLaws.{progress_plain, world_scrolled}
-use Rattle.view_world.proofs.trees.PartLaws.{part_plain}
-use Rattle.view_world.proofs.edits.RemovalLaws.{part_numbers}
-use Rattle.view_world.proofs.touches.SceneLaws.{scrolls_plain}
+use Rattle.world_parts.proofs.trees.PartLaws.{part_plain}
+use Rattle.world_parts.proofs.edits.RemovalLaws.{part_numbers}
+use Rattle.world_parts.proofs.touches.SceneLaws.{scrolls_plain}
 use Rattle.view_world.proofs.worlds.WorldLaws.{Changed-edit}
 use Rattle.view_world.specs.screen.Changed.{CarriesOut}
-use Rattle.view_world.specs.replying.Deliveries.{entries_text}
+use Rattle.world_replies.specs.Deliveries.{entries_text}
 use Rattle.view_world.specs.screen.KeyedScreen.{KeyedScreen, world_of}
-use Rattle.view_world.specs.replying.Responses.{IsReportable, deliveries_only, response_text}
-use Rattle.view_world.specs.world.Step.{Reply, Done, acted, after_edit, all_disarmed, removed, reported_before, without_hooks}
-use Rattle.view_world.specs.touching.Touching.{after_progress, all_closed, is_reported, leaving, parent_of, scene_in, scrolled_to, reported_away, unscrolled_tree, without_part}
-use Rattle.view_world.specs.world.World.{World}
+use Rattle.world_replies.specs.Responses.{IsReportable, deliveries_only, response_text}
+use Rattle.world_parts.specs.Reply.{Reply, Done}
+use Rattle.view_world.specs.world.Step.{acted, after_edit, removed, reported_before, without_hooks}
+use Rattle.world_parts.specs.Places.{all_disarmed}
+use Rattle.world_parts.specs.Touching.{after_progress, all_closed, is_reported, leaving, parent_of, scene_in, scrolled_to, reported_away, unscrolled_tree, without_part}
+use Rattle.world_parts.specs.World.{World}
 
 -- no view got anything yet
 abbrev start_of : KeyedScreen → List Entry → Progress

@@ -20,12 +20,12 @@ use Rattle.view_tree.proofs.forest.NumberLaws.{sum-pruned_at_key}
 use Rattle.kept_views.specs.Kept.{IsConsistent}
 use Rattle.view_tree.specs.Rows.{Row}
 use Rattle.view_tree.specs.Views.{IsLive, IsTree, Views, geometry_of, held_of, number_of, plain_of}
-use Rattle.view_world.proofs.touches.CaughtLaws.{times-plain}
-use Rattle.view_world.proofs.trees.PartCounts.{none_numbered, times-pruned}
-use Rattle.view_world.proofs.edits.RemovalLaws.{gesture_removed, part_numbers}
-use Rattle.view_world.proofs.trees.ShapeLaws.{times_in}
+use Rattle.world_parts.proofs.touches.CaughtLaws.{times-plain}
+use Rattle.world_parts.proofs.trees.PartCounts.{none_numbered, times-pruned}
+use Rattle.world_parts.proofs.edits.RemovalLaws.{gesture_removed, part_numbers}
+use Rattle.world_parts.proofs.trees.ShapeLaws.{times_in}
 use Rattle.view_world.specs.screen.Sound.{IsSound}
-use Rattle.view_world.specs.touching.Touching.{all_closed, is_among}
+use Rattle.world_parts.specs.Touching.{all_closed, is_among}
 use Rattle.view_world.specs.declared.screen.Screen.TheInside.{Inside}
 
 never : (b : Bool) → (b && not true) ≡ false

@@ -6,11 +6,11 @@ use Rattle.view_model.specs.Forest.{Forest, Nothing, Branch}
 use Rattle.view_model.specs.PlainTree.{PlainView}
 use Rattle.view_tree.specs.Views.{Views, number_of, plain_of}
 use Rattle.view_world.specs.frames.Asked.{asked_views, listed}
-use Rattle.view_world.specs.editing.Inflating.{place_in, place_named}
+use Rattle.world_parts.specs.Inflating.{place_in, place_named}
 use Rattle.view_world.specs.screen.KeyedScreen.{KeyedScreen}
-use Rattle.view_world.specs.editing.Naming.{named}
-use Rattle.view_world.specs.world.Step.{Done, Refused, Reply, on_view, with_named}
-use Rattle.view_world.specs.world.World.{World, empty_world}
+use Rattle.world_parts.specs.Naming.{named}
+use Rattle.world_parts.specs.Reply.{Done, Refused, Reply, on_view, with_named}
+use Rattle.world_parts.specs.World.{World, empty_world}
 
 -- a reply with a number
 abbrev numbered : ℕ → Reply

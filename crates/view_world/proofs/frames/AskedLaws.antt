@@ -29,15 +29,15 @@ use Rattle.view_tree.proofs.forest.PlainLaws.{agree_live, plain-change_facts}
 use Rattle.view_tree.specs.tree.Requests.{among}
 use Rattle.view_tree.specs.Rows.{Row, ancestors, around, changed_at_key, count_of_key, first_tree, part_from, views_of}
 use Rattle.view_tree.specs.Views.{Held, IsLive, IsTree, Views, held_of, number_of, plain_of, plain_rows, scrolled}
-use Rattle.view_world.proofs.trees.AncestorLaws.{ancestors_named, numbers_named}
-use Rattle.view_world.proofs.edits.RemovalLaws.{part_numbers}
+use Rattle.world_parts.proofs.trees.AncestorLaws.{ancestors_named, numbers_named}
+use Rattle.world_parts.proofs.edits.RemovalLaws.{part_numbers}
 use Rattle.view_world.proofs.edits.GrowingLaws.{addable_live}
 use Rattle.view_world.proofs.frames.RestLaws.{scrolls_cache, scrolls_state}
 use Rattle.view_world.specs.frames.Asked.{LeavesBut, asked_by_act, gone_by_act, is_excused, is_in_parts, is_on_paths, listed, numbers_asked, numbers_gone}
 use Rattle.view_world.specs.screen.KeyedScreen.{KeyedScreen}
 use Rattle.view_world.specs.frames.Resting.{KeepsBut}
 use Rattle.view_world.specs.declared.world.marks.Effect.TheVariants.{Asks}
-use Rattle.view_world.specs.touching.Touching.{ancestors_of, is_among, nearest, parent_of}
+use Rattle.world_parts.specs.Touching.{ancestors_of, is_among, nearest, parent_of}
 
 among_named : (named : ℕ → ℕ) (key : ℕ) (keys : List ℕ) → among key keys ≡ true → is_among (named key) (map named keys) ≡ true
 among_named named key [] there = absurd cc

@@ -41,18 +41,19 @@ use Rattle.view_tree.proofs.forest.PlainLaws.{plain-count}
 use Rattle.kept_views.specs.Kept.{IsConsistent}
 use Rattle.view_tree.specs.Rows.{Row, count_of_key, first_key, views_of}
 use Rattle.view_tree.specs.Views.{Held, IsLive, Views, cache_of, geometry_of, held_of, number_of, plain_of, plain_rows}
-use Rattle.view_world.proofs.trees.ShapeLaws.{children_alike, shape-map, shape_of}
+use Rattle.world_parts.proofs.trees.ShapeLaws.{children_alike, shape-map, shape_of}
 use Rattle.view_world.proofs.worlds.WorldLaws.{window-size}
 use Rattle.traversal.specs.Covering.{HasShifted, IsShifted}
 use Rattle.view_world.specs.frames.Counting.{RisesWithin, area_of, paint_bound}
 use Rattle.view_world.specs.screen.KeyedScreen.{KeyedScreen, geometry_in, picture_at, stage_of, window_in, window_of, world_of}
 use Rattle.view_model.specs.declared.work.Work.{Work}
-use Rattle.view_world.specs.replying.Replies.{framed_text}
+use Rattle.world_replies.specs.Replies.{framed_text}
 use Rattle.view_world.specs.frames.Resting.{FramePaints, IsFrameDone, IsShown, LaysOut}
 use Rattle.view_world.specs.screen.Sound.{IsSound}
-use Rattle.view_world.specs.world.Step.{Done, after_frame, frame_text, framed, picture_after, picture_in, stage_after, with_frame}
-use Rattle.view_world.specs.world.World as plain
-use Rattle.view_world.specs.world.World.{World}
+use Rattle.world_parts.specs.Reply.{Done}
+use Rattle.view_world.specs.world.Step.{after_frame, frame_text, framed, picture_after, picture_in, stage_after, with_frame}
+use Rattle.world_parts.specs.World as plain
+use Rattle.world_parts.specs.World.{World}
 use Rattle.view_world.specs.declared.screen.stage.Stage.{Stage}
 use Rattle.view_world.specs.declared.screen.stage.Stage.TheVariants.{Unsettled, Settled}
 use Rattle.seen_edits.specs.Differing.{differing}

@@ -21,16 +21,16 @@ use Rattle.view_tree.specs.Views.{Held, IsTree, Views, cache_of, geometry_of, sp
 use Rattle.view_tree.specs.declared.node.state.State.{State}
 use Rattle.view_world.proofs.edits.ArmedLaws.{armed_unfired}
 use Rattle.view_world.specs.screen.KeyedScreen.{KeyedScreen, geometry_in, window_of, world_of}
-use Rattle.view_world.specs.replying.Responses.{response_of}
+use Rattle.view_world.specs.screen.Changed.{response_of}
 use Rattle.view_world.specs.frames.Resting.{AreSeenIn, IsIdle, IsResting, KeepsBut}
 use Rattle.view_world.specs.frames.Seen.{black_picture, deliveries_of, scrolled_in}
 use Rattle.view_world.specs.world.Step.{size_in}
 use Rattle.view_world.specs.declared.world.marks.Effect.{Effect}
 use Rattle.view_world.specs.declared.world.marks.Effect.TheVariants.{Opens, Touches, Leaves}
-use Rattle.view_world.specs.declared.fault.StepFault.{StepFault}
-use Rattle.view_world.specs.declared.replying.response.Response.{Response}
+use Rattle.world_parts.specs.declared.fault.StepFault.{StepFault}
+use Rattle.world_replies.specs.declared.response.Response.{Response}
 use Rattle.view_world.specs.declared.screen.stage.Stage.{Stage}
-use Rattle.view_world.proofs.touches.SceneLaws.{scrolls_geometry}
+use Rattle.world_parts.proofs.touches.SceneLaws.{scrolls_geometry}
 
 -- a root with the same specs and the same state rests as before
 pub rest_along : (old new : Views) (window : Size) → first_key new.tree ≡ first_key old.tree → is_shown (head_view new.tree).facts ≡ is_shown (head_view old.tree).facts

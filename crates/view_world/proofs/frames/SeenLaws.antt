@@ -22,7 +22,7 @@ use Rattle.view_tree.specs.Views.{IsLive, IsTree, Views, geometry_of, number_of,
 use Rattle.view_world.specs.screen.KeyedScreen.{KeyedScreen}
 use Rattle.view_world.specs.frames.Resting.{AreSeenIn, seen_on}
 use Rattle.view_world.specs.frames.Seen.{scrolled_in}
-use Rattle.view_world.specs.touching.Touching.{is_among}
+use Rattle.world_parts.specs.Touching.{is_among}
 
 -- what is seen of a view, by its key and by its number
 pub seen_named : (screen : KeyedScreen) (key : ℕ) → IsTree screen.views → IsLive screen.views key → seen_on screen (number_of screen.views key) ≡ seen_of (size_of screen.surface) screen.views key

@@ -22,12 +22,12 @@ use Rattle.view_tree.proofs.forest.PlainLaws.{agree_live}
 use Rattle.view_tree.proofs.values.GeometryLaws.{rect_live}
 use Rattle.view_tree.specs.Rows.{Row, count_of_key}
 use Rattle.view_tree.specs.Views.{Held, IsLive, IsTree, held_of, number_of, offset_of, plain_of, plain_rows, state_of}
-use Rattle.view_world.proofs.touches.SceneLaws.{offsets_plain}
+use Rattle.world_parts.proofs.touches.SceneLaws.{offsets_plain}
 use Rattle.view_world.proofs.frames.SeenLaws.{among_first, among_later, among_left, among_right, seen_named}
 use Rattle.view_world.specs.screen.KeyedScreen.{KeyedScreen, geometry_in, world_of}
 use Rattle.view_world.specs.frames.Resting.{MovedIn, seen_on}
 use Rattle.view_world.specs.frames.Seen.{has_moved, place_differs, same_rect}
-use Rattle.view_world.specs.touching.Touching.{is_among, offsets_in}
+use Rattle.world_parts.specs.Touching.{is_among, offsets_in}
 use Rattle.view_world.specs.declared.screen.stage.Stage.{Stage}
 use Rattle.view_world.specs.declared.screen.stage.Stage.TheVariants.{Settled}
 

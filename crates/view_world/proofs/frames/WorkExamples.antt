@@ -16,10 +16,11 @@ use Rattle.view_model.specs.declared.changes.Change.TheVariants as change
 use Rattle.view_model.specs.declared.kinds.Class.TheVariants as class
 use Rattle.view_model.specs.Growth.{growth_refusal}
 use Rattle.view_model.specs.Visible.{no_rect}
-use Rattle.view_world.specs.world.Step.{Reply, Done, Refused, step}
+use Rattle.world_parts.specs.Reply.{Reply, Done, Refused}
+use Rattle.view_world.specs.world.Step.{step}
 use Rattle.view_world.specs.world.Marks.{no_marks}
 use Rattle.view_world.specs.frames.Watched.{LineCosts, Watched, costs_of, no_costs, painted_least, painted_most, watched_after}
-use Rattle.view_world.specs.world.World.{empty_world}
+use Rattle.world_parts.specs.World.{empty_world}
 
 unfoldable pub watched_reply : Watched → PlainCommand → Reply → Watched
 watched_reply watched line (Done world text) = watched_after watched line world

@@ -33,13 +33,15 @@ use Rattle.view_world.specs.screen.KeyedScreen.{KeyedScreen, picture_at, stage_o
 use Rattle.view_world.specs.world.KeyedWorld.{KeyedWorld}
 use Rattle.view_world.specs.world.Marks.{effect_by, effect_of, effect_of_act, has_settled, marked, marks_after, measure_bound}
 use Rattle.view_world.specs.frames.Resting.{AreSeenIn, CountsMeasures, FramePaints, IsFrameDone, KeepsLine, MovedIn, seen_on}
-use Rattle.view_world.specs.frames.Seen.{act_paints, box_around, changed_views, has_any_scrolled, line_box, line_deliveries, moved_views, seen}
-use Rattle.view_world.specs.world.Step.{Reply, Done, after_frame, framed, picture_after, stage_after}
-use Rattle.view_world.specs.touching.Touching.{is_among}
+use Rattle.view_world.specs.frames.Seen.{act_paints, box_around, changed_views, line_box, line_deliveries, moved_views, seen}
+use Rattle.world_parts.specs.Touching.{has_any_scrolled}
+use Rattle.world_parts.specs.Reply.{Reply, Done}
+use Rattle.view_world.specs.world.Step.{after_frame, framed, picture_after, stage_after}
+use Rattle.world_parts.specs.Touching.{is_among}
 use Rattle.view_world.specs.frames.Watched.{LineCosts, HasBox, IsWatched, IsWorth, Watched, box_after, costs_of, costs_of_frame, frame_box, layers, max_count, no_costs, painted_least, painted_most, points_most, shown_after, watched_after, watched_in}
-use Rattle.view_world.specs.world.World.{World}
-use Rattle.view_world.specs.declared.fault.StepFault.{StepFault}
-use Rattle.view_world.specs.declared.fault.StepFault.TheVariants as fault
+use Rattle.world_parts.specs.World.{World}
+use Rattle.world_parts.specs.declared.fault.StepFault.{StepFault}
+use Rattle.world_parts.specs.declared.fault.StepFault.TheVariants as fault
 use Rattle.view_world.specs.declared.world.marks.Effect.{Effect}
 use Rattle.view_world.specs.declared.world.marks.Effect.TheVariants.{Opens, Lays, Asks, Repaints, Touches, Leaves}
 use Rattle.view_world.specs.declared.world.marks.Marks.{Marks}

@@ -50,8 +50,9 @@ use Rattle.view_model.specs.declared.facets.Facet.TheVariants as facet
 use Rattle.view_tree.proofs.forest.ForestLaws.{every-edited, every-joined}
 use Rattle.view_tree.specs.Rows.{Row}
 use Rattle.view_tree.specs.Views.{Held, Views, held_of, number_of, plain_of, plain_rows}
-use Rattle.view_world.proofs.trees.DirectedLaws.{every-directed}
-use Rattle.view_world.specs.saving.Offsets.{AreUnscrolled, EditsWithin, FacetWithin, ScrollsWithin}
+use Rattle.world_parts.proofs.trees.DirectedLaws.{every-directed}
+use Rattle.world_parts.specs.Inflating.{AreUnscrolled}
+use Rattle.view_world.specs.saving.Offsets.{EditsWithin, FacetWithin, ScrollsWithin}
 
 -- a view with another offset
 

@@ -25,9 +25,9 @@ use Rattle.view_world.proofs.frames.AskedLaws.{AllLive, every_live, live_append,
 use Rattle.view_world.proofs.frames.SeenLaws.{among_key, or_right, seen_named}
 use Rattle.view_world.specs.frames.Asked.{given_numbers, is_on_paths, restored_numbers}
 use Rattle.view_world.specs.screen.KeyedScreen.{KeyedScreen, world_of}
-use Rattle.view_world.specs.replying.Replies.{state_bytes}
+use Rattle.world_replies.specs.Replies.{state_bytes}
 use Rattle.view_world.specs.frames.Resting.{AreSeenIn, KeepsBut, seen_on}
-use Rattle.view_world.specs.touching.Touching.{is_among}
+use Rattle.world_parts.specs.Touching.{is_among}
 use Rattle.view_world.specs.declared.world.marks.Effect.TheVariants.{Asks}
 
 -- a row is what its key leads to

@@ -12,14 +12,15 @@ use Rattle.view_tree.specs.Rows.{Row, first_key}
 use Rattle.view_tree.specs.Views.{Held, Views, geometry_of, held_of, plain_of, plain_rows}
 use Rattle.view_world.specs.screen.Changed.{CarriesOut}
 use Rattle.view_world.specs.screen.KeyedScreen.{KeyedScreen, geometry_in, world_of}
-use Rattle.view_world.specs.replying.Replies.{state_bytes, state_text}
+use Rattle.world_replies.specs.Replies.{state_bytes, state_text}
 use Rattle.view_world.specs.saving.Stated.{TakesUp}
-use Rattle.view_world.specs.world.Step.{Done, Refused, Reply, saved, taken_up, with_values, with_state}
-use Rattle.view_world.specs.world.World.{World}
-use Rattle.view_world.specs.declared.fault.StepFault.{StepFault}
-use Rattle.view_world.specs.declared.fault.StepFault.TheVariants as fault
-use Rattle.view_world.specs.declared.replying.response.Response.{Response}
-use Rattle.view_world.specs.declared.replying.response.Response.TheVariants as response
+use Rattle.world_parts.specs.Reply.{Done, Refused, Reply}
+use Rattle.view_world.specs.world.Step.{saved, taken_up, with_values, with_state}
+use Rattle.world_parts.specs.World.{World}
+use Rattle.world_parts.specs.declared.fault.StepFault.{StepFault}
+use Rattle.world_parts.specs.declared.fault.StepFault.TheVariants as fault
+use Rattle.world_replies.specs.declared.response.Response.{Response}
+use Rattle.world_replies.specs.declared.response.Response.TheVariants as response
 use Rattle.view_world.proofs.worlds.WorldLaws.{geometry_in-same}
 
 -- the state of a tree that has a root

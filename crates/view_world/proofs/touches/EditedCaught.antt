@@ -20,7 +20,7 @@ use Rattle.view_tree.specs.Views.{Views}
 use Rattle.view_tree.proofs.forest.KeyLaws.{absent, or_else_live, zero_or_more}
 use Rattle.view_tree.proofs.forest.NumberLaws.{count-put, count_of_key-put, sum-put}
 use Rattle.view_world.specs.screen.Changed.{LeavesViews}
-use Rattle.view_world.proofs.trees.ShapeLaws.{children_alike, shape_of}
+use Rattle.world_parts.proofs.trees.ShapeLaws.{children_alike, shape_of}
 
 -- a change of a view that keeps its number
 abbrev pub KeepsNumber : (PlainView → PlainView) → Type 0

@@ -19,19 +19,20 @@ use Rattle.view_model.specs.PlainTree.{PlainView}
 use Rattle.view_tree.specs.Rows.{views_of}
 use Rattle.view_tree.specs.Views.{IsTree, Views, geometry_of, plain_of}
 use Rattle.view_world.specs.screen.Changed.{CarriesOut}
-use Rattle.view_world.specs.replying.Deliveries.{done_text, entries_text}
+use Rattle.world_replies.specs.Deliveries.{done_text, entries_text}
 use Rattle.view_world.specs.screen.KeyedScreen.{KeyedScreen, geometry_in, world_of}
-use Rattle.view_world.specs.touching.Pointers.{AreDown}
+use Rattle.world_parts.specs.Pointers.{AreDown}
 use Rattle.view_world.specs.frames.Seen.{deliveries_of}
 use Rattle.view_world.specs.screen.Sound.{IsSound}
-use Rattle.view_world.specs.world.Step.{Reply, Done, after_event}
-use Rattle.view_world.specs.touching.Touching.{after_progress, progress_in, reached_in, scene_in, slop_at, unscrolled_tree}
-use Rattle.view_world.specs.world.World.{World}
-use Rattle.view_world.specs.declared.replying.response.Response.TheVariants as response
+use Rattle.world_parts.specs.Reply.{Reply, Done}
+use Rattle.view_world.specs.world.Step.{after_event}
+use Rattle.world_parts.specs.Touching.{after_progress, progress_in, reached_in, scene_in, slop_at, unscrolled_tree}
+use Rattle.world_parts.specs.World.{World}
+use Rattle.world_replies.specs.declared.response.Response.TheVariants as response
 use Rattle.view_world.specs.declared.screen.stage.Stage.{Stage}
 use Rattle.view_world.specs.declared.screen.stage.Stage.TheVariants.{NoWindow, NoFrame, Unsettled, Settled}
 use Rattle.view_world.specs.declared.screen.Screen.TheInside.{Inside}
-use Rattle.view_world.proofs.touches.SceneLaws.{offsets_plain, scene_plain, scrolls_count, scrolls_geometry, scrolls_plain, views_plain}
+use Rattle.world_parts.proofs.touches.SceneLaws.{offsets_plain, scene_plain, scrolls_count, scrolls_geometry, scrolls_plain, views_plain}
 
 -- the bounds of the views of a settled world, for dispatch
 scene_settled : (world : KeyedScreen) (slop : ℤ) → IsTree world.views → world.stage ≡ Settled → slop ≡ slop_at world.dpi → scene_in (world_of world) ≡ scene_of world.views slop

@@ -12,9 +12,9 @@ use Rattle.view_model.specs.Forest.{Forest, Nothing, Branch, count_of}
 use Rattle.view_tree.specs.Rows.{Row, count_of_key, count_of_number, views_of}
 use Rattle.view_tree.specs.Views.{Views}
 use Rattle.view_world.proofs.touches.EditedCaught.{Stays, same_stays}
-use Rattle.view_world.proofs.trees.ShapeLaws.{children_alike, shape_of}
-use Rattle.view_world.specs.declared.fault.StepFault.{StepFault}
-use Rattle.view_world.specs.declared.replying.response.Response.{Response}
+use Rattle.world_parts.proofs.trees.ShapeLaws.{children_alike, shape_of}
+use Rattle.world_parts.specs.declared.fault.StepFault.{StepFault}
+use Rattle.world_replies.specs.declared.response.Response.{Response}
 
 shape-restated : (entries : List StateEntry) (tree : Forest Row) → shape_of (views_of (restated entries tree)) ≡ shape_of (views_of tree)
 shape-restated entries Nothing = refl

@@ -16,15 +16,16 @@ use Rattle.view_model.specs.Refusals.{refusal_numbered}
 use Rattle.view_model.specs.Numbers.{wrong_class}
 use Rattle.view_tree.specs.Rows.{Row}
 use Rattle.view_tree.specs.Views.{plain_of}
-use Rattle.view_world.specs.world.World.{World}
+use Rattle.world_parts.specs.World.{World}
 use Rattle.view_world.specs.screen.Changed.{CarriesOut}
 use Rattle.view_world.specs.screen.KeyedScreen.{KeyedScreen, world_of}
-use Rattle.view_world.specs.touching.Pointers.{down_action, event_of, is_pressed, up_action, with_point, without_point}
-use Rattle.view_world.specs.screen.Sound.{HasNoneElse}
-use Rattle.view_world.specs.world.Step.{Reply, Done, Refused, after_event, disallow_reported, lifted, moved, put_down, taken_away, touched}
-use Rattle.view_world.specs.touching.Touching.{all_disallowed, ancestors_of}
-use Rattle.view_world.specs.declared.replying.response.Response.{Response}
-use Rattle.view_world.specs.declared.replying.response.Response.TheVariants as response
+use Rattle.world_parts.specs.Pointers.{down_action, event_of, is_pressed, up_action, with_point, without_point}
+use Rattle.world_parts.specs.Places.{HasNoneElse}
+use Rattle.world_parts.specs.Reply.{Reply, Done, Refused}
+use Rattle.view_world.specs.world.Step.{after_event, disallow_reported, lifted, moved, put_down, taken_away, touched}
+use Rattle.world_parts.specs.Touching.{all_disallowed, ancestors_of}
+use Rattle.world_replies.specs.declared.response.Response.{Response}
+use Rattle.world_replies.specs.declared.response.Response.TheVariants as response
 use Rattle.view_world.proofs.worlds.WorldLaws.{Changed-as}
 
 -- whatever is done with a touch is the reply

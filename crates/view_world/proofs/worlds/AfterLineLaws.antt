@@ -10,17 +10,19 @@ use Rattle.view_model.specs.Forest.{Forest}
 use Rattle.view_model.specs.PlainTree.{PlainView}
 use Rattle.view_tree.specs.Views.{Views}
 use Rattle.view_world.proofs.edits.FileLaws.{asks_none}
-use Rattle.view_world.specs.declared.fault.StepFault.{StepFault}
-use Rattle.view_world.specs.declared.fault.StepFault.TheVariants as fault
-use Rattle.view_world.specs.declared.replying.response.Response.{Response}
+use Rattle.world_parts.specs.declared.fault.StepFault.{StepFault}
+use Rattle.world_parts.specs.declared.fault.StepFault.TheVariants as fault
+use Rattle.world_replies.specs.declared.response.Response.{Response}
 use Rattle.view_world.specs.world.AfterLine.{IsAsBefore, Reports}
-use Rattle.view_world.specs.world.Carried.{AsksShelf, CountsShelf, IsDone, WritesReply, fetches_after, layout_fetch}
-use Rattle.view_world.specs.screen.Changed.{CarriesOut, Gives, IsPlace}
-use Rattle.view_world.specs.editing.Inflating.{asked_at, asked_for, place_in}
+use Rattle.world_parts.specs.Shelves.{AsksShelf, CountsShelf, fetches_after, layout_fetch}
+use Rattle.view_world.specs.world.Carried.{IsDone, WritesReply}
+use Rattle.view_world.specs.screen.Changed.{CarriesOut}
+use Rattle.world_parts.specs.Given.{Gives, IsPlace}
+use Rattle.world_parts.specs.Inflating.{asked_at, asked_for, place_in}
 use Rattle.view_world.specs.screen.KeyedScreen.{KeyedScreen, world_of}
 use Rattle.view_world.specs.world.KeyedWorld.{KeyedWorld}
-use Rattle.view_world.specs.replying.Responses.{IsReportable, response_text}
-use Rattle.view_world.specs.world.Step.{Reply, Done}
+use Rattle.world_replies.specs.Responses.{IsReportable, response_text}
+use Rattle.world_parts.specs.Reply.{Reply, Done}
 use Rattle.view_world.specs.frames.Watched.{HasBox, IsWatched, watched_in}
 
 -- the same world has each part as it was

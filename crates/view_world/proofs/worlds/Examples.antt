@@ -12,8 +12,9 @@ use Rattle.view_model.specs.declared.kinds.Class.TheVariants as class
 use Rattle.view_model.specs.declared.kinds.Visibility.TheVariants.{Visible, Gone}
 use Rattle.view_model.specs.Growth.{growth_refusal}
 use Rattle.view_model.specs.Refusals.{PlainRefusal, refusal_numbered}
-use Rattle.view_world.specs.world.World.{World, empty_world}
-use Rattle.view_world.specs.world.Step.{Reply, Done, Refused, step}
+use Rattle.world_parts.specs.World.{World, empty_world}
+use Rattle.world_parts.specs.Reply.{Reply, Done, Refused}
+use Rattle.view_world.specs.world.Step.{step}
 
 -- a refused line leaves the world as it was
 unfoldable pub world_after : World → Reply → World

@@ -6,7 +6,7 @@ use Rattle.script_lines.specs.declared.words.naming.Name.TheVariants.{Number}
 use Rattle.view_model.specs.declared.changes.Act.TheVariants as act
 use Rattle.view_model.specs.declared.changes.Change.TheVariants as change
 use Rattle.view_world.specs.world.Marks.{marks_after, measure_bound, no_marks}
-use Rattle.view_world.specs.world.World.{Settled, Unsettled, World, empty_world}
+use Rattle.world_parts.specs.World.{Settled, Unsettled, World, empty_world}
 use Rattle.view_world.specs.declared.world.marks.Marks.{Marks}
 
 abbrev settled_world : World

@@ -21,11 +21,12 @@ use Rattle.view_world.specs.world.Marks.{effect_by, effect_of, has_settled, leav
 use Rattle.view_world.proofs.frames.EditRest.{neither}
 use Rattle.view_world.proofs.frames.FrameLaws.{empty_in}
 use Rattle.view_world.proofs.frames.SeenLaws.{among_none}
-use Rattle.view_world.specs.editing.Naming.{named}
+use Rattle.world_parts.specs.Naming.{named}
 use Rattle.view_world.specs.frames.Resting.{IsFrameDone, IsResting, IsShown, KeepsLine}
-use Rattle.view_world.specs.frames.Seen.{act_paints, changed_views, edited_by_act, has_any_scrolled, line_deliveries, scrolled_in}
-use Rattle.view_world.specs.world.World.{World}
-use Rattle.view_world.specs.declared.fault.StepFault.{StepFault}
+use Rattle.view_world.specs.frames.Seen.{act_paints, changed_views, edited_by_act, line_deliveries, scrolled_in}
+use Rattle.world_parts.specs.Touching.{has_any_scrolled}
+use Rattle.world_parts.specs.World.{World}
+use Rattle.world_parts.specs.declared.fault.StepFault.{StepFault}
 use Rattle.view_world.specs.declared.world.marks.Effect.{Effect}
 use Rattle.view_world.specs.declared.world.marks.Effect.TheVariants.{Opens, Lays, Asks, Repaints, Touches, Leaves}
 use Rattle.view_world.specs.declared.world.marks.Marks.{Marks}

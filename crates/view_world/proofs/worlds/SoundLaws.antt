@@ -20,12 +20,12 @@ use Rattle.kept_views.specs.Kept.{IsConsistent}
 use Rattle.view_tree.specs.Rows.{Row}
 use Rattle.view_tree.specs.Views.{Views, geometry_of, plain_of}
 use Rattle.view_world.specs.screen.Changed.{LeavesViews}
-use Rattle.view_world.specs.editing.Places.{hooks_in}
+use Rattle.world_parts.specs.Places.{hooks_in}
 use Rattle.view_world.specs.screen.KeyedScreen.{KeyedScreen}
 use Rattle.view_world.specs.screen.Sound.{IsSound, keyed}
 use Rattle.view_world.specs.declared.screen.Screen.TheInside.{Inside}
-use Rattle.view_world.specs.declared.fault.StepFault.{StepFault}
-use Rattle.view_world.specs.declared.replying.response.Response.{Response}
+use Rattle.world_parts.specs.declared.fault.StepFault.{StepFault}
+use Rattle.world_replies.specs.declared.response.Response.{Response}
 use Rattle.view_world.proofs.touches.EditedCaught.{Stays, edit_stays, same_stays}
 use Rattle.view_world.proofs.touches.GestureAfterReports.{restored_stays}
 

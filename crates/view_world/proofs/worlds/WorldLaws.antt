@@ -22,19 +22,23 @@ use Rattle.view_model.specs.Growth.{refusal_at}
 use Rattle.view_model.specs.PlainTree.{PlainView, view_in, with_text}
 use Rattle.view_model.specs.Refusals.{PlainRefusal, refusal_numbered, plain_refusal}
 use Rattle.view_model.specs.Numbers.{no_view, wrong_class}
-use Rattle.view_world.specs.world.World as plain
-use Rattle.view_world.specs.world.World.{World}
+use Rattle.world_parts.specs.World as plain
+use Rattle.world_parts.specs.World.{World}
 use Rattle.view_tree.specs.Rows.{Row, first_key}
 use Rattle.view_tree.specs.Views.{Held, Views, geometry_of, held_of, number_of, plain_of, plain_rows, view_at}
 use Rattle.view_world.specs.screen.Changed.{CarriesOut}
-use Rattle.view_world.specs.replying.Responses.{IsPartOf, made, part_of, response_of, response_text}
-use Rattle.view_world.specs.editing.Naming.{named}
-use Rattle.view_world.specs.world.Step.{Reply, Done, Refused, acted, after_edit, after_outcome, bounds_asked, bounds_in, bounds_of, bounds_reported, on_view, lies_in, picture_asked, pixels_reported, with_named, with_window}
+use Rattle.world_replies.specs.Responses.{IsPartOf, part_of, response_text}
+use Rattle.view_world.specs.screen.Changed.{made, response_of}
+use Rattle.world_parts.specs.Naming.{named}
+use Rattle.world_parts.specs.Reply.{Reply, Done, Refused, on_view, with_named}
+use Rattle.view_world.specs.world.Step.{acted, after_edit, after_outcome, bounds_asked, bounds_in, bounds_reported, picture_asked, pixels_reported, with_window}
+use Rattle.world_replies.specs.Bounds.{bounds_of}
+use Rattle.world_replies.specs.Responses.{lies_in}
 use Rattle.view_world.specs.screen.KeyedScreen.{KeyedScreen, geometry_in, stage_of, window_in, window_of, world_of}
-use Rattle.view_world.specs.declared.replying.pixels.Part.{Part}
-use Rattle.view_world.specs.declared.replying.response.Response.{Response}
-use Rattle.view_world.specs.declared.replying.response.Response.TheVariants as response
-use Rattle.view_world.specs.declared.fault.StepFault.{StepFault}
+use Rattle.world_replies.specs.declared.pixels.Part.{Part}
+use Rattle.world_replies.specs.declared.response.Response.{Response}
+use Rattle.world_replies.specs.declared.response.Response.TheVariants as response
+use Rattle.world_parts.specs.declared.fault.StepFault.{StepFault}
 use Rattle.view_world.specs.declared.screen.stage.Stage.{Stage}
 use Rattle.view_world.specs.declared.screen.stage.Stage.TheVariants.{NoWindow, NoFrame, Unsettled, Settled}
 

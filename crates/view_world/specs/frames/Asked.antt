@@ -16,10 +16,10 @@ use Rattle.view_model.specs.Directed.{turned}
 use Rattle.view_model.specs.Forest.{Forest, rows}
 use Rattle.view_model.specs.PlainTree.{PlainView, numbers_of, part_of, with_facts}
 use Rattle.view_tree.specs.Views.{IsLive, Views, cache_of, number_of, plain_of, state_of}
-use Rattle.view_world.specs.editing.Naming.{named}
-use Rattle.view_world.specs.replying.Replies.{state_bytes}
-use Rattle.view_world.specs.touching.Touching.{ancestors_of, is_among, parent_of}
-use Rattle.view_world.specs.world.World.{World}
+use Rattle.world_parts.specs.Naming.{named}
+use Rattle.world_replies.specs.Replies.{state_bytes}
+use Rattle.world_parts.specs.Touching.{ancestors_of, is_among, parent_of}
+use Rattle.world_parts.specs.World.{World}
 
 -- a view, if there is one
 abbrev pub listed : Option ℕ → List ℕ

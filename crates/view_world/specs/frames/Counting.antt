@@ -5,7 +5,7 @@ use Rattle.size_hooks.specs.Hook.{Hook}
 use Rattle.traversal.specs.Frames.{frame_calls as calls_of_frame}
 use Rattle.view_model.specs.Forest.{Forest, count_of}
 use Rattle.view_model.specs.PlainTree.{PlainView}
-use Rattle.view_world.specs.world.World.{World}
+use Rattle.world_parts.specs.World.{World}
 
 -- those that a frame of a tree and its hooks takes in the window, if there is one
 abbrev pub calls_in : Option Size → Forest PlainView → List Hook → ℕ

@@ -24,7 +24,7 @@ use Rattle.view_world.specs.frames.Counting.{FillsAlike, frame_calls}
 use Rattle.view_world.specs.screen.KeyedScreen.{KeyedScreen, window_of, world_of}
 use Rattle.view_world.specs.world.Marks.{effect_of, effect_of_edit, leaves_layout}
 use Rattle.view_world.specs.frames.Seen.{black_picture, changed_views, moved_views, numbers_edited, scrolled_in}
-use Rattle.view_world.specs.touching.Touching.{is_among}
+use Rattle.world_parts.specs.Touching.{is_among}
 use Rattle.view_world.specs.declared.world.marks.Effect.{Effect}
 use Rattle.view_world.specs.declared.world.marks.Effect.TheVariants.{Opens, Touches}
 use Rattle.view_world.specs.declared.screen.stage.Stage.TheVariants.{Settled}

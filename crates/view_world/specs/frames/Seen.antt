@@ -1,7 +1,6 @@
 -- Which views a line changes, so that they may be seen otherwise after it, and where they are seen.
 use Rattle.std.specs.Prelude.{ℕ, Bool, true, false, ◌||◌, ◌&&◌, not, if◌then◌else◌, List, [], ◌∷◌, ◌++◌, filter, Option}
 use Rattle.std.specs.Prelude.{Some, None}
-use Rattle.std.specs.List.{list_any}
 use Rattle.std.specs.Ordering.{int_eq}
 use Rattle.geom_core.specs.Rects.{hull_of}
 use Rattle.geom_core.specs.declared.color.Argb.{Argb}
@@ -25,10 +24,10 @@ use Rattle.view_model.specs.PlainTree.{numbers_of}
 use Rattle.view_model.specs.Visible.{no_rect, visible_rect}
 use Rattle.view_tree.specs.Views.{Views, number_of}
 use Rattle.view_world.specs.frames.Asked.{listed, restored_numbers}
-use Rattle.view_world.specs.editing.Naming.{named}
-use Rattle.view_world.specs.touching.Pointers.{down_action, event_of, up_action, with_point, without_point}
-use Rattle.view_world.specs.touching.Touching.{offsets_in, reached_in}
-use Rattle.view_world.specs.world.World.{World}
+use Rattle.world_parts.specs.Naming.{named}
+use Rattle.world_parts.specs.Pointers.{down_action, event_of, up_action, with_point, without_point}
+use Rattle.world_parts.specs.Touching.{offsets_in, reached_in}
+use Rattle.world_parts.specs.World.{World}
 
 -- whether an act is painted, and layout does not read it: a colour, or whether children are clipped
 abbrev pub act_paints : Act → Bool
@@ -74,10 +73,6 @@ line_deliveries world line = []
 abbrev pub scrolled_in : List Entry → List ℕ
 scrolled_in [] = []
 scrolled_in (entry ∷ entries) = if is_scroll entry.kind then entry.view ∷ scrolled_in entries else scrolled_in entries
-
--- whether any view has
-abbrev pub has_any_scrolled : List Entry → Bool
-has_any_scrolled entries = list_any (λ (entry : Entry). is_scroll entry.kind) entries
 
 -- the numbers of the views that a line edits, removes or scrolls
 abbrev pub changed_views : World → PlainCommand → List ℕ

@@ -19,7 +19,7 @@ use Rattle.view_world.specs.world.KeyedWorld.{KeyedWorld, world_of}
 use Rattle.view_world.specs.world.Marks.{has_settled, marks_after, measure_bound}
 use Rattle.view_world.specs.frames.Seen.{black_picture, line_box}
 use Rattle.view_world.specs.world.Step.{picture_after, with_frame}
-use Rattle.view_world.specs.world.World.{World}
+use Rattle.world_parts.specs.World.{World}
 use Rattle.view_world.specs.declared.world.marks.Marks.{Marks}
 
 -- a world, what is known of its next frame, and the picture that is shown

@@ -2,7 +2,7 @@
 use Rattle.std.specs.Prelude.{◌≡◌, ◌≢◌, ◌⊎◌, Result}
 use Rattle.script_lines.specs.commands.PlainCommands.{PlainCommand, Frame}
 use Rattle.view_model.specs.declared.work.Work.{Work}
-use Rattle.view_world.specs.declared.fault.StepFault.{StepFault}
+use Rattle.world_parts.specs.declared.fault.StepFault.{StepFault}
 use Rattle.view_world.specs.frames.Counting.{RisesWithin, paint_bound}
 use Rattle.view_world.specs.frames.Resting.{IsFrameDone, IsShown, KeepsLine}
 use Rattle.view_world.specs.screen.KeyedScreen.{KeyedScreen, world_of}

@@ -1,10 +1,8 @@
 -- When offsets of scroll views stay within their limits.
-use Rattle.std.specs.Prelude.{◌≡◌, pos, ◌≤ℤ◌}
+use Rattle.std.specs.Prelude.{pos, ◌≤ℤ◌}
 use Rattle.tree_edits.specs.declared.edits.Edit.{Edit}
 use Rattle.tree_edits.specs.declared.edits.Edit.TheVariants as edit
 use Rattle.view_model.specs.Facets.{facet_of}
-use Rattle.view_model.specs.Forest.{Forest, EveryRow}
-use Rattle.view_model.specs.Sprouts.{Seed}
 use Rattle.view_model.specs.declared.changes.Act.{Act}
 use Rattle.view_model.specs.declared.facets.Facet.{Facet}
 use Rattle.view_model.specs.declared.facets.Facet.TheVariants as facet
@@ -28,7 +26,3 @@ EditsWithin (edit.Add parent class width height) = Unit {0}
 EditsWithin (edit.Remove view) = Unit {0}
 EditsWithin (edit.Act view act) = ScrollsWithin act
 EditsWithin (edit.Text view text) = Unit {0}
-
--- no view of these is scrolled
-abbrev pub AreUnscrolled : Forest Seed → Type 0
-AreUnscrolled seeds = EveryRow (λ (seed : Seed). seed.facts.offset ≡ pos 0) seeds

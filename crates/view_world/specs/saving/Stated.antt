@@ -3,10 +3,10 @@ use Rattle.std.specs.Prelude.{◌≡◌, ℕ, Bool, true, false, List, Result, O
 use Rattle.saved_state.specs.State.{StateEntry}
 use Rattle.view_model.specs.Refusals.{AtPlace, plain_refusal, refusal_numbered}
 use Rattle.view_model.specs.Numbers.{bad_state, state_class}
-use Rattle.view_world.specs.declared.fault.StepFault.{StepFault}
-use Rattle.view_world.specs.declared.fault.StepFault.TheVariants as fault
-use Rattle.view_world.specs.declared.replying.response.Response.{Response}
-use Rattle.view_world.specs.declared.replying.response.Response.TheVariants as response
+use Rattle.world_parts.specs.declared.fault.StepFault.{StepFault}
+use Rattle.world_parts.specs.declared.fault.StepFault.TheVariants as fault
+use Rattle.world_replies.specs.declared.response.Response.{Response}
+use Rattle.world_replies.specs.declared.response.Response.TheVariants as response
 
 -- the state was read that is defined, or its first wrong place is reported
 abbrev pub ReadsState : Result (List StateEntry) ℕ → Result (List StateEntry) StepFault → Type 0

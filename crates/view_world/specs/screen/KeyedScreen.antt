@@ -20,7 +20,7 @@ use Rattle.touch_event.specs.declared.event.Point.{Point}
 use Rattle.view_model.specs.Geometry.{Laid}
 use Rattle.view_model.specs.Resources.{Entries}
 use Rattle.view_model.specs.Visible.{no_rect}
-use Rattle.view_world.specs.world.World as plain
+use Rattle.world_parts.specs.World as plain
 use Rattle.view_model.specs.Numbers.{normal_dpi}
 use Rattle.res_values.specs.contracts.resources.Resources.{the_row as resources_row}
 use Rattle.view_tree.specs.Codes.{views_code}

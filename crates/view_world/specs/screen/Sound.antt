@@ -1,17 +1,15 @@
 -- What a screen keeps between lines.
-use Rattle.std.specs.Prelude.{◌≡◌, ◌≤◌, ◌*◌, ℕ, None, false}
-use Rattle.touch_dispatch.specs.gesture.Kept.{Kept, is_open}
+use Rattle.std.specs.Prelude.{◌≡◌, ◌≤◌, ◌*◌, None}
 use Rattle.touch_dispatch.specs.reaching.TreeEvents.{IsGestureIn, room_of}
-use Rattle.view_model.specs.Forest.{Forest, Nothing, count_of}
+use Rattle.view_model.specs.Forest.{Nothing, count_of}
 use Rattle.kept_views.specs.Kept.{IsConsistent}
 use Rattle.saved_state.specs.Saving.{OffsetsFit}
 use Rattle.seen_edits.specs.Shown.{Shows}
 use Rattle.traversal.specs.Changing.{FitAll}
-use Rattle.view_tree.specs.Rows.{Row, count_of_number}
 use Rattle.view_tree.specs.Views.{geometry_of, plain_of}
-use Rattle.view_world.specs.editing.Places.{hooks_in}
+use Rattle.world_parts.specs.Places.{HasNoneElse, hooks_in}
 use Rattle.view_world.specs.screen.KeyedScreen.{KeyedScreen}
-use Rattle.view_world.specs.touching.Pointers.{AreDown}
+use Rattle.world_parts.specs.Pointers.{AreDown}
 use Rattle.view_world.specs.declared.screen.Screen.TheInside.{Inside}
 
 -- what contracts see of a screen
@@ -30,10 +28,6 @@ keyed inside = record {
   kept = inside.states;
   saved = inside.saved.items;
 }
-
--- a number that no view of a tree has has no place
-abbrev pub HasNoneElse : Forest Row → Kept → Type 0
-HasNoneElse tree kept = (number : ℕ) → count_of_number number tree ≡ 0 → is_open kept number ≡ false
 
 pub record IsSound (inside : Inside) : Type 0 where
   pub consistent : IsConsistent inside.tree

@@ -2,13 +2,13 @@
 use Rattle.std.specs.Prelude.{◌≡◌, Result}
 use Rattle.geom_core.specs.declared.geometry.Rect.{Rect}
 use Rattle.tool_io.specs.SinkState.{SinkState}
-use Rattle.view_world.specs.declared.fault.StepFault.{StepFault}
-use Rattle.view_world.specs.declared.replying.response.Response.{Response}
+use Rattle.world_parts.specs.declared.fault.StepFault.{StepFault}
+use Rattle.world_replies.specs.declared.response.Response.{Response}
 use Rattle.view_world.specs.world.Carried.{WritesReply}
 use Rattle.view_world.specs.screen.KeyedScreen.{KeyedScreen, world_of}
 use Rattle.view_world.specs.world.KeyedWorld.{KeyedWorld}
-use Rattle.view_world.specs.replying.Responses.{IsReportable, response_text}
-use Rattle.view_world.specs.world.Step.{Done}
+use Rattle.world_replies.specs.Responses.{IsReportable, response_text}
+use Rattle.world_parts.specs.Reply.{Done}
 use Rattle.view_world.specs.frames.Watched.{HasBox, IsWatched, watched_in}
 
 -- Each part of a world is as it was. The tree is with all that layout has left with its views; `shown` is the picture,

@@ -1,20 +1,17 @@
 -- How a command was carried out.
-use Rattle.std.specs.Prelude.{◌≡◌, ◌≢◌, ◌≤◌, ◌⊎◌, true, ℕ, List, Option, Some, None, Result, Ok, Err}
+use Rattle.std.specs.Prelude.{◌≡◌, true, ℕ, List, Result, Ok, Err}
 use Rattle.std.specs.Io.KnownBytes.{Appends}
 use Rattle.script_lines.specs.commands.PlainCommands.{PlainCommand}
 use Rattle.script_lines.specs.commands.PlainCommands as command
 use Rattle.text_lines.specs.Prefix.{AppendsPrefix}
 use Rattle.tool_io.specs.Counts.{raised}
-use Rattle.tool_io.specs.Fetched.{Files}
-use Rattle.tool_io.specs.Fetches.{Fetch, Fetches, with_fetch}
 use Rattle.tool_io.specs.SinkState.{SinkState}
 use Rattle.tree_edits.specs.Editing.{names_views}
-use Rattle.view_model.specs.Numbers.{max_file}
 use Rattle.view_model.specs.Refusals.{plain_refusal}
-use Rattle.view_world.specs.world.World.{World}
-use Rattle.view_world.specs.declared.fault.StepFault.{StepFault}
-use Rattle.view_world.specs.declared.fault.StepFault.TheVariants as fault
-use Rattle.view_world.specs.world.Step.{Reply, Done, Refused}
+use Rattle.world_parts.specs.World.{World}
+use Rattle.world_parts.specs.declared.fault.StepFault.{StepFault}
+use Rattle.world_parts.specs.declared.fault.StepFault.TheVariants as fault
+use Rattle.world_parts.specs.Reply.{Reply, Done, Refused}
 
 -- Done: the world is the reply's, its text was written, and no call on the sink has failed. Refused: as the reply says.
 -- If a call on the sink has failed, the world is the reply's all the same, and before that call a prefix of its text
@@ -68,36 +65,3 @@ faults_after_line (Err (fault.Refused refusal)) faults = faults
 faults_after_line (Err fault.NoMemory) faults = faults
 faults_after_line (Err fault.Sink) faults = raised faults
 faults_after_line (Err fault.Shelf) faults = faults
-
--- these files are at hand: the shelf makes them visible, or none is asked for
-abbrev pub AreAtHand : Files → Option Files → Option (List ℕ) → Type 0
-AreAtHand files reported asked = (reported ≡ Some files) ⊎ (asked ≡ None)
-
--- A shelf's count of failed calls after a command: a fetch that failed raised it by one. Running out of memory may
--- count as a failed call.
-abbrev pub CountsShelf : {A : Type 0} → ℕ → ℕ → Result A StepFault → Type 0
-CountsShelf before now (Ok _) = now ≡ before
-CountsShelf before now (Err (fault.Refused refusal)) = now ≡ before
-CountsShelf before now (Err fault.NoMemory) = before ≤ now
-CountsShelf before now (Err fault.Sink) = now ≡ before
-CountsShelf before now (Err fault.Shelf) = now ≡ raised before
-
--- a layout file is asked for with the limit of its bytes
-abbrev pub layout_fetch : List ℕ → Fetch
-layout_fetch name = record { name = name; limit = max_file }
-
--- what a shelf shows of the calls on it after a command: one more if a file is asked for, and otherwise the same
-abbrev pub fetches_after : Option (List ℕ) → Fetches → Fetches
-fetches_after None fetches = fetches
-fetches_after (Some name) fetches = with_fetch fetches (layout_fetch name)
-
--- What a line does to a shelf, if it asks for this file or for none. The shelf is asked once for a file, by its name
--- and with the limit of a layout file, and otherwise it stays; its files stay, and a fetch that failed was one that was
--- asked for.
-pub record AsksShelf {S A : Type 0} (files : S → Option Files) (fetches : S → Fetches) (faults : S → ℕ)
-    (name : Option (List ℕ)) (result : Result A StepFault) (old new : S) : Type 0 where
-  pub files_stay : files new ≡ files old
-  pub unasked : name ≡ None → new ≡ old
-  pub fetched : fetches new ≡ fetches_after name (fetches old)
-  pub shelf_failed : CountsShelf (faults old) (faults new) result
-  pub asked : result ≡ Err fault.Shelf → name ≢ None

@@ -3,7 +3,7 @@ use Rattle.std.specs.Prelude.{refl}
 use Rattle.std.specs.Coded.{Coded, code_by, coded×}
 use Rattle.view_world.specs.screen.KeyedScreen.{KeyedScreen, new_screen, screen_code, world_of as world_on}
 use Rattle.view_world.specs.world.Marks.{no_marks}
-use Rattle.view_world.specs.world.World as plain
+use Rattle.world_parts.specs.World as plain
 use Rattle.view_world.specs.contracts.world.marks.Marks.{the_row as marks_row}
 use Rattle.view_world.specs.declared.world.marks.Marks.{Marks}
 

@@ -7,9 +7,10 @@ use Rattle.tree_edits.specs.declared.edits.Edit.{Edit}
 use Rattle.tree_edits.specs.declared.edits.Edit.TheVariants as edit
 use Rattle.view_model.specs.declared.changes.Act.{Act}
 use Rattle.view_world.specs.frames.Counting.{frame_calls}
-use Rattle.view_world.specs.world.World.{World, Stage, NoWindow, NoFrame, Unsettled, Settled}
+use Rattle.world_parts.specs.World.{World, Stage, NoWindow, NoFrame, Unsettled, Settled}
 use Rattle.view_world.specs.declared.world.marks.Effect.{Effect}
-use Rattle.view_world.specs.frames.Seen.{act_paints, has_any_scrolled, line_deliveries}
+use Rattle.view_world.specs.frames.Seen.{act_paints, line_deliveries}
+use Rattle.world_parts.specs.Touching.{has_any_scrolled}
 use Rattle.view_world.specs.declared.world.marks.Effect.TheVariants.{Opens, Lays, Asks, Repaints, Touches, Leaves}
 use Rattle.view_world.specs.declared.world.marks.Marks.{Marks}
 

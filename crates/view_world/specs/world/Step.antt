@@ -1,5 +1,5 @@
 -- What a command does to the plain world.
-use Rattle.std.specs.Prelude.{ℕ, ◌+◌, ◌-◌, ◌==◌, ℤ, pos, ◌+ℤ◌, int_le, unsigned_abs, Bool, true, ◌&&◌, not}
+use Rattle.std.specs.Prelude.{ℕ, ◌+◌, ◌-◌, ◌==◌, ℤ, pos, unsigned_abs, Bool, true, ◌&&◌, not}
 use Rattle.std.specs.Prelude.{if◌then◌else◌, List, [], ◌∷◌, length, Option, Some, None, Result, Ok, Err, chars, is_none}
 use Rattle.std.specs.List.{list_all}
 use Rattle.std.specs.Option.{option_map, option_or, unwrap_or}
@@ -12,12 +12,12 @@ use Rattle.saved_state.specs.Restoring.{is_for_other_class, restored}
 use Rattle.saved_state.specs.Saving.{saved_of}
 use Rattle.saved_state.specs.State.{StateEntry, decoded, encoded}
 use Rattle.script_lines.specs.words.Escapes.{unescaped}
-use Rattle.script_lines.specs.commands.PlainCommands.{PlainCommand, PlainGiven}
+use Rattle.script_lines.specs.commands.PlainCommands.{PlainCommand}
 use Rattle.script_lines.specs.commands.PlainCommands as command
 use Rattle.script_lines.specs.declared.commands.Asked.{Asked}
 use Rattle.script_lines.specs.declared.words.naming.Name.{Name}
 use Rattle.size_hooks.specs.Hook.{Hook}
-use Rattle.size_hooks.specs.Hooks.{armed, disarmed, hook_of}
+use Rattle.size_hooks.specs.Hooks.{armed, hook_of}
 use Rattle.text_lines.specs.Joined.{◌⧺◌}
 use Rattle.tool_io.specs.Fetched.{Files}
 use Rattle.touch_dispatch.specs.handling.Handling.{is_nil}
@@ -31,13 +31,12 @@ use Rattle.tree_edits.specs.Scene.{EditScene}
 use Rattle.view_model.specs.declared.changes.Act.{Act}
 use Rattle.view_model.specs.declared.changes.Change.{Change}
 use Rattle.view_model.specs.declared.changes.NumEdit.{NumEdit}
-use Rattle.view_model.specs.declared.kinds.Class.{Class}
 use Rattle.view_model.specs.Directed.{directed, rtl_at}
 use Rattle.view_model.specs.Forest.{Forest, Nothing, Branch, count_of, rows}
 use Rattle.view_model.specs.Geometry.{Laid, rect_in, size_of_rect}
 use Rattle.view_model.specs.Cycles.{graft_cycle}
 use Rattle.view_model.specs.Grafts.{graft_refusal}
-use Rattle.view_model.specs.Classes.{is_group, scrolls}
+use Rattle.view_model.specs.Classes.{is_group}
 use Rattle.view_model.specs.Growth.{grown_at}
 use Rattle.view_model.specs.Painting.{picture}
 use Rattle.view_model.specs.PlainTree.{PlainView, numbers_of, part_of, view_in}
@@ -45,21 +44,21 @@ use Rattle.view_model.specs.Refusals.{AtPlace, PlainRefusal, refusal_numbered}
 use Rattle.view_model.specs.Numbers.{bad_state, has_root, hook_edit, late_dpi, max_hooks, no_frame, no_root, no_view}
 use Rattle.view_model.specs.Numbers.{no_window, out_of_range, state_class, too_many_hooks, unsettled, wrong_class}
 use Rattle.view_model.specs.Numbers.{wrong_pointer}
-use Rattle.view_model.specs.Resources.{Resource, Color, Dimen, Text, definition_refusal_of, with_resource}
+use Rattle.view_model.specs.Resources.{Resource, definition_refusal_of, with_resource}
 use Rattle.view_model.specs.Sprouts.{Seed, numbered}
-use Rattle.view_world.specs.world.World.{World, Stage, NoWindow, NoFrame, Unsettled, Settled}
-use Rattle.view_world.specs.replying.Deliveries.{done_text, entries_text}
-use Rattle.view_world.specs.editing.Inflating.{place_in, views_of}
-use Rattle.view_world.specs.editing.Naming.{named}
-use Rattle.view_world.specs.touching.Pointers.{down_action, event_of, is_pressed, up_action, with_point, without_point}
-use Rattle.view_world.specs.replying.Replies.{added_text, bounds_line, digest_text, framed_text, inflated_text}
-use Rattle.view_world.specs.replying.Replies.{pixels_text, state_bytes, state_text}
-use Rattle.view_world.specs.touching.Touching.{after_progress, disallowed, leaving, reached_in, without_part}
-
--- the world after a command and the text that is written, or why the command is refused
-pub data Reply : Type 0 where
-  Done : (world : World) (text : List ℕ) → Reply
-  Refused : (refusal : PlainRefusal) → Reply
+use Rattle.world_parts.specs.Places.{all_disarmed}
+use Rattle.world_parts.specs.Reply.{Reply, Done, Refused, on_view, with_named}
+use Rattle.world_parts.specs.Resources.{resource_given}
+use Rattle.world_parts.specs.World.{World, Stage, NoWindow, NoFrame, Unsettled, Settled}
+use Rattle.world_replies.specs.Bounds.{bounds_of, bounds_text}
+use Rattle.world_replies.specs.Responses.{lies_in}
+use Rattle.world_replies.specs.Deliveries.{done_text, entries_text}
+use Rattle.world_parts.specs.Inflating.{place_in, views_of}
+use Rattle.world_parts.specs.Naming.{named}
+use Rattle.world_parts.specs.Pointers.{down_action, event_of, is_pressed, up_action, with_point, without_point}
+use Rattle.world_replies.specs.Replies.{added_text, digest_text, framed_text, inflated_text}
+use Rattle.world_replies.specs.Replies.{pixels_text, state_bytes, state_text}
+use Rattle.world_parts.specs.Touching.{after_progress, disallowed, leaving, reached_in, without_part}
 
 -- a window opens: nothing is laid out in it yet
 abbrev pub with_window : World → Size → World
@@ -83,20 +82,10 @@ after_outcome world (Err refusal) = Refused refusal
 abbrev pub after_edit : World → NumberedEdit → Reply
 after_edit world edit = after_outcome world (outcome_of_edit (scene_in world) edit)
 
--- what is done with the view that a name means, if there is one
-abbrev pub with_named : Option ℕ → (ℕ → Reply) → Reply
-with_named None next = Refused (refusal_numbered no_view)
-with_named (Some number) next = next number
-
 -- a root is made if there is none
 abbrev pub root_added : World → Forest PlainView → NumberedEdit → Reply
 root_added world Nothing edit = after_edit world edit
 root_added world (Branch root below after) edit = Refused (refusal_numbered has_root)
-
--- what is done with a view that a line names
-abbrev pub on_view : Forest PlainView → Name → (ℕ → Reply) → Reply
-on_view Nothing name next = Refused (refusal_numbered no_root)
-on_view (Branch root below after) name next = with_named (named (Branch root below after) name) next
 
 -- the picture of a window in which the views of a tree have these bounds
 abbrev pub picture_in : Size → List Laid → Forest PlainView → List Argb
@@ -132,21 +121,6 @@ framed world (Some window) Nothing = Refused (refusal_numbered no_root)
 framed world (Some window) (Branch root below after) =
     Done (after_frame world window) (frame_text (frame_of world.tree world.hooks window))
 
--- the offset that is printed of a view of this class, if it has one
-abbrev pub printed_offset : Class → ℤ → Option ℤ
-printed_offset class offset = if scrolls class then Some offset else None
-
--- where a view is
-abbrev pub bounds_of : List Laid → PlainView → List ℕ
-bounds_of geometry view =
-    bounds_line view.number (printed_offset view.class view.facts.offset) (rect_in geometry view.number)
-
--- the bounds of each view in preorder
-abbrev pub bounds_text : List Laid → Forest PlainView → List ℕ
-bounds_text geometry Nothing = []
-bounds_text geometry (Branch view below after) =
-    bounds_of geometry view ⧺ bounds_text geometry below ⧺ bounds_text geometry after
-
 -- the bounds of a view that was found
 abbrev pub bounds_in : World → Option PlainView → Reply
 bounds_in world None = Done world []
@@ -175,10 +149,6 @@ picture_asked (Some window) NoFrame next = Refused (refusal_numbered no_frame)
 picture_asked (Some window) Unsettled next = Refused (refusal_numbered unsettled)
 picture_asked (Some window) Settled next = next window
 
--- whether a part of a picture is wholly in its window
-unfoldable pub lies_in : Size → ℤ → ℤ → ℤ → ℤ → Bool
-lies_in window x y w h = int_le (x +ℤ w) window.w && int_le (y +ℤ h) window.h
-
 -- the colour of a point of a part, of which this is the corner
 abbrev pub color_in : Size → List Argb → ℤ → ℤ → ℕ → ℕ → Argb
 color_in window picture x y column row =
@@ -195,12 +165,6 @@ pixels_reported world x y w h window =
 abbrev pub dpi_reported : World → ℕ → Forest PlainView → Reply
 dpi_reported world dpi Nothing = Done (record world { dpi = dpi }) []
 dpi_reported world dpi (Branch root below after) = Refused (refusal_numbered late_dpi)
-
--- the resource that a line gives
-abbrev pub resource_given : PlainGiven → Resource
-resource_given (command.Color color) = Color color
-resource_given (command.Dimen word) = Dimen word
-resource_given (command.Text text) = Text (unescaped (chars text))
 
 -- a resource is defined, unless there is a reason against it
 abbrev pub defined : World → ℕ → Resource → Option PlainRefusal → Reply
@@ -287,11 +251,6 @@ taken_away world =
 abbrev pub reported_before : List ℕ → Reply → Reply
 reported_before text (Done world more) = Done world (text ⧺ more)
 reported_before text (Refused refusal) = Refused refusal
-
--- the hook of none of these views is armed
-abbrev pub all_disarmed : List ℕ → List Hook → List Hook
-all_disarmed [] hooks = hooks
-all_disarmed (number ∷ numbers) hooks = all_disarmed numbers (disarmed number hooks)
 
 -- the hook of the view of this number is not armed, nor is one below it
 abbrev pub without_hooks : ℕ → World → World

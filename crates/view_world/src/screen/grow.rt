@@ -8,27 +8,26 @@ ghost use Rattle.tree_edits.specs.Editing.{Add};
 ghost use Rattle.view_model.specs.Forest.{Nothing};
 ghost use Rattle.view_model.specs.Numbers.{max_views, numbers_end};
 ghost use Rattle.view_tree.specs.Views.{IsLive, number_of, plain_of};
-ghost use Rattle.view_world.specs.screen.Changed.{CarriesOut, IsPlace};
+ghost use Rattle.view_world.specs.screen.Changed.{CarriesOut};
+ghost use Rattle.world_parts.specs.Given.{IsPlace};
 ghost use Rattle.view_world.specs.screen.KeyedScreen.{world_of};
 ghost use Rattle.view_model.specs.Sprouts.{seeds_of};
-ghost use Rattle.view_world.specs.saving.Offsets.{AreUnscrolled};
+ghost use Rattle.world_parts.specs.Inflating.{AreUnscrolled};
 ghost use Rattle.view_world.specs.frames.Asked.{listed};
-ghost use Rattle.view_world.specs.replying.Responses.{IsReportable};
+ghost use Rattle.world_replies.specs.Responses.{IsReportable};
 ghost use Rattle.view_world.specs.frames.Resting.{KeepsBut, KeepsEdit};
 ghost use Rattle.view_world.specs.declared.world.marks.Effect.TheVariants.{Asks};
 ghost use Rattle.view_world.specs.world.Step.{after_edit, graft_reason, grafted};
 
 use super::Screen;
-use crate::editing::grafting::graft;
-use crate::editing::naming::recall_tree;
-use crate::editing::opening::{close_all, make_hooks, open_all};
-use crate::fault::StepFault;
-use crate::replying::response::{Response, respond};
+use crate::screen::respond::respond;
 use inflater::Grown;
 use std::alloc::Global;
 use tree_edits::{Edit, apply};
 use view_model::Class;
 use view_tree::Key;
+use world_parts::{StepFault, close_all, graft, make_hooks, open_all, recall_tree};
+use world_replies::Response;
 
 impl Screen {
     /// Makes a view; the room for its touches and for hooks is made before anything changes.

@@ -10,16 +10,15 @@ ghost use Rattle.view_world.specs.world.Step.{hooked, step};
 ghost use Rattle.view_world.specs.declared.world.marks.Effect.TheVariants.{Leaves};
 
 use super::Screen;
-use crate::editing::hooking::{may_change_all, numbered_edits, size_at};
-use crate::editing::naming::{recall_tree, resolve};
-use crate::fault::StepFault;
-use crate::replying::response::Response;
+use crate::hooking::{may_change_all, numbered_edits, size_at};
 use arrayvec::ArrayVec;
 use script_lines::{Name, edits_written};
 use view_model::limits::MAX_EDITS;
 use view_model::refusals::{HOOK_EDIT, HOOKS, NO_VIEW, WRONG_CLASS};
 use view_model::{NumEdit, Refusal};
 use view_tree::Key;
+use world_parts::{StepFault, recall_tree, resolve};
+use world_replies::Response;
 
 impl Screen {
     /// Arms the hook of a view, with the edits of this text. If `bad`, more is asked of it than a hook may do.

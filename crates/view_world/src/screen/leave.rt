@@ -6,23 +6,20 @@ ghost use Rattle.tree_edits.specs.Editing.{hides};
 ghost use Rattle.view_tree.specs.Views.{IsLive, IsTree, SameTree, facts_of, number_of, plain_of};
 ghost use Rattle.view_world.specs.screen.Changed.{CarriesOut};
 ghost use Rattle.view_world.specs.screen.KeyedScreen.{world_of};
-ghost use Rattle.view_world.specs.replying.Responses.{deliveries_only};
+ghost use Rattle.world_replies.specs.Responses.{deliveries_only};
 ghost use Rattle.view_world.specs.frames.Resting.{KeepsEdit};
 ghost use Rattle.view_world.specs.world.Step.{acted, removed};
-ghost use Rattle.view_world.specs.touching.Touching.{after_progress, leaving, is_reported, parent_of};
+ghost use Rattle.world_parts.specs.Touching.{after_progress, leaving, is_reported, parent_of};
 
 use super::Screen;
-use crate::editing::forgetting::forget;
-use crate::editing::naming::recall_tree;
-use crate::fault::StepFault;
-use crate::replying::response::Response;
-use crate::touching::gesture::slop_at;
 use seen_edits::{change, take};
 use std::alloc::Global;
 use touch_dispatch::cancel_view;
 use tree_edits::Edit;
 use view_model::Act;
 use view_tree::Key;
+use world_parts::{StepFault, forget, recall_tree, slop_at};
+use world_replies::Response;
 
 impl Screen {
     /// Removes a view and all below it. If needed, its gesture is cancelled first.

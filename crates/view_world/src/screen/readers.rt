@@ -4,13 +4,13 @@ ghost use Rattle.std.specs.Prelude.{◌≡◌, ◌↔◌, ℕ, [], IfSome};
 ghost use Rattle.std.specs.Option.{is_some};
 ghost use Rattle.touch_event.specs.PointerSets.{has_id};
 ghost use Rattle.view_world.specs.screen.KeyedScreen.{window_of};
-ghost use Rattle.view_world.specs.touching.Pointers.{is_pressed};
+ghost use Rattle.world_parts.specs.Pointers.{is_pressed};
 
 use super::Screen;
 use crate::screen::stage::Stage;
-use crate::touching::pointers::ids_of;
 use pixel_raster::Surface;
 use view_tree::ViewTree;
+use world_parts::ids_of;
 
 impl Screen {
     /// The views. Once a frame has settled, their bounds are the layout of that frame.

@@ -8,14 +8,13 @@ ghost use Rattle.view_world.specs.frames.Resting.{IsIdle, KeepsLine};
 ghost use Rattle.view_world.specs.world.Step.{step};
 
 use super::Screen;
-use crate::editing::naming::recall_tree;
-use crate::fault::StepFault;
-use crate::replying::response::Response;
 use crate::saving::{bytes_of, state_of, take_up};
 use saved_state::save;
 use std::alloc::Global;
 use view_model::Refusal;
 use view_model::refusals::NO_ROOT;
+use world_parts::{StepFault, recall_tree};
+use world_replies::Response;
 
 impl Screen {
     /// Saves the state of the tree.

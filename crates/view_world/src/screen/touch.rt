@@ -4,7 +4,7 @@ ghost use Rattle.script_lines.specs.commands.PlainCommands.{Cancel, Disallow, Do
 ghost use Rattle.touch_event.specs.Numbers.{max_pointers};
 ghost use Rattle.view_world.specs.screen.Changed.{CarriesOut, IsTouchable};
 ghost use Rattle.view_world.specs.screen.KeyedScreen.{world_of};
-ghost use Rattle.view_world.specs.touching.Pointers.{AreDown};
+ghost use Rattle.world_parts.specs.Pointers.{AreDown};
 ghost use Rattle.view_world.specs.frames.Resting.{IsIdle, KeepsBut, KeepsLine};
 ghost use Rattle.view_world.specs.world.Step.{after_event, step};
 ghost use Rattle.view_world.specs.frames.Seen.{deliveries_of, scrolled_in};
@@ -12,20 +12,18 @@ ghost use Rattle.view_world.specs.declared.world.marks.Effect.TheVariants.{Touch
 ghost use Rattle.view_world.specs.declared.screen.stage.Stage.TheVariants.{Settled};
 
 use super::Screen;
-use crate::editing::naming::resolve;
-use crate::fault::StepFault;
-use crate::replying::response::Response;
 use crate::screen::stage::Stage;
-use crate::touching::gesture::{disallow_from, slop_at};
-use crate::touching::pointers::{
-    down_action, event_at, event_of, is_pressed, set_points, up_action, without_point,
-};
 use script_lines::Name;
 use seen_edits::note_scrolled;
 use touch_dispatch::dispatch;
 use touch_event::{Action, Event, Point};
 use view_model::Refusal;
 use view_model::refusals::{NO_FRAME, NO_ROOT, NO_WINDOW, POINTER, UNSETTLED, WRONG_CLASS};
+use world_parts::{
+    StepFault, disallow_from, down_action, event_at, event_of, is_pressed, resolve, set_points,
+    slop_at, up_action, without_point,
+};
+use world_replies::Response;
 
 impl Screen {
     /// A pointer goes down.

@@ -6,7 +6,7 @@ ghost use Rattle.touch_event.specs.PointerSets.{has_id};
 ghost use Rattle.view_tree.specs.Views.{geometry_of};
 ghost use Rattle.view_world.specs.screen.KeyedScreen.{window_of};
 ghost use Rattle.view_world.specs.world.KeyedWorld.{world_of};
-ghost use Rattle.view_world.specs.touching.Pointers.{is_pressed};
+ghost use Rattle.world_parts.specs.Pointers.{is_pressed};
 ghost use Rattle.view_world.specs.declared.screen.stage.Stage.TheVariants.{Settled};
 
 use super::World;

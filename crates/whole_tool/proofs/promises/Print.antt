@@ -6,7 +6,7 @@ use Rattle.tool_io.specs.Counts.{raised}
 use Rattle.tool_io.specs.Fetched.{Files}
 use Rattle.tool_io.specs.Fetches.{Fetches, with_fetch}
 use Rattle.tool_io.specs.SinkState.{SinkState}
-use Rattle.view_world.specs.world.Carried.{layout_fetch}
+use Rattle.world_parts.specs.Shelves.{layout_fetch}
 use Rattle.whole_tool.specs.Dump.{Dumps, dump_page, refuses_file}
 use Rattle.whole_tool.specs.Promises.{FetchesFiles, CountsWork, Failures, HasStatus, LeavesAlone, LeavesRest, ReportsFailures, ReportsRefusals, Stops, WritesPages}
 use Rattle.whole_tool.specs.Tool.{Given, IsOneOf}

@@ -4,7 +4,7 @@ use Rattle.std.specs.Prelude.{Option}
 use Rattle.std.specs.Io.KnownBytes.{Appends}
 use Rattle.script_lines.specs.cutting.Lines.{Line}
 use Rattle.tool_io.specs.Fetched.{Files}
-use Rattle.view_world.specs.world.World.{empty_world}
+use Rattle.world_parts.specs.World.{empty_world}
 use Rattle.whole_tool.specs.Carried.{Alone}
 use Rattle.whole_tool.specs.Outside.{EndsWith, Surroundings}
 use Rattle.whole_tool.specs.Promises.{FetchesFiles, CountsWork, HasStatus, LeavesAlone, LeavesRest, ReportsFailures, ReportsRefusals, Stops, WritesPages, failures}

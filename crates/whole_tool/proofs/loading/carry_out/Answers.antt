@@ -11,7 +11,7 @@ use Rattle.whole_tool.specs.Run.{HasReadUpTo}
 use Rattle.whole_tool.specs.Works.{Trace}
 use Rattle.whole_tool.proofs.CostLaws.{works_further, works_stopped}
 use Rattle.whole_tool.proofs.LongScriptLaws.{lines_of-cut}
-use Rattle.view_world.specs.world.World.{empty_world}
+use Rattle.world_parts.specs.World.{empty_world}
 use Rattle.whole_tool.proofs.loading.carry_out.Goals as goal
 
 pub returns-clause-runs : goal.returns-clause-runs

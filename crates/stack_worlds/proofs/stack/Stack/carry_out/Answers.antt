@@ -5,10 +5,10 @@ use Rattle.stack_worlds.specs.KeptStack.{stack_of}
 use Rattle.stack_worlds.specs.PlainStack.{PlainWay, asked_on, by_way}
 use Rattle.stack_worlds.specs.StackCarried.{WritesStack, written}
 use Rattle.tool_io.specs.declared.faults.Failed.{Failed}
-use Rattle.view_world.specs.declared.fault.StepFault.{StepFault}
-use Rattle.view_world.specs.declared.fault.StepFault.TheVariants.{Refused, Shelf}
+use Rattle.world_parts.specs.declared.fault.StepFault.{StepFault}
+use Rattle.world_parts.specs.declared.fault.StepFault.TheVariants.{Refused, Shelf}
 use Rattle.view_world.proofs.edits.FileLaws.{asks_none}
-use Rattle.view_world.specs.world.Carried.{AreAtHand, AsksShelf}
+use Rattle.world_parts.specs.Shelves.{AreAtHand, AsksShelf}
 
 pub returns-in-Given-clause-carried : goal.returns-in-Given-clause-carried
 returns-in-Given-clause-carried g c files hand =

@@ -10,7 +10,7 @@ use Rattle.stack_worlds.specs.StackCarried.{IsOwnSound, WritesStack, written}
 use Rattle.stack_worlds.specs.WindowLines.{worlds_after}
 use Rattle.stack_worlds.specs.declared.stack.way.Own.{Own}
 use Rattle.text_lines.specs.Delivered.{Delivered}
-use Rattle.view_world.specs.declared.fault.StepFault.{StepFault}
+use Rattle.world_parts.specs.declared.fault.StepFault.{StepFault}
 use Rattle.window_stack.specs.PlainPanes.{PlainPanes, closed, is_open, raised}
 
 pub invariant_of-self : goal.invariant_of-self

@@ -8,7 +8,7 @@ use Rattle.stack_worlds.specs.KeptStack.{stack_of}
 use Rattle.stack_worlds.specs.PlainStack.{composed}
 use Rattle.stack_worlds.specs.declared.stack.composing.Part.{Part}
 use Rattle.text_lines.proofs.Sending.{delivered, sends_as}
-use Rattle.view_world.specs.replying.Replies.{pixels_text}
+use Rattle.world_replies.specs.Replies.{pixels_text}
 
 pub put_rows-requires : goal.put_rows-requires
 put_rows-requires g c =

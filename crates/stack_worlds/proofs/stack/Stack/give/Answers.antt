@@ -3,7 +3,7 @@ use Rattle.std.specs.Prelude.{IfSome}
 use Rattle.script_lines.specs.commands.PlainCommands.{plain_command}
 use Rattle.stack_worlds.proofs.GivenLaws.{asked_there, given_done, held_after, silent_there}
 use Rattle.stack_worlds.proofs.stack.Stack.give.Goals as goal
-use Rattle.view_world.specs.world.Carried.{AreAtHand}
+use Rattle.world_parts.specs.Shelves.{AreAtHand}
 use Rattle.window_stack.specs.PlainPanes.{PlainPanes, is_open}
 
 pub hold_after-requires-clause-held : goal.hold_after-requires-clause-held

@@ -5,12 +5,13 @@ use Rattle.script_lines.specs.commands.PlainCommands.{plain_command}
 use Rattle.tool_io.specs.Fetched.{Files}
 use Rattle.view_model.specs.declared.limits.TheConstants.{NUMBERS_END}
 use Rattle.view_world.proofs.edits.FileLaws.{asks_none}
-use Rattle.view_world.specs.declared.fault.StepFault.{StepFault}
-use Rattle.view_world.specs.editing.Inflating.{asked_file}
-use Rattle.view_world.specs.world.Carried.{AreAtHand, AsksShelf, WritesReply}
+use Rattle.world_parts.specs.declared.fault.StepFault.{StepFault}
+use Rattle.world_parts.specs.Inflating.{asked_file}
+use Rattle.world_parts.specs.Shelves.{AreAtHand, AsksShelf}
+use Rattle.view_world.specs.world.Carried.{WritesReply}
 use Rattle.view_world.specs.world.KeyedWorld.{KeyedWorld, world_of}
 use Rattle.view_world.specs.world.Step.{step}
-use Rattle.view_world.specs.world.World.{World}
+use Rattle.world_parts.specs.World.{World}
 use Rattle.stack_worlds.specs.KeptStack.{HasWorlds, KeyedStack, kept_world, keyed_at}
 use Rattle.stack_worlds.specs.PlainStack.{asked_in}
 use Rattle.stack_worlds.specs.WindowLines.{WorksIn}

@@ -6,11 +6,12 @@ use Rattle.view_tree.specs.Views.{number_of}
 use Rattle.view_world.specs.screen.Changed.{CarriesOut}
 use Rattle.view_world.specs.screen.KeyedScreen.{KeyedScreen, geometry_in, world_of}
 use Rattle.view_world.specs.screen.Sound.{keyed}
-use Rattle.view_world.specs.world.Step.{Refused, hooked, size_in}
-use Rattle.view_world.specs.declared.fault.StepFault.{StepFault}
-use Rattle.view_world.specs.declared.fault.StepFault.TheVariants as fault
-use Rattle.view_world.specs.declared.replying.response.Response.{Response}
-use Rattle.view_world.specs.declared.replying.response.Response.TheVariants as response
+use Rattle.world_parts.specs.Reply.{Refused}
+use Rattle.view_world.specs.world.Step.{hooked, size_in}
+use Rattle.world_parts.specs.declared.fault.StepFault.{StepFault}
+use Rattle.world_parts.specs.declared.fault.StepFault.TheVariants as fault
+use Rattle.world_replies.specs.declared.response.Response.{Response}
+use Rattle.world_replies.specs.declared.response.Response.TheVariants as response
 use Rattle.view_world.proofs.edits.HookLaws.{armed_world, full_world}
 use Rattle.std.specs.Prelude.{OnOk}
 use Rattle.view_world.proofs.frames.RestLaws.{armed_keeps}

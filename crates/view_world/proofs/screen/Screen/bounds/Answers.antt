@@ -3,7 +3,7 @@ use Rattle.std.specs.Option.{option_map}
 use Rattle.view_tree.specs.Views.{IsLive, number_of}
 use Rattle.view_tree.proofs.forest.PlainLaws.{number_there}
 use Rattle.view_world.specs.screen.KeyedScreen.{KeyedScreen}
-use Rattle.view_world.specs.world.Step.{Refused}
+use Rattle.world_parts.specs.Reply.{Refused}
 use Rattle.view_world.specs.screen.Sound.{keyed}
 use Rattle.view_world.proofs.worlds.WorldLaws.{Changed-bounds, Changed-no-bounds}
 use Rattle.view_world.proofs.screen.Screen.bounds.Goals as goal

@@ -8,10 +8,11 @@ use Rattle.touch_dispatch.specs.gesture.Kept.{gesture_of}
 use Rattle.view_world.specs.screen.Changed.{CarriesOut}
 use Rattle.view_world.specs.screen.KeyedScreen.{KeyedScreen, world_of}
 use Rattle.view_world.specs.screen.Sound.{keyed}
-use Rattle.view_world.specs.world.Step.{disallow_reported, Refused}
-use Rattle.view_world.specs.touching.Touching.{ancestors_of}
-use Rattle.view_world.specs.declared.fault.StepFault.TheVariants as fault
-use Rattle.view_world.specs.declared.replying.response.Response.TheVariants as response
+use Rattle.view_world.specs.world.Step.{disallow_reported}
+use Rattle.world_parts.specs.Reply.{Refused}
+use Rattle.world_parts.specs.Touching.{ancestors_of}
+use Rattle.world_parts.specs.declared.fault.StepFault.TheVariants as fault
+use Rattle.world_replies.specs.declared.response.Response.TheVariants as response
 use Rattle.view_world.proofs.touches.TouchLaws.{Changed-disallow, Refused-disallow, closed_along, gesture_along, targets-disallowed}
 use Rattle.view_world.proofs.worlds.WorldLaws.{Changed-on}
 use Rattle.view_world.proofs.screen.Screen.disallow.Goals as goal

@@ -4,7 +4,7 @@ use Rattle.touch_event.specs.declared.event.Action.{Action}
 use Rattle.touch_event.specs.declared.event.Event.{Event}
 use Rattle.touch_event.specs.declared.event.Point.{Point}
 use Rattle.view_world.specs.screen.KeyedScreen.{KeyedScreen}
-use Rattle.view_world.specs.touching.Pointers.{down_action, event_of, is_pressed, with_point}
+use Rattle.world_parts.specs.Pointers.{down_action, event_of, is_pressed, with_point}
 use Rattle.view_world.proofs.touches.TouchLaws.{Changed-down}
 use Rattle.view_world.proofs.screen.Screen.down.Goals as goal
 

@@ -4,7 +4,7 @@ use Rattle.touch_event.specs.declared.event.Action.TheVariants.{Move}
 use Rattle.touch_event.specs.declared.event.Event.{Event}
 use Rattle.touch_event.specs.declared.event.Point.{Point}
 use Rattle.view_world.specs.screen.KeyedScreen.{KeyedScreen}
-use Rattle.view_world.specs.touching.Pointers.{event_of, is_pressed, with_point}
+use Rattle.world_parts.specs.Pointers.{event_of, is_pressed, with_point}
 use Rattle.view_world.proofs.frames.RestLaws.{touch_keeps}
 use Rattle.view_world.proofs.touches.TouchLaws.{Changed-move}
 use Rattle.view_world.proofs.screen.Screen.drag.Goals as goal

@@ -6,8 +6,8 @@ use Rattle.tree_edits.proofs.KeepLaws.{numbers_kept}
 use Rattle.view_world.specs.screen.Changed.{CarriesOut}
 use Rattle.view_world.specs.world.Step.{after_edit}
 use Rattle.view_world.specs.screen.KeyedScreen.{KeyedScreen, world_of}
-use Rattle.view_world.specs.declared.fault.StepFault.{StepFault}
-use Rattle.view_world.specs.declared.replying.response.Response.{Response}
+use Rattle.world_parts.specs.declared.fault.StepFault.{StepFault}
+use Rattle.world_replies.specs.declared.response.Response.{Response}
 use Rattle.view_world.specs.screen.Sound.{keyed}
 use Rattle.view_world.proofs.worlds.FitLaws.{fits_applied}
 use Rattle.view_world.proofs.worlds.SoundLaws.{result_stays, sound_stays}

@@ -14,8 +14,9 @@ use Rattle.view_world.proofs.frames.ShiftLaws.{shifted_in}
 use Rattle.pixel_raster.specs.Raster.{size_of}
 use Rattle.view_tree.specs.Views.{geometry_of, plain_of}
 use Rattle.view_world.specs.frames.Counting.{RisesWithin, paint_bound}
-use Rattle.view_world.specs.replying.Replies.{framed_text}
-use Rattle.view_world.specs.world.Step.{Done, framed, picture_in}
+use Rattle.world_replies.specs.Replies.{framed_text}
+use Rattle.world_parts.specs.Reply.{Done}
+use Rattle.view_world.specs.world.Step.{framed, picture_in}
 use Rattle.view_world.specs.screen.KeyedScreen.{KeyedScreen, window_of, world_of}
 use Rattle.view_world.specs.declared.screen.stage.Stage.TheVariants.{Unsettled, Settled}
 use Rattle.view_world.specs.screen.Sound.{keyed}

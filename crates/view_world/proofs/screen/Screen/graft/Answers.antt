@@ -8,16 +8,17 @@ use Rattle.view_model.specs.Grafts.{graft_refusal}
 use Rattle.view_tree.specs.Faults.{IsRefusedOrCyclic}
 use Rattle.view_model.specs.declared.fault.Fault.{Fault}
 use Rattle.view_tree.specs.Views.{number_of, plain_of}
-use Rattle.view_world.proofs.edits.FreshLaws.{are_free}
+use Rattle.world_parts.proofs.edits.FreshLaws.{are_free}
 use Rattle.view_world.proofs.edits.GraftingLaws.{graft_reported, sound_grafted}
 use Rattle.view_world.proofs.edits.GrowingLaws.{carried_with, same_world, sound_same}
 use Rattle.view_world.proofs.edits.InflatingLaws.{grafted_world, place_number}
-use Rattle.view_world.specs.screen.Changed.{CarriesOut, IsPlace}
+use Rattle.view_world.specs.screen.Changed.{CarriesOut}
+use Rattle.world_parts.specs.Given.{IsPlace}
 use Rattle.view_world.specs.screen.KeyedScreen.{KeyedScreen, world_of}
-use Rattle.view_world.specs.editing.Places.{AreFree, AreOpened, hooks_in}
+use Rattle.world_parts.specs.Places.{AreFree, AreOpened, hooks_in}
 use Rattle.view_world.specs.screen.Sound.{keyed}
 use Rattle.view_world.specs.world.Step.{graft_reason, grafted}
-use Rattle.view_world.specs.declared.replying.response.Response.TheVariants as response
+use Rattle.world_replies.specs.declared.response.Response.TheVariants as response
 use Rattle.view_world.proofs.states.OffsetLaws.{offsets_grafted}
 use Rattle.view_world.proofs.frames.AskedLaws.{graft_keeps}
 use Rattle.view_world.specs.frames.Asked.{listed}

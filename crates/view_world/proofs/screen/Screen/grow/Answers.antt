@@ -16,16 +16,16 @@ use Rattle.view_world.proofs.edits.GrownShown.{nowhere_next, shown_come}
 use Rattle.pixel_raster.specs.Raster.{size_of}
 use Rattle.view_model.specs.PlainTree.{single}
 use Rattle.view_world.proofs.edits.GrowingLaws.{addable_root, carried_with, failed, grown_as, grown_nowhere, plain_root, made_well, on_err, place_back, refused_still, same_world, sound_grown, sound_same}
-use Rattle.view_world.proofs.edits.OpeningLaws.{done}
+use Rattle.world_parts.proofs.edits.OpeningLaws.{done}
 use Rattle.view_world.proofs.worlds.WorldLaws.{Changed-edit, at_stage}
-use Rattle.view_world.specs.editing.Places.{hooks_in}
+use Rattle.world_parts.specs.Places.{hooks_in}
 use Rattle.view_world.specs.screen.Changed.{CarriesOut}
 use Rattle.view_world.specs.screen.KeyedScreen.{KeyedScreen, world_of}
-use Rattle.view_world.specs.replying.Responses.{response_of}
+use Rattle.view_world.specs.screen.Changed.{response_of}
 use Rattle.view_world.specs.screen.Sound.{keyed}
 use Rattle.view_world.specs.world.Step.{after_edit}
-use Rattle.view_world.specs.declared.fault.StepFault.{StepFault}
-use Rattle.view_world.specs.declared.replying.response.Response.{Response}
+use Rattle.world_parts.specs.declared.fault.StepFault.{StepFault}
+use Rattle.world_replies.specs.declared.response.Response.{Response}
 use Rattle.view_world.proofs.states.OffsetLaws.{offsets_edited}
 use Rattle.view_world.proofs.frames.EditRest.{loud_keeps}
 use Rattle.view_world.proofs.edits.LeaveLaws.{scrolls_none}

@@ -10,12 +10,12 @@ use Rattle.view_world.specs.screen.Changed.{CarriesOut}
 use Rattle.view_world.specs.screen.KeyedScreen.{KeyedScreen, world_of}
 use Rattle.view_world.specs.screen.Sound.{keyed}
 use Rattle.view_world.specs.world.Step.{after_event}
-use Rattle.view_world.specs.declared.replying.response.Response.TheVariants as response
+use Rattle.world_replies.specs.declared.response.Response.TheVariants as response
 use Rattle.view_world.proofs.touches.EventLaws.{delivered, forwarded, room_cleared, sound_scrolled}
 use Rattle.view_world.proofs.frames.SeenLaws.{scrolled_seen}
 use Rattle.view_world.specs.frames.Seen.{deliveries_of, scrolled_in}
 use Rattle.view_world.proofs.states.OffsetLaws.{offsets_scrolled}
-use Rattle.view_world.proofs.touches.PointerLaws.{few}
+use Rattle.world_parts.proofs.touches.PointerLaws.{few}
 use Rattle.view_world.proofs.frames.RestLaws.{scrolls_keep}
 use Rattle.view_world.specs.frames.Resting.{AreSeenIn, KeepsBut}
 use Rattle.view_world.specs.declared.world.marks.Effect.TheVariants.{Touches}

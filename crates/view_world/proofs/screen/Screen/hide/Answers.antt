@@ -10,8 +10,8 @@ use Rattle.view_world.specs.screen.Changed.{CarriesOut}
 use Rattle.view_world.specs.screen.KeyedScreen.{KeyedScreen, world_of}
 use Rattle.view_world.specs.screen.Sound.{keyed}
 use Rattle.view_world.specs.world.Step.{acted}
-use Rattle.view_world.specs.touching.Touching.{after_progress, leaving}
-use Rattle.view_world.specs.declared.replying.response.Response.{Response}
+use Rattle.world_parts.specs.Touching.{after_progress, leaving}
+use Rattle.world_replies.specs.declared.response.Response.{Response}
 use Rattle.view_world.proofs.touches.EditedCaught.{edit_stays}
 use Rattle.view_world.proofs.worlds.FitLaws.{fits_edited}
 use Rattle.view_world.proofs.edits.LeaveLaws.{Changed-hide, hide_done}
@@ -22,7 +22,7 @@ use Rattle.damage_rect.specs.declared.bounding.Damage.{Damage}
 use Rattle.geom_core.specs.declared.geometry.Rect.{Rect}
 use Rattle.pixel_raster.specs.Raster.{size_of}
 use Rattle.view_world.proofs.frames.EditRest.{edited_same, hides_asks, loud_keeps, within_edit}
-use Rattle.view_world.proofs.touches.SceneLaws.{scrolls_geometry}
+use Rattle.world_parts.proofs.touches.SceneLaws.{scrolls_geometry}
 use Rattle.view_world.proofs.frames.SeenLaws.{seen_mid}
 use Rattle.view_world.specs.frames.Resting.{AreSeenIn}
 use Rattle.view_world.specs.frames.Seen.{numbers_edited}

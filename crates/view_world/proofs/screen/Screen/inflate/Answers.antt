@@ -3,18 +3,18 @@ use Rattle.std.specs.Prelude.{Ok, Err, Some}
 use Rattle.std.specs.declared.alloc.Global.{Global}
 use Rattle.std.specs.declared.vec.Vec.{Vec}
 use Rattle.std.proofs.lemmas.Result.{err_from_is_err_and}
-use Rattle.view_world.specs.declared.fault.StepFault.TheVariants.{Shelf}
+use Rattle.world_parts.specs.declared.fault.StepFault.TheVariants.{Shelf}
 use Rattle.view_tree.specs.Views.{plain_of}
-use Rattle.view_world.specs.world.Carried.{AreAtHand, AsksShelf}
-use Rattle.view_world.specs.screen.Changed.{IsPlace}
-use Rattle.view_world.specs.editing.Inflating.{asked_for, views_in, views_of}
+use Rattle.world_parts.specs.Shelves.{AreAtHand, AsksShelf}
+use Rattle.world_parts.specs.Given.{IsPlace}
+use Rattle.world_parts.specs.Inflating.{asked_for, views_in, views_of}
 use Rattle.view_world.specs.screen.KeyedScreen.{KeyedScreen, world_of}
 use Rattle.view_world.specs.world.Step.{graft_reason, grafted, inflation}
 use Rattle.view_world.specs.screen.Sound.{keyed}
 use Rattle.view_world.proofs.worlds.AfterLineLaws.{asks_placed, asks_unplaced}
 use Rattle.view_world.proofs.edits.FileLaws.{counts_failed, counts_nothing}
 use Rattle.view_world.proofs.edits.InflatingLaws.{inflated_as, inflates_as, reported_where_asked, views_of-bytes}
-use Rattle.view_world.proofs.states.SeedOffsets.{grown_unscrolled}
+use Rattle.world_parts.proofs.edits.SeedOffsets.{grown_unscrolled}
 use Rattle.view_world.proofs.edits.InflatingLaws.{place_number}
 use Rattle.view_world.proofs.edits.NamedLaws.{place_asked}
 use Rattle.std.specs.Prelude.{OnOk}

@@ -4,7 +4,7 @@ use Rattle.std.proofs.lemmas.Result.{err_from_is_err_and}
 use Rattle.view_world.proofs.worlds.AfterLineLaws.{reported, undone}
 use Rattle.view_world.proofs.edits.InflatingLaws.{asks_reported, writes_fault}
 use Rattle.view_world.proofs.edits.FileLaws.{asks_failed}
-use Rattle.view_world.specs.editing.Inflating.{asked_for}
+use Rattle.world_parts.specs.Inflating.{asked_for}
 use Rattle.view_tree.specs.Views.{plain_of}
 use Rattle.view_world.proofs.screen.Screen.inflate_line.Goals as goal
 

@@ -6,7 +6,7 @@ use Rattle.view_model.specs.Facts.{is_shown}
 use Rattle.view_tree.specs.Views.{IsLive, facts_of, number_of}
 use Rattle.view_world.specs.screen.KeyedScreen.{KeyedScreen, world_of}
 use Rattle.view_world.specs.screen.Sound.{keyed}
-use Rattle.view_world.specs.touching.Touching.{is_reported, parent_of}
+use Rattle.world_parts.specs.Touching.{is_reported, parent_of}
 use Rattle.view_world.proofs.edits.LeaveLaws.{nil-length, reported_child, reported_root}
 use Rattle.view_world.proofs.screen.Screen.is_reported.Goals as goal
 

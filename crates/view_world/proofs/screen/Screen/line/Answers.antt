@@ -2,9 +2,9 @@ use Rattle.std.proofs.Common.{◌≡◌, ℕ, List, sym, subst, ◌∙◌}
 use Rattle.std.specs.Prelude.{Option, None, Some}
 use Rattle.script_lines.specs.commands.PlainCommands.{plain_command}
 use Rattle.script_lines.specs.declared.words.naming.Name.{Name}
-use Rattle.view_world.specs.editing.Inflating.{asked_for, inflation_of}
+use Rattle.world_parts.specs.Inflating.{asked_for, inflation_of}
 use Rattle.view_world.specs.screen.KeyedScreen.{world_of}
-use Rattle.view_world.specs.world.Carried.{AsksShelf}
+use Rattle.world_parts.specs.Shelves.{AsksShelf}
 use Rattle.view_world.proofs.edits.FileLaws.{asks_none, inflates, unaided}
 use Rattle.view_world.proofs.edits.InflatingLaws.{inflation_recalls}
 use Rattle.view_world.proofs.screen.Screen.line.Goals as goal

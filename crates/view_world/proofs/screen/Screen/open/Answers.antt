@@ -1,9 +1,10 @@
 use Rattle.std.proofs.Common.{◌≡◌, pos, ◌≤ℤ◌, ap, subst, [], arith}
 use Rattle.std.proofs.lemmas.Int.{ints}
 use Rattle.seen_edits.proofs.ShownLaws.{shows_none}
-use Rattle.view_world.specs.world.World.{World}
+use Rattle.world_parts.specs.World.{World}
 use Rattle.view_world.specs.screen.KeyedScreen.{KeyedScreen, world_of}
-use Rattle.view_world.specs.world.Step.{Done, with_window}
+use Rattle.world_parts.specs.Reply.{Done}
+use Rattle.view_world.specs.world.Step.{with_window}
 use Rattle.view_world.specs.declared.screen.stage.Stage.TheVariants.{NoFrame}
 use Rattle.view_world.specs.screen.Sound.{keyed}
 use Rattle.view_world.proofs.worlds.WorldLaws.{Changed-window, at_stage, black_opened}

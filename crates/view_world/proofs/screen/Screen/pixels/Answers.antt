@@ -1,7 +1,7 @@
 use Rattle.std.proofs.Common.{sym, subst}
 use Rattle.std.proofs.lemmas.Int.{to_z-of_z}
-use Rattle.view_world.specs.replying.Responses.{IsPartOf}
-use Rattle.view_world.specs.declared.replying.pixels.Part.{Part}
+use Rattle.world_replies.specs.Responses.{IsPartOf}
+use Rattle.world_replies.specs.declared.pixels.Part.{Part}
 use Rattle.view_world.proofs.worlds.WorldLaws.{Changed-pixels, part-lies}
 use Rattle.view_world.proofs.screen.Screen.pixels.Goals as goal
 

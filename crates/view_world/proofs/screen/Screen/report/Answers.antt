@@ -1,5 +1,5 @@
 use Rattle.std.proofs.Common.{refl}
-use Rattle.view_world.specs.replying.Responses.{response_text}
+use Rattle.world_replies.specs.Responses.{response_text}
 use Rattle.view_world.proofs.screen.Screen.report.Goals as goal
 use Rattle.view_world.proofs.screen.Screen.report.Goals.{in-Ok, in-Err}
 

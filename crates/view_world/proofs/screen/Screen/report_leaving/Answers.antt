@@ -3,10 +3,10 @@ use Rattle.touch_dispatch.specs.handling.Handling.{Progress}
 use Rattle.view_tree.specs.Views.{IsLive, number_of, plain_of}
 use Rattle.view_world.specs.screen.KeyedScreen.{KeyedScreen, world_of}
 use Rattle.view_world.specs.screen.Sound.{keyed}
-use Rattle.view_world.specs.touching.Touching.{after_progress, leaving}
+use Rattle.world_parts.specs.Touching.{after_progress, leaving}
 use Rattle.view_world.proofs.touches.EventLaws.{sound_scrolled}
 use Rattle.view_world.proofs.edits.LeaveLaws.{leaving_silent, leaving_reported, plain_cancelled, scrolls_none, world_reported}
-use Rattle.view_world.proofs.touches.SceneLaws.{scrolls_geometry}
+use Rattle.world_parts.proofs.touches.SceneLaws.{scrolls_geometry}
 use Rattle.view_world.proofs.edits.GrownShown.{shows_alike}
 use Rattle.view_world.proofs.states.OffsetLaws.{offsets_scrolled}
 use Rattle.touch_dispatch.specs.reaching.TreeEvents.{OnlyScrolls}

@@ -7,7 +7,7 @@ use Rattle.view_world.specs.screen.Changed.{CarriesOut}
 use Rattle.view_world.specs.screen.KeyedScreen.{KeyedScreen, world_of}
 use Rattle.view_world.specs.screen.Sound.{keyed}
 use Rattle.view_world.specs.world.Step.{saved}
-use Rattle.view_world.specs.declared.replying.response.Response.TheVariants as response
+use Rattle.world_replies.specs.declared.response.Response.TheVariants as response
 use Rattle.view_world.proofs.screen.Screen.save.Goals as goal
 
 pub save-requires : goal.save-requires

@@ -3,11 +3,12 @@ use Rattle.std.specs.Str.{chars}
 use Rattle.script_lines.specs.declared.words.naming.Name.{Name}
 use Rattle.tree_edits.specs.Editing.{SetText}
 use Rattle.view_tree.specs.Views.{Views, number_of, plain_of}
-use Rattle.view_world.specs.declared.fault.StepFault.{StepFault}
-use Rattle.view_world.specs.declared.replying.response.Response.{Response}
+use Rattle.world_parts.specs.declared.fault.StepFault.{StepFault}
+use Rattle.world_replies.specs.declared.response.Response.{Response}
 use Rattle.view_world.specs.screen.Changed.{CarriesOut}
 use Rattle.view_world.specs.screen.KeyedScreen.{KeyedScreen, world_of}
-use Rattle.view_world.specs.world.Step.{Reply, after_edit, on_view}
+use Rattle.world_parts.specs.Reply.{Reply, on_view}
+use Rattle.view_world.specs.world.Step.{after_edit}
 use Rattle.view_world.proofs.worlds.WorldLaws.{Changed-on}
 use Rattle.view_world.proofs.edits.NamedLaws.{named_on}
 use Rattle.view_world.proofs.screen.Screen.set_text.Goals as goal

@@ -8,8 +8,8 @@ use Rattle.view_world.specs.screen.Changed.{CarriesOut}
 use Rattle.view_world.specs.screen.KeyedScreen.{KeyedScreen, world_of}
 use Rattle.view_world.specs.screen.Sound.{keyed}
 use Rattle.view_world.specs.world.Step.{removed}
-use Rattle.view_world.specs.touching.Touching.{after_progress, leaving}
-use Rattle.view_world.specs.declared.replying.response.Response.{Response}
+use Rattle.world_parts.specs.Touching.{after_progress, leaving}
+use Rattle.world_replies.specs.declared.response.Response.{Response}
 use Rattle.view_world.proofs.worlds.FitLaws.{fits_edited}
 use Rattle.view_world.proofs.edits.LeaveLaws.{Changed-remove, plain_removed, remove_done}
 use Rattle.view_world.proofs.edits.LeaveSound.{sound_removed}
@@ -21,7 +21,7 @@ use Rattle.seen_edits.specs.Shown.{seen_of}
 use Rattle.view_model.specs.Forest.{Forest}
 use Rattle.view_tree.specs.Rows.{Row, head_view, part_from}
 use Rattle.view_world.proofs.frames.EditRest.{loud_keeps}
-use Rattle.view_world.proofs.touches.SceneLaws.{scrolls_geometry}
+use Rattle.world_parts.proofs.touches.SceneLaws.{scrolls_geometry}
 use Rattle.view_world.proofs.frames.SeenLaws.{among_first, seen_alike, seen_named}
 use Rattle.view_world.specs.frames.Resting.{seen_on}
 use Rattle.view_tree.proofs.values.KeptLaws.{is_tree-same}

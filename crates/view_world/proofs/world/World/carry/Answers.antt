@@ -9,10 +9,12 @@ use Rattle.view_world.specs.declared.world.marks.Marks.{Marks}
 use Rattle.view_world.proofs.worlds.MarkLaws.{bounded, frame_or_not, leaves_all, marks_are, marks_line, measures_same, unchanged_all, world_same}
 use Rattle.view_world.specs.frames.Asked.{LeavesUnasked}
 use Rattle.view_world.proofs.worlds.AfterLineLaws.{parts_stay}
-use Rattle.view_world.specs.world.Carried.{AreAtHand, IsDone, WritesReply, fetches_after}
-use Rattle.view_world.specs.editing.Inflating.{asked_file}
-use Rattle.view_world.specs.world.Step.{Done, step}
-use Rattle.view_world.specs.world.World.{World}
+use Rattle.world_parts.specs.Shelves.{AreAtHand, fetches_after}
+use Rattle.view_world.specs.world.Carried.{IsDone, WritesReply}
+use Rattle.world_parts.specs.Inflating.{asked_file}
+use Rattle.world_parts.specs.Reply.{Done}
+use Rattle.view_world.specs.world.Step.{step}
+use Rattle.world_parts.specs.World.{World}
 use Rattle.tool_io.specs.Fetched.{Files}
 use Rattle.std.specs.Prelude.{◌⊎◌, [], None, Some}
 use Rattle.geom_core.specs.declared.geometry.Size.{Size}

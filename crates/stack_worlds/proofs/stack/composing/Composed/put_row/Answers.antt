@@ -1,7 +1,7 @@
 use Rattle.std.proofs.Common.{arith}
 use Rattle.text_lines.specs.Joined.{◌⧺◌}
 use Rattle.stack_worlds.specs.Composed.{composed_in}
-use Rattle.view_world.specs.replying.Replies.{pixel_text, separator}
+use Rattle.world_replies.specs.Replies.{pixel_text, separator}
 use Rattle.stack_worlds.proofs.ComposedLaws.{sends_next}
 use Rattle.stack_worlds.proofs.stack.composing.Composed.put_row.Goals as goal
 

@@ -2,7 +2,7 @@ use Rattle.std.proofs.Common.{◌-◌, ◌≤◌}
 use Rattle.text_lines.specs.BufferedText.{Sends}
 use Rattle.text_lines.specs.Joined.{◌⧺◌}
 use Rattle.stack_worlds.specs.Composed.{composed_in}
-use Rattle.view_world.specs.replying.Replies.{pixel_text, separator, texts_below}
+use Rattle.world_replies.specs.Replies.{pixel_text, separator, texts_below}
 use Rattle.stack_worlds.proofs.stack.composing.Composed.put_row.Given as goal
 
 abbrev pub invariant-loop-column : goal.invariant-loop-column

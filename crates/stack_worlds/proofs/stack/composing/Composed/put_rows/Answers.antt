@@ -1,6 +1,6 @@
 use Rattle.std.proofs.Common.{arith}
 use Rattle.stack_worlds.specs.Composed.{composed_in}
-use Rattle.view_world.specs.replying.Replies.{row_text}
+use Rattle.world_replies.specs.Replies.{row_text}
 use Rattle.stack_worlds.proofs.ComposedLaws.{sends_next}
 use Rattle.stack_worlds.proofs.stack.composing.Composed.put_rows.Goals as goal
 

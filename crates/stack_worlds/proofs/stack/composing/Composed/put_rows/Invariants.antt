@@ -1,7 +1,7 @@
 use Rattle.std.proofs.Common.{◌-◌, ◌≤◌}
 use Rattle.text_lines.specs.BufferedText.{Sends}
 use Rattle.stack_worlds.specs.Composed.{composed_in}
-use Rattle.view_world.specs.replying.Replies.{row_text, texts_below}
+use Rattle.world_replies.specs.Replies.{row_text, texts_below}
 use Rattle.stack_worlds.proofs.stack.composing.Composed.put_rows.Given as goal
 
 abbrev pub invariant-loop-row : goal.invariant-loop-row

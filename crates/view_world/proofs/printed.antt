@@ -1,4 +1,0 @@
--- Laws of the texts that are printed.
-pub mod PixelLaws
-pub mod ResponseLaws
-pub mod WalkLaws

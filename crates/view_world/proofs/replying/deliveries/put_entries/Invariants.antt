@@ -1,8 +1,0 @@
-use Rattle.std.proofs.Common.{take}
-use Rattle.text_lines.specs.BufferedText.{Sends}
-use Rattle.view_world.specs.replying.Deliveries.{entries_text}
-use Rattle.view_world.proofs.replying.deliveries.put_entries.Given as goal
-
-abbrev pub invariant-loop-entry : goal.invariant-loop-entry
-invariant-loop-entry g l =
-    Sends (g.K.Sink.state l.fn.sink) (g.K.Sink.state l.sink) l.fn.text l.text (entries_text (take l.entry-index l.entries))

@@ -1,6 +1,0 @@
-use Rattle.std.proofs.lemmas.Int.{to_z-of_z}
-use Rattle.text_lines.proofs.Sending.{◌⨾◌}
-use Rattle.view_world.proofs.replying.deliveries.put_place.Goals as goal
-
-pub returns : goal.returns
-returns g c = simp (to_z-of_z, c.ranges.x, c.ranges.y) at (c.put_number.ensures ⨾ c.put.ensures ⨾ c.put_number-2.ensures)

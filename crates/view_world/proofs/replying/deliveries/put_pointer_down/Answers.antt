@@ -1,5 +1,0 @@
-use Rattle.text_lines.proofs.Sending.{◌⨾◌}
-use Rattle.view_world.proofs.replying.deliveries.put_pointer_down.Goals as goal
-
-pub returns : goal.returns
-returns g c = c.put.ensures ⨾ c.put_pointer.ensures

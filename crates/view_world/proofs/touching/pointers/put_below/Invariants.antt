@@ -1,6 +1,0 @@
-use Rattle.std.proofs.Common.{◌≡◌, ◌++◌, take}
-use Rattle.view_world.specs.touching.Pointers.{points_below}
-use Rattle.view_world.proofs.touching.pointers.put_below.Given as goal
-
-abbrev pub invariant-loop-point : goal.invariant-loop-point
-invariant-loop-point l = l.all.items ≡ l.fn.all.items ++ points_below l.id (take l.point-index l.points)

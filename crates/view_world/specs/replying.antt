@@ -1,4 +1,0 @@
--- The texts that are printed.
-pub mod Deliveries
-pub mod Replies
-pub mod Responses

@@ -1,3 +1,0 @@
--- Pointers, and what events do.
-pub mod Pointers
-pub mod Touching

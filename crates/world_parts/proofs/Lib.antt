@@ -1,0 +1,3 @@
+pub mod edits
+pub mod touches
+pub mod trees

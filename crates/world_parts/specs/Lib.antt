@@ -1,0 +1,11 @@
+pub mod Faults
+pub mod Given
+pub mod Inflating
+pub mod Naming
+pub mod Places
+pub mod Pointers
+pub mod Reply
+pub mod Resources
+pub mod Shelves
+pub mod Touching
+pub mod World

@@ -1,0 +1,4 @@
+mod HexLaws
+mod PixelLaws
+mod ResponseLaws
+mod WalkLaws

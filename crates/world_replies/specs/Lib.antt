@@ -1,0 +1,4 @@
+pub mod Bounds
+pub mod Deliveries
+pub mod Replies
+pub mod Responses
