@@ -14,7 +14,7 @@ use Rattle.view_model.specs.declared.facts.Facts.{Facts}
 use Rattle.view_model.specs.declared.kinds.Answer.TheVariants.{Off}
 use Rattle.view_model.specs.declared.kinds.Visibility.TheVariants.{Visible}
 use Rattle.view_model.specs.declared.placing.Direction.TheVariants.{Inherit}
-use Rattle.view_model.specs.Facts.{no_gravity}
+use Rattle.view_model.specs.Facts.{new_facts, no_gravity}
 use Rattle.view_model.specs.Numbers.{duplicate, max_size, no_size, theme_ref}
 use Rattle.view_model.specs.Refusals.{PlainRefusal, refusal_numbered, ◌>>=◌}
 use Rattle.view_model.specs.Resources.{Entries, Resource, Color, Dimen, Text}
@@ -40,7 +40,7 @@ use Rattle.attr_table.specs.Values.{below_given, boolean_given, color_of, dimens
 
 -- the facts by the places of attributes
 placed_facts : (ℕ → Option Given) → Facts
-placed_facts value = record {
+placed_facts value = record (new_facts (pos 0) (pos 0)) {
   id = word_or 0 (value 0);
   width = pixels_or_0 (value 1);
   height = pixels_or_0 (value 2);
@@ -70,14 +70,11 @@ placed_facts value = record {
   background = record { 0 = word_or 0 (value 26) };
   ink = record { 0 = word_or 0xffff_ffff (value 27) };
   answer = word_as Off answer_of (value 29);
-  intercept = 0;
   clip = is_set true (value 30);
   fill = is_set false (value 31);
   split = is_set true (value 32);
-  offset = pos 0;
   rules = record { values = map (λ place. word_or 0 (value place)) (range_with_len 33 21) };
   direction = word_as Inherit direction_of (value 25);
-  rtl = false;
 }
 
 -- the draft of these values, and of so many attributes that are not known

@@ -10,7 +10,7 @@ use Rattle.view_model.specs.declared.facts.Facts.{Facts}
 use Rattle.view_model.specs.declared.kinds.Answer.TheVariants.{Off}
 use Rattle.view_model.specs.declared.kinds.Visibility.TheVariants.{Visible}
 use Rattle.view_model.specs.declared.placing.Direction.TheVariants.{Inherit}
-use Rattle.view_model.specs.Facts.{no_gravity}
+use Rattle.view_model.specs.Facts.{new_facts, no_gravity}
 use Rattle.view_model.specs.Refusals.{PlainRefusal}
 use Rattle.view_model.specs.Resources.{Entries, Resource}
 use Rattle.attr_table.specs.declared.given.Given.{Given}
@@ -117,9 +117,10 @@ rule_names =
     ∷ codes "layout_centerVertical"
     ∷ []
 
--- each fact by the attribute that sets it, besides a margin and a padding for all sides
+-- each fact by the attribute that sets it, besides a margin and a padding for all sides; one that none sets is that of
+-- a new view
 unfoldable pub single_facts : (List ℕ → Option Given) → Facts
-single_facts value = record {
+single_facts value = record (new_facts (pos 0) (pos 0)) {
   id = word_or 0 (value (codes "id"));
   width = pixels_or_0 (value (codes "layout_width"));
   height = pixels_or_0 (value (codes "layout_height"));
@@ -149,14 +150,11 @@ single_facts value = record {
   background = record { 0 = word_or 0 (value (codes "background")) };
   ink = record { 0 = word_or 0xffff_ffff (value (codes "textColor")) };
   answer = word_as Off answer_of (value (codes "clickable"));
-  intercept = 0;
   clip = is_set true (value (codes "clipToPadding"));
   fill = is_set false (value (codes "fillViewport"));
   split = is_set true (value (codes "splitMotionEvents"));
-  offset = pos 0;
   rules = record { values = map (λ name. word_or 0 (value name)) rule_names };
   direction = word_as Inherit direction_of (value (codes "layoutDirection"));
-  rtl = false;
 }
 
 -- all facts, by the names of attributes
