@@ -13,6 +13,8 @@ TOP = os.path.dirname(os.path.dirname(os.path.realpath(__file__)))
 SECONDS = 60
 
 sys.path.insert(0, os.path.join(TOP, "tools"))
+# tools that checks call keep their compiled modules, since they start in half of the time then
+os.environ.pop("PYTHONDONTWRITEBYTECODE", None)
 
 from vindaesk.common.failures import Failure
 from vindaesk.program import process

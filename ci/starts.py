@@ -10,7 +10,7 @@ from running import SECONDS, TOP, Checks, named
 OF_PYTHON = frozenset(
     "__future__ _ast _collections _colorize _compat_pickle _functools _locale _opcode _operator _posixsubprocess "
     "_sre _struct _typing _weakrefset annotationlib argparse ast collections contextlib copyreg enum errno fcntl "
-    "functools gettext heapq io itertools keyword locale math msvcrt operator os re reprlib select selectors signal "
+    "functools gettext heapq importlib io itertools keyword locale math msvcrt operator os re reprlib select selectors signal "
     "sre_compile sre_constants sre_parse subprocess sys threading time types typing warnings".split(" "))
 # modules of the package, beside the packages that they are in
 OWN = frozenset(

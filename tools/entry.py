@@ -2,10 +2,31 @@
 compiled modules are kept in out/; elsewhere they are beside their sources, where they were compiled or can be."""
 import os
 import sys
+from importlib.machinery import FileFinder, SourceFileLoader
+from types import CodeType
+from typing import Optional
 
 TOOLS = os.path.dirname(os.path.realpath(__file__))
 TOP = os.path.dirname(TOOLS)
 LEAST = (3, 8)
+
+
+class Loader(SourceFileLoader):
+    """Loads a module of the package, whose compiled form is kept in out/. Python's own modules are compiled already."""
+
+    def get_code(self, fullname: str) -> Optional[CodeType]:
+        before, sys.pycache_prefix = sys.pycache_prefix, os.path.join(TOP, "out", "pycache")
+        try:
+            return super().get_code(fullname)
+        finally:
+            sys.pycache_prefix = before
+
+
+def finder(path: str) -> FileFinder:
+    """What finds the modules in a folder of the package."""
+    if not (path + os.sep).startswith(TOOLS + os.sep) or not os.path.isdir(path):
+        raise ImportError
+    return FileFinder(path, (Loader, [".py"]))
 
 
 def prepare() -> None:
@@ -13,7 +34,8 @@ def prepare() -> None:
     if TOOLS not in sys.path:
         sys.path.insert(0, TOOLS)
     if os.path.exists(os.path.join(TOP, "crates.txt")):
-        sys.pycache_prefix = os.path.join(TOP, "out", "pycache")
+        sys.path_hooks.insert(0, finder)
+        sys.path_importer_cache.pop(TOOLS, None)
 
 
 def run(path: str) -> None:
