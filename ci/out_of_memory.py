@@ -34,6 +34,30 @@ WITHIN, AFTER = 16, 64
 NEVER, ALWAYS = 0, 1 << 40
 TABLE = os.path.join("app", "resources.arsc")
 CALLS = (("dump", "a.xml"), ("lookup", "resources.arsc", "7f010000", "7f020000"), ("gen", "1"))
+# a program that says which calls gave it memory
+EACH_CALL = """#define _GNU_SOURCE
+#include <malloc.h>
+#include <stdio.h>
+#include <stdlib.h>
+#include <sys/mman.h>
+#define TRY(name, call) if ((call) != NULL) puts(name)
+int main(void) {
+    void *volatile block = NULL;
+    static char said[4096];
+    setvbuf(stdout, said, _IOFBF, sizeof said);
+    TRY("malloc", block = malloc(64));
+    TRY("calloc", block = calloc(8, 8));
+    TRY("realloc", block = realloc(NULL, 64));
+    TRY("aligned_alloc", block = aligned_alloc(64, 64));
+    TRY("memalign", block = memalign(64, 64));
+    TRY("posix_memalign", posix_memalign((void **)&block, 64, 64) ? NULL : block);
+    block = mmap(NULL, 4096, PROT_READ, MAP_PRIVATE | MAP_ANONYMOUS, -1, 0);
+    TRY("mmap", block == MAP_FAILED ? NULL : block);
+    block = mmap64(NULL, 4096, PROT_READ, MAP_PRIVATE | MAP_ANONYMOUS, -1, 0);
+    TRY("mmap64", block == MAP_FAILED ? NULL : block);
+    return 0;
+}
+"""
 LINES = """dpi 160
 res @7f010001 color #ff112233
 res @7f010002 dimen 12 dp
@@ -118,12 +142,14 @@ def place() -> "tempfile.TemporaryDirectory[str]":
     return folder
 
 
-def refusing(first: int, last: int, words: Words = ("run",), lines: Words = ()) -> Tuple[bytes, int, int]:
+def refusing(
+    first: int, last: int, words: Words = ("run",), lines: Words = (), program: str = PROGRAM
+) -> Tuple[bytes, int, int]:
     """What a call writes, its status, and the count of its requests, of which those with these numbers are refused."""
     folder = place().name
     variables = {"LD_PRELOAD": os.path.join(folder, "out_of_memory.so"), "FIRST": str(first), "LAST": str(last)}
     ended = subprocess.run(
-        [PROGRAM, *words], input="".join(line + "\n" for line in lines).encode(), stdout=subprocess.PIPE,
+        [program, *words], input="".join(line + "\n" for line in lines).encode(), stdout=subprocess.PIPE,
         stderr=subprocess.PIPE, cwd=folder, env={**os.environ, **variables}, timeout=SECONDS
     )
     # a run that a signal ends does not report its requests
@@ -184,6 +210,19 @@ def each_form() -> str:
     return "" if makes == set(TAKING) else "requests are made by %s" % sorted(makes)
 
 
+def each_call() -> str:
+    """Which calls of the library of C are not refused or not counted, or nothing."""
+    path = os.path.join(place().name, "each_call")
+    words = ["cc", "-O0", "-fno-builtin", "-x", "c", "-o", path, "-"]
+    subprocess.run(words, input=EACH_CALL.encode(), check=True)
+    names = EACH_CALL.count("TRY(\"")
+    given, _, made = refusing(NEVER, NEVER, (), program=path)
+    taken, _, requests = refusing(1, ALWAYS, (), program=path)
+    if taken or len(given.split()) != names:
+        return "refused, memory is given by: %s; else by: %s" % (taken.decode().split(), given.decode().split())
+    return "" if requests == made == names else "of %d calls %d and %d are counted" % (names, made, requests)
+
+
 def first_run(number: int) -> Optional[Tuple[int, bytes]]:
     """The status of the test's first script and what that has written, with this request refused; or nothing, if the
     request is not one of its run."""
@@ -213,6 +252,7 @@ def sink() -> str:
 
 
 def checks() -> Checks:
+    yield "memory/requests/each call", each_call
     yield "memory/requests/each form", each_form
     yield "memory/requests/a sink in memory", sink
     yield "memory/requests/before the lines", before_the_lines
