@@ -1,6 +1,12 @@
-"""The edits that must fail, crates/*/must-fail/*.edit: each says what a user would see were it taken (`# why:`), and most
-say where the prover has to refuse it (`# clause:`). `ci/edits` prints where it refused each, from what `rt ci` printed, and
-writes the lines `# clause:`."""
+"""The edits that must fail, crates/*/must-fail/*.edit: each says what a user would see were it taken (`# why:`), and
+most say where the prover has to refuse it (`# clause:`). `ci/edits` prints where it refused each, from what `rt ci`
+printed, and writes the lines `# clause:`.
+
+A place is the file, its function, and the clause, as `src/links.rt unlink kept`; or the file of a law, and the law.
+Where a function is refused for another reason than a clause with a name, the last word is the kind of the goal:
+`returns` for what it promises, `requires` for what a call asks, `loop`, `invariant_of` for a type. An edit that is
+refused at several places has a line for each, since `rt ci` prints one of them. A line without a last word is met by
+each goal of the function."""
 import glob
 import os
 import re
@@ -13,11 +19,17 @@ CLAUSE = "# clause: "
 # the variable that names the file with what `rt ci` printed, which `.ci/run` sets
 LOG = "VINDAESK_PROOFS_LOG"
 # what `rt ci` prints of an edit: its crate, its name, and where it was refused
-REFUSED = re.compile(r"must-fail (\w+)/([\w.-]+)\.edit: refused, as it must be(?: \([^)]*\))?: (?:note: )?(?:\./)?(\S+?):(\d+):\d+: (.*)")
+REFUSED = re.compile(
+    r"must-fail (\w+)/([\w.-]+)\.edit: refused, as it must be(?: \([^)]*\))?: (?:note: )?(?:\./)?(\S+?):(\d+):\d+: (.*)"
+)
 FUNCTION = re.compile(r"\s*(?:pub(?:\([a-z]+\))? )?(?:const )?fn (\w+)")
-# a law, an example or another item of a file of definitions or proofs, as a message names it
-ITEM = re.compile(r"(?:error: )?`([^`]*)`: ")
-GOAL = re.compile(r"\(`([\w-]+)`\)")
+# a goal, or a law, an example or another item of a file of definitions or proofs, as a message names it. `rt` cuts a
+# message, so it may end before
+GOAL = re.compile(r"\(`([^`]+)`\)")
+ITEM = re.compile(r"(?:error: )?`([^`]+)`: ")
+# what the name of a goal has of the clause, or of the kind; between them are the branches on the way to it
+CLAUSE_OF_GOAL = re.compile(r"-clause-(\w+)$")
+KIND_OF_GOAL = re.compile(r"(returns|requires|loop|invariant_of)(?![a-z_])")
 
 
 class Edit(NamedTuple):
@@ -31,11 +43,15 @@ class Edit(NamedTuple):
         """What its lines say that begin with a mark."""
         return [line[len(mark):].strip() for line in self.lines if line.startswith(mark)]
 
-    def with_clause(self, clause: str) -> List[str]:
-        """Its lines with one line `# clause:`, after the one that says why."""
+    def with_clauses(self, *clauses: str) -> List[str]:
+        """Its lines with these lines `# clause:`, after the one that says why."""
         lines = [line for line in self.lines if not line.startswith(CLAUSE)]
         after = next((number for number, line in enumerate(lines, 1) if line.startswith(WHY)), 0)
-        return [*lines[:after], CLAUSE + clause, *lines[after:]]
+        return [*lines[:after], *(CLAUSE + it for it in clauses), *lines[after:]]
+
+    def names(self, place: str) -> bool:
+        """Whether it has a line for a place. Where a message was cut, the place lacks its last word."""
+        return any(all(map(str.__eq__, it.split(), place.split())) for it in self.said(CLAUSE))
 
 
 def path_of(crate: str, name: str) -> str:
@@ -50,20 +66,26 @@ def edits() -> Iterator[Edit]:
 
 
 def function_at(crate: str, path: str, number: int) -> str:
-    """The function of a file of sources that has a line, by the line's number from 1."""
+    """The function of a file of sources that has a line, by the line's number from 1, or that has this line as one of
+    its attributes."""
     with open(os.path.join(TOP, "crates", crate, path), encoding="utf-8") as file:
-        found = [FUNCTION.match(line) for line in file.read().splitlines()[:number]]
-    return next((it[1] for it in reversed(found) if it), "")
+        lines = file.read().splitlines()
+    is_before = lines[number - 1].lstrip().startswith("#[")
+    found = map(FUNCTION.match, lines[number:] if is_before else lines[number - 1::-1])
+    return next((it[1] for it in found if it), "")
+
+
+def of_goal(name: str) -> str:
+    """What of a goal's name stays when the code has other branches: its clause, or its kind; of a law the name."""
+    found = CLAUSE_OF_GOAL.search(name) or KIND_OF_GOAL.search(name)
+    return found[1] if found else name
 
 
 def place(crate: str, path: str, number: int, message: str) -> str:
-    """Where an edit was refused, in words that stay when lines move: the file, and its function with the goal, or its law."""
-    if path.startswith("src/"):
-        goal = GOAL.search(message)
-        words = [path, function_at(crate, path, number), goal[1].split("-then-")[0] if goal else ""]
-    else:
-        item = ITEM.match(message)
-        words = [path, item[1] if item else ""]
+    """Where an edit was refused, in words that stay when lines move."""
+    is_source = path.startswith("src/")
+    found = GOAL.search(message) if is_source else ITEM.match(message)
+    words = [path, function_at(crate, path, number) if is_source else "", of_goal(found[1]) if found else ""]
     return " ".join(word for word in words if word)
 
 
@@ -84,8 +106,8 @@ def refused_elsewhere(places: Dict[Tuple[str, str], str]) -> str:
     wrong = []
     for it in edits():
         place = places.get((it.crate, it.name), "nowhere that the log says")
-        if it.said(CLAUSE) not in ([], [place]):
-            wrong.append("%s/%s: refused at %s, not at %s" % (it.crate, it.name, place, " ".join(it.said(CLAUSE))))
+        if it.said(CLAUSE) and not it.names(place):
+            wrong.append("%s/%s: refused at %s, not at %s" % (it.crate, it.name, place, " or ".join(it.said(CLAUSE))))
     return "; ".join(wrong)
 
 
