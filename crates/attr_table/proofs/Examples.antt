@@ -4,7 +4,7 @@ use Rattle.std.specs.List.{range_with_len}
 use Rattle.axml_reader.specs.declared.doc.Attr.{Attr}
 use Rattle.axml_reader.specs.declared.doc.Node.TheVariants.{Start}
 use Rattle.view_model.specs.declared.facts.Facts.{Facts}
-use Rattle.view_model.specs.declared.kinds.Visibility.TheVariants as visibility
+use Rattle.view_model.specs.declared.visibility.Visibility.TheVariants as visibility
 use Rattle.view_model.specs.declared.placing.Across.{Across}
 use Rattle.view_model.specs.declared.placing.Across.TheVariants as across
 use Rattle.view_model.specs.declared.placing.Down.{Down}

@@ -11,8 +11,8 @@ use Rattle.axml_reader.specs.declared.doc.Attr.{Attr}
 use Rattle.axml_reader.specs.declared.doc.Node.{Node}
 use Rattle.axml_reader.specs.Document.{Document}
 use Rattle.view_model.specs.declared.facts.Facts.{Facts}
-use Rattle.view_model.specs.declared.kinds.Answer.TheVariants.{Off}
-use Rattle.view_model.specs.declared.kinds.Visibility.TheVariants.{Visible}
+use Rattle.view_model.specs.declared.answer.Answer.TheVariants.{Off}
+use Rattle.view_model.specs.declared.visibility.Visibility.TheVariants.{Visible}
 use Rattle.view_model.specs.declared.placing.Direction.TheVariants.{Inherit}
 use Rattle.view_model.specs.Facts.{new_facts, no_gravity}
 use Rattle.view_model.specs.Numbers.{duplicate, max_size, no_size, theme_ref}

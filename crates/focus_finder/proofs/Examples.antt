@@ -7,10 +7,10 @@ use Rattle.view_model.specs.Forest.{Forest, Nothing, Branch}
 use Rattle.view_model.specs.Geometry.{Laid}
 use Rattle.view_model.specs.PlainTree.{PlainView}
 use Rattle.view_model.specs.declared.facts.Facts.{Facts}
-use Rattle.view_model.specs.declared.kinds.Answer.TheVariants.{Yes, Click}
-use Rattle.view_model.specs.declared.kinds.Class.{Class}
-use Rattle.view_model.specs.declared.kinds.Class.TheVariants as class
-use Rattle.view_model.specs.declared.kinds.Visibility.TheVariants.{Invisible}
+use Rattle.view_model.specs.declared.answer.Answer.TheVariants.{Yes, Click}
+use Rattle.view_model.specs.declared.class.Class.{Class}
+use Rattle.view_model.specs.declared.class.Class.TheVariants as class
+use Rattle.view_model.specs.declared.visibility.Visibility.TheVariants.{Invisible}
 use Rattle.focus_finder.specs.Focus.{distance_of, next_focus}
 use Rattle.focus_finder.specs.declared.side.Side.TheVariants.{Left, Right, Up, Down}
 

@@ -13,8 +13,8 @@ use Rattle.view_model.specs.Classes.{scrolls}
 use Rattle.view_model.specs.Painting.{is_drawn}
 use Rattle.view_model.specs.PlainTree.{PlainView}
 use Rattle.view_model.specs.Visible.{visible_rect}
-use Rattle.view_model.specs.declared.kinds.Answer.{Answer}
-use Rattle.view_model.specs.declared.kinds.Answer.TheVariants.{Off, Yes, Click}
+use Rattle.view_model.specs.declared.answer.Answer.{Answer}
+use Rattle.view_model.specs.declared.answer.Answer.TheVariants.{Off, Yes, Click}
 use Rattle.focus_finder.specs.declared.keys.FocusKey.{FocusKey}
 use Rattle.focus_finder.specs.declared.searching.Candidate.{Candidate}
 use Rattle.focus_finder.specs.declared.side.Side.{Side}

@@ -8,10 +8,10 @@ use Rattle.attr_table.specs.Values.{extent_given, found_of, pixels_within, signe
 use Rattle.axml_reader.specs.declared.doc.Node.{Node}
 use Rattle.axml_reader.specs.declared.doc.Node.TheVariants.{NsStart, NsEnd, Start, End, Chars}
 use Rattle.axml_reader.specs.Document.{Document}
-use Rattle.view_model.specs.declared.kinds.Class.{Class}
+use Rattle.view_model.specs.declared.class.Class.{Class}
 use Rattle.view_model.specs.declared.sprout.Sprout.{Sprout}
 use Rattle.view_model.specs.Sprouts.{preorder}
-use Rattle.view_model.specs.declared.kinds.Class.TheVariants.{View, FrameLayout}
+use Rattle.view_model.specs.declared.class.Class.TheVariants.{View, FrameLayout}
 use Rattle.view_model.specs.Forest.{Nothing, Branch}
 use Rattle.view_model.specs.Refusals.{Element, PlainRefusal}
 use Rattle.inflater.specs.ClassNames.{class_of}

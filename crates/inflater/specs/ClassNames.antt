@@ -2,9 +2,9 @@
 use Rattle.std.specs.Prelude.{ℕ, List, [], ◌∷◌, Option, Some, None, codes}
 use Rattle.std.specs.Map.{lookup}
 use Rattle.std.specs.Str.{bytes_eq}
-use Rattle.view_model.specs.declared.kinds.Class.{Class}
-use Rattle.view_model.specs.declared.kinds.Class.TheVariants.{View, TextView, FrameLayout, LinearLayout, RelativeLayout}
-use Rattle.view_model.specs.declared.kinds.Class.TheVariants.{ScrollView}
+use Rattle.view_model.specs.declared.class.Class.{Class}
+use Rattle.view_model.specs.declared.class.Class.TheVariants.{View, TextView, FrameLayout, LinearLayout, RelativeLayout}
+use Rattle.view_model.specs.declared.class.Class.TheVariants.{ScrollView}
 
 -- each class by its name alone, and with its package before it
 abbrev pub class_names : List (List ℕ × Class)

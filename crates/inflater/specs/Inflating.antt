@@ -4,7 +4,7 @@ use Rattle.attr_table.specs.Taking.{Facets, facets_of}
 use Rattle.axml_reader.specs.declared.doc.Node.{Node}
 use Rattle.axml_reader.specs.declared.doc.Node.TheVariants.{NsStart, NsEnd, Start, End, Chars}
 use Rattle.axml_reader.specs.Document.{Document}
-use Rattle.view_model.specs.declared.kinds.Class.{Class}
+use Rattle.view_model.specs.declared.class.Class.{Class}
 use Rattle.view_model.specs.Numbers.{unknown_class}
 use Rattle.view_model.specs.Forest.{Forest, Nothing, Branch, count_of}
 use Rattle.view_model.specs.Refusals.{◌>>=◌, PlainRefusal, Element}

@@ -5,7 +5,7 @@ use Rattle.std.proofs.lemmas.Bool.{cases_Bool}
 use Rattle.std.specs.Prelude.{if◌then◌else◌}
 use Rattle.geom_core.specs.declared.geometry.Rect.{Rect}
 use Rattle.view_model.specs.declared.facts.Facts.{Facts}
-use Rattle.view_model.specs.declared.kinds.Class.{Class}
+use Rattle.view_model.specs.declared.class.Class.{Class}
 use Rattle.view_model.proofs.ClassLaws.{range_nowhere}
 use Rattle.view_model.specs.Facts.{is_shown}
 use Rattle.view_model.specs.Forest.{Forest, Nothing, Branch}

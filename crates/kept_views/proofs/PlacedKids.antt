@@ -6,8 +6,8 @@ use Rattle.std.specs.Prelude.{map, filter, reverse}
 use Rattle.std.specs.List.{flat_map}
 use Rattle.geom_core.specs.declared.geometry.Rect.{Rect}
 use Rattle.geom_core.specs.declared.geometry.Size.{Size}
-use Rattle.view_model.specs.declared.kinds.Class.{Class}
-use Rattle.view_model.specs.declared.kinds.Class.TheVariants.{RelativeLayout}
+use Rattle.view_model.specs.declared.class.Class.{Class}
+use Rattle.view_model.specs.declared.class.Class.TheVariants.{RelativeLayout}
 use Rattle.view_model.proofs.ClassLaws.{place_sides, relative_is}
 use Rattle.view_model.specs.Course.{Child, Requested, last_of}
 use Rattle.view_model.specs.Facts.{is_shown}

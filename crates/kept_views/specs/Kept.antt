@@ -4,7 +4,7 @@ use Rattle.std.specs.Prelude.{None}
 use Rattle.geom_core.specs.declared.geometry.Rect.{Rect}
 use Rattle.geom_core.specs.declared.geometry.Size.{Size}
 use Rattle.measure_cache.specs.Entries.{found}
-use Rattle.view_model.specs.declared.kinds.Class.TheVariants.{RelativeLayout}
+use Rattle.view_model.specs.declared.class.Class.TheVariants.{RelativeLayout}
 use Rattle.view_model.specs.Facts.{is_shown}
 use Rattle.view_model.specs.Forest.{Forest, Nothing, Branch, EveryRow}
 use Rattle.view_model.specs.Geometry.{size_of_rect}

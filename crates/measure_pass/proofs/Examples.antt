@@ -5,9 +5,9 @@ use Rattle.geom_core.specs.Spec.{child_spec_of, default_size_of, remaining_of, r
 use Rattle.kept_views.specs.Kept.{last_specs}
 use Rattle.measure_pass.specs.Measured.{calls_under, finals_under, size_under}
 use Rattle.view_model.specs.declared.facts.Facts.{Facts}
-use Rattle.view_model.specs.declared.kinds.Class.{Class}
-use Rattle.view_model.specs.declared.kinds.Class.TheVariants as class
-use Rattle.view_model.specs.declared.kinds.Visibility.TheVariants.{Gone}
+use Rattle.view_model.specs.declared.class.Class.{Class}
+use Rattle.view_model.specs.declared.class.Class.TheVariants as class
+use Rattle.view_model.specs.declared.visibility.Visibility.TheVariants.{Gone}
 use Rattle.view_model.specs.Facts.{new_facts}
 use Rattle.view_model.specs.Forest.{Forest, Nothing, Branch}
 use Rattle.view_model.specs.FrameLayout.{second_spec}

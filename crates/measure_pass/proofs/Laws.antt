@@ -8,8 +8,8 @@ use Rattle.measure_pass.proofs.Lawful.{IsLawful}
 use Rattle.measure_pass.proofs.LeafLaws.{leaf_lawful}
 use Rattle.measure_pass.proofs.LinearLaws.{linear_lawful}
 use Rattle.view_model.specs.declared.facts.Facts.{Facts}
-use Rattle.view_model.specs.declared.kinds.Class.{Class}
-use Rattle.view_model.specs.declared.kinds.Class.TheVariants.{View, TextView, FrameLayout, LinearLayout, ScrollView, RelativeLayout}
+use Rattle.view_model.specs.declared.class.Class.{Class}
+use Rattle.view_model.specs.declared.class.Class.TheVariants.{View, TextView, FrameLayout, LinearLayout, ScrollView, RelativeLayout}
 use Rattle.view_model.specs.Course.{Child}
 use Rattle.view_model.specs.Classes.{is_group}
 use Rattle.view_model.specs.Layout.{course_in, manner_by, manner_of, measured_by}

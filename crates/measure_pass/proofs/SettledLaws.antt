@@ -20,7 +20,7 @@ use Rattle.relative_layout.proofs.orders.TurnLaws.{in_turns, size_in_turns}
 use Rattle.relative_layout.specs.plan.RelativePlan.{spanned_in}
 use Rattle.view_model.proofs.RelativeAlike.{requested_child}
 use Rattle.view_model.specs.declared.facts.Facts.{Facts}
-use Rattle.view_model.specs.declared.kinds.Class.TheVariants.{RelativeLayout}
+use Rattle.view_model.specs.declared.class.Class.TheVariants.{RelativeLayout}
 use Rattle.view_model.specs.declared.relative.Axis.TheVariants.{Horizontal, Vertical}
 use Rattle.view_model.specs.Course.{Child, Course, Requested}
 use Rattle.view_model.specs.Facts.{is_shown, layout_facts}

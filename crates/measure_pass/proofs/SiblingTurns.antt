@@ -27,8 +27,8 @@ use Rattle.relative_layout.proofs.plans.CourseLaws.{IsKidOrder, anchors_same, sp
 use Rattle.relative_layout.specs.plan.RelativePlan.{RepresentsRelative, edges_as, spanned_as, spanned_at, spanned_in}
 use Rattle.relative_layout.specs.declared.plan.RelativePlan.{RelativePlan}
 use Rattle.view_model.specs.declared.facts.Facts.{Facts}
-use Rattle.view_model.specs.declared.kinds.Class.{Class}
-use Rattle.view_model.specs.declared.kinds.Class.TheVariants.{RelativeLayout}
+use Rattle.view_model.specs.declared.class.Class.{Class}
+use Rattle.view_model.specs.declared.class.Class.TheVariants.{RelativeLayout}
 use Rattle.view_model.specs.declared.relative.Anchors.{Anchors}
 use Rattle.view_model.specs.declared.relative.Axis.{Axis}
 use Rattle.view_model.specs.declared.relative.Axis.TheVariants.{Horizontal, Vertical}

@@ -7,7 +7,7 @@ use Rattle.measure_pass.specs.Caches.{AskedAt, Grown, asked_under}
 use Rattle.kept_views.specs.Kept.{IsSized, Sized, last_edges, last_specs}
 use Rattle.measure_pass.specs.Measured.{Costs, calls_under, edges_under, finals_under, size_under, total_under}
 use Rattle.measure_pass.specs.Plans.{Group, GroupPlan, Represents, rule_in}
-use Rattle.view_model.specs.declared.kinds.Class.TheVariants.{RelativeLayout}
+use Rattle.view_model.specs.declared.class.Class.TheVariants.{RelativeLayout}
 use Rattle.view_model.specs.Course.{Child, MeasuringProgress, Requested, after_phase, after_turn, last_of, measured_of}
 use Rattle.view_model.specs.Course.{one_phase, phases_on, size_after, size_in, sizes_of}
 use Rattle.view_model.specs.Facts.{is_shown}

@@ -4,7 +4,7 @@ use Rattle.measure_pass.specs.Siblings.{IsKidAt, kept_spans, kids_in}
 use Rattle.measure_pass.specs.declared.anchors.Search.{Search}
 use Rattle.measure_pass.specs.declared.replacements.Replacement.{Replacement}
 use Rattle.measure_pass.specs.declared.replacements.Replacements.{Replacements}
-use Rattle.view_model.specs.declared.kinds.Class.TheVariants.{RelativeLayout}
+use Rattle.view_model.specs.declared.class.Class.TheVariants.{RelativeLayout}
 use Rattle.view_model.specs.declared.relative.Anchor.{Anchor}
 use Rattle.view_model.specs.declared.relative.Axis.{Axis}
 use Rattle.view_model.specs.declared.relative.Tie.TheVariants.{Before, After, AlignNear, AlignFar}

@@ -7,7 +7,7 @@ ghost use Rattle.std.specs.Prelude.{◌≡◌, ℕ, IfSome};
 ghost use Rattle.measure_pass.specs.Measured.{kids_from};
 ghost use Rattle.measure_pass.specs.Replacing.{AreReplaced, IsAnchorBy, IsReplaced, MaySearch, instead_of};
 ghost use Rattle.measure_pass.specs.Siblings.{IsKidAt, edge_on, first_span, kept_spans, kids_in};
-ghost use Rattle.view_model.specs.declared.kinds.Class.TheVariants.{RelativeLayout};
+ghost use Rattle.view_model.specs.declared.class.Class.TheVariants.{RelativeLayout};
 ghost use Rattle.view_model.specs.Facts.{is_shown, layout_facts};
 ghost use Rattle.view_model.specs.RelativeCourse.{anchor_with, anchors_by, child_at, links_of};
 ghost use Rattle.view_model.specs.RelativeLayout.{span_or_none};

@@ -6,7 +6,7 @@ ghost use Rattle.measure_pass.specs.Siblings.{FirstHasEdges, FirstHasSize, HaveS
 ghost use Rattle.relative_layout.specs.plan.RelativePlan.{RepresentsRelative};
 ghost use Rattle.view_model.specs.declared.facts.Facts.{Facts as FactsValue};
 ghost use Rattle.view_model.specs.declared.relative.Edges.{Edges as EdgesValue};
-ghost use Rattle.view_model.specs.declared.kinds.Class.TheVariants.{RelativeLayout};
+ghost use Rattle.view_model.specs.declared.class.Class.TheVariants.{RelativeLayout};
 ghost use Rattle.view_model.specs.declared.relative.Axis.TheVariants.{Vertical};
 ghost use Rattle.view_model.specs.Measuring.{Specs};
 ghost use Rattle.view_model.specs.RelativeCourse.{arranged};

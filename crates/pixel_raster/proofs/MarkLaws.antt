@@ -54,7 +54,7 @@ pub seen_of-unmarked : (first pixel : Argb) → (alpha_of first == 0) ≡ false 
 unfolding seen_of
 seen_of-unmarked first pixel is = rw is refl
 
--- a band without a row
+-- a range without a row
 pub unmarked-none : (width : ℕ) (pixels : List Argb) → AreWritten width (record { top = 0; bottom = 0 }) pixels
 unmarked-none width pixels y is = let between = between_from 0 0 y is in absurd (omega (arith, between.1))
 

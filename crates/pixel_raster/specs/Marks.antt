@@ -7,7 +7,7 @@ use Rattle.geom_core.specs.Numbers.{unpainted}
 use Rattle.geom_core.specs.declared.color.Argb.{Argb}
 use Rattle.pixel_raster.specs.Cuts.{is_between}
 use Rattle.pixel_raster.specs.Raster.{pixel_at}
-use Rattle.pixel_raster.specs.declared.marks.Band.{Band}
+use Rattle.pixel_raster.specs.declared.marks.RowRange.{RowRange}
 
 -- the mark of a row of an opaque colour: the colour without its alpha, which no pixel has
 unfoldable pub mark_of : Argb → Argb
@@ -29,7 +29,7 @@ seen_pixels width pixels =
     seen_of (slice_index_or pixels (place / width * width) unpainted) (slice_index_or pixels place unpainted))
     (range_with_len 0 (length pixels))
 
--- none of the rows of a band is marked
-abbrev pub AreWritten : ℕ → Band → List Argb → Type 0
-AreWritten width band pixels =
-    (y : ℕ) → is_between band.top band.bottom y ≡ true → (alpha_of (pixel_at width pixels 0 y) == 0) ≡ false
+-- none of the rows of a range is marked
+abbrev pub AreWritten : ℕ → RowRange → List Argb → Type 0
+AreWritten width range pixels =
+    (y : ℕ) → is_between range.top range.bottom y ≡ true → (alpha_of (pixel_at width pixels 0 y) == 0) ≡ false

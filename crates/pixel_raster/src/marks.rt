@@ -12,7 +12,7 @@ use geom_core::Argb;
 
 /// The rows of a picture from `top` on and before `bottom`.
 #[derive(Clone, Copy)]
-pub struct Band {
+pub struct RowRange {
     pub top: usize,
     pub bottom: usize,
 }
@@ -57,24 +57,29 @@ pub fn write_rows(pixels: &mut [Argb], width: usize, top: usize, bottom: usize)
     }
 }
 
-/// Writes out the marked rows of a band, unless it lies in another one, where none is. Returns a band where none is
+/// Writes out the marked rows of a range, unless it lies in another one, where none is. Returns a range where none is
 /// marked then.
-pub fn write_band(pixels: &mut [Argb], width: usize, band: Band, written: Band) -> Band
+pub fn write_range(
+    pixels: &mut [Argb],
+    width: usize,
+    range: RowRange,
+    written: RowRange,
+) -> RowRange
     requires across { 0 < width }
-    requires down { band.top ≤ band.bottom }
-    requires rows { band.bottom * width ≤ length pixels.old }
+    requires down { range.top ≤ range.bottom }
+    requires rows { range.bottom * width ≤ length pixels.old }
     requires unmarked { AreWritten width written pixels.old }
     ensures seen { (x y : ℕ) → x < width
-        → pixel_at width pixels.new x y ≡ (if is_between band.top band.bottom y
+        → pixel_at width pixels.new x y ≡ (if is_between range.top range.bottom y
         then seen_at width pixels.old x y
         else pixel_at width pixels.old x y) }
     ensures unmarked { AreWritten width result pixels.new }
 {
-    if written.top <= band.top && band.bottom <= written.bottom {
+    if written.top <= range.top && range.bottom <= written.bottom {
         return written;
     }
-    write_rows(pixels, width, band.top, band.bottom);
-    band
+    write_rows(pixels, width, range.top, range.bottom);
+    range
 }
 
 /// Writes out a row if it is marked.

@@ -7,7 +7,7 @@ ghost use Rattle.pixel_raster.specs.Raster.{pixel_at};
 ghost use Rattle.pixel_raster.specs.Strips.{is_set, set_bits};
 
 use crate::blending::blend;
-use crate::marks::{Band, write_band};
+use crate::marks::{RowRange, write_range};
 use geom_core::Argb;
 
 /// The pixels of a column from its row `top` on and before its row `bottom`.
@@ -58,13 +58,13 @@ fn inked(set: bool, color: Argb, under: Argb) -> Argb
 }
 
 /// Blends a colour over the set pixels of a strip of a picture whose rows have this many pixels. Returns how many they
-/// are. `written` is a band without a marked row, before and after.
+/// are. `written` is a range without a marked row, before and after.
 pub fn ink_strip(
     pixels: &mut [Argb],
     width: usize,
     strip: Strip,
     ink: Ink,
-    written: &mut Band,
+    written: &mut RowRange,
 ) -> u64
     requires column { strip.column < width }
     requires down { strip.top ≤ strip.bottom }
@@ -78,11 +78,11 @@ pub fn ink_strip(
         else seen_at width pixels.old x y) }
     ensures unmarked { AreWritten width written.new pixels.new }
 {
-    let band = Band {
+    let range = RowRange {
         top: strip.top,
         bottom: strip.bottom,
     };
-    *written = write_band(pixels, width, band, *written);
+    *written = write_range(pixels, width, range, *written);
     ink_written(pixels, width, strip, ink.bits, ink.color)
 }
 

@@ -11,7 +11,7 @@ ghost use Rattle.pixel_raster.specs.Strips.{InksStrip, set_bits};
 
 use crate::cut::{Cut, from_zero};
 use crate::digest::digest_of;
-use crate::marks::{Band, seen_of};
+use crate::marks::{RowRange, seen_of};
 use crate::rows::{cover_black, fill_part};
 use crate::strip::{Ink, Strip, ink_strip};
 use geom_core::{Argb, BLACK, Rect, Size};
@@ -28,7 +28,7 @@ pub struct Surface {
     /// Row by row, from the top.
     pixels: Vec<Argb>,
     /// Rows that aren't marked, such as those of the last strip if nothing was filled since.
-    written: Band,
+    written: RowRange,
     filled: u64,
     /// The digest of the pixels, if it was taken since the last of them was painted.
     digest: Option<[u8; 32]>,
@@ -74,7 +74,7 @@ impl Surface {
             width: 0,
             height: 0,
             pixels: Vec::new(alloc),
-            written: Band { top: 0, bottom: 0 },
+            written: RowRange { top: 0, bottom: 0 },
             filled: 0,
             digest: None,
             black: true,
@@ -98,7 +98,7 @@ impl Surface {
         }
         self.width = width;
         self.height = height;
-        self.written = Band { top: 0, bottom: 0 };
+        self.written = RowRange { top: 0, bottom: 0 };
         self.filled = 0;
         Ok(())
     }
@@ -164,7 +164,7 @@ impl Surface {
         }
         self.digest = None;
         self.black = false;
-        self.written = Band { top: 0, bottom: 0 };
+        self.written = RowRange { top: 0, bottom: 0 };
         fill_part(&mut self.pixels, self.width, cut, color);
     }
 

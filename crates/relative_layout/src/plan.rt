@@ -17,7 +17,7 @@ pub mod extent;
 pub mod sides;
 pub mod spans;
 
-use crate::plan::extent::Extent;
+use crate::plan::extent::AxisExtent;
 use crate::plan::sides::{loose_spec, reported_spec};
 use crate::plan::spans::rect_between;
 use geom_core::{Rect, Size, Spec};
@@ -32,8 +32,8 @@ pub struct RelativePlan {
     axis: Axis,
     /// Whether the group runs from right to left.
     rtl: bool,
-    across: Extent,
-    down: Extent,
+    across: AxisExtent,
+    down: AxisExtent,
 }
 
 impl RelativePlan {
@@ -46,8 +46,8 @@ impl RelativePlan {
         RelativePlan {
             axis: Axis::Horizontal,
             rtl: own.rtl,
-            across: Extent::start(Axis::Horizontal.band(own, ws, hs)),
-            down: Extent::start(Axis::Vertical.band(own, ws, hs)),
+            across: AxisExtent::start(Axis::Horizontal.group(own, ws, hs)),
+            down: AxisExtent::start(Axis::Vertical.group(own, ws, hs)),
         }
     }
 
@@ -90,7 +90,7 @@ impl RelativePlan {
             Axis::Horizontal => {
                 let span = self
                     .across
-                    .take(&Axis::Horizontal.tied(self.rtl, kid), anchors, size.w);
+                    .take(&Axis::Horizontal.child(self.rtl, kid), anchors, size.w);
                 Edges {
                     across: Some(span),
                     down: edges.down,
@@ -99,7 +99,7 @@ impl RelativePlan {
             Axis::Vertical => {
                 let span = self
                     .down
-                    .take(&Axis::Vertical.tied(self.rtl, kid), anchors, size.h);
+                    .take(&Axis::Vertical.child(self.rtl, kid), anchors, size.h);
                 Edges {
                     across: edges.across,
                     down: Some(span),
@@ -146,9 +146,9 @@ impl RelativePlan {
             → result ≡ final_rect own specs (relative_size own specs first second) (layout_facts kid.now) edges size }
     {
         rect_between(
-            self.across.final_span(&Axis::Horizontal.tied(self.rtl, kid), edges.across, size.w),
+            self.across.final_span(&Axis::Horizontal.child(self.rtl, kid), edges.across, size.w),
             self.down
-                .final_span(&Axis::Vertical.tied(self.rtl, kid), edges.down, size.h),
+                .final_span(&Axis::Vertical.child(self.rtl, kid), edges.down, size.h),
         )
     }
 
@@ -160,8 +160,8 @@ impl RelativePlan {
     {
         (
             self.across
-                .spec(&Axis::Horizontal.tied(self.rtl, kid), anchors),
-            loose_spec(&self.down.band, &Axis::Vertical.tied(self.rtl, kid)),
+                .spec(&Axis::Horizontal.child(self.rtl, kid), anchors),
+            loose_spec(&self.down.group, &Axis::Vertical.child(self.rtl, kid)),
         )
     }
 
@@ -173,7 +173,8 @@ impl RelativePlan {
     {
         (
             reported_spec(edges.across.unwrap_or((0, 0))),
-            self.down.spec(&Axis::Vertical.tied(self.rtl, kid), anchors),
+            self.down
+                .spec(&Axis::Vertical.child(self.rtl, kid), anchors),
         )
     }
 }

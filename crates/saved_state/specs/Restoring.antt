@@ -6,7 +6,7 @@ use Rattle.std.specs.Map.{lookup}
 use Rattle.saved_state.specs.State.{StateEntry}
 use Rattle.saved_state.specs.declared.value.Value.{Value}
 use Rattle.saved_state.specs.declared.value.Value.TheVariants.{Offset, Text}
-use Rattle.view_model.specs.declared.kinds.Class.{Class}
+use Rattle.view_model.specs.declared.class.Class.{Class}
 use Rattle.view_model.specs.Forest.{Forest, map_rows}
 use Rattle.view_model.specs.Classes.{has_text, scrolls}
 use Rattle.view_model.specs.PlainTree.{PlainView}

@@ -7,7 +7,7 @@ use Rattle.std.specs.Ordering.{nat_cmp}
 use Rattle.view_model.specs.Forest.{Forest, EveryRow, rows}
 use Rattle.view_model.specs.Classes.{has_text, scrolls}
 use Rattle.view_model.specs.PlainTree.{PlainView}
-use Rattle.view_model.specs.declared.kinds.Class.{Class}
+use Rattle.view_model.specs.declared.class.Class.{Class}
 use Rattle.saved_state.specs.State.{StateEntry}
 use Rattle.saved_state.specs.Numbers.{max_offset, max_text_bytes}
 use Rattle.saved_state.specs.declared.value.Value.{Value}

@@ -18,10 +18,10 @@ use Rattle.view_model.specs.Facts.{new_facts}
 use Rattle.view_model.specs.Forest.{Forest, Nothing, Branch}
 use Rattle.view_model.specs.PlainTree.{PlainView}
 use Rattle.view_model.specs.ScrollView.{offset_within}
-use Rattle.view_model.specs.declared.kinds.Answer.{Answer}
-use Rattle.view_model.specs.declared.kinds.Answer.TheVariants as plan
-use Rattle.view_model.specs.declared.kinds.Class.{Class}
-use Rattle.view_model.specs.declared.kinds.Class.TheVariants as class
+use Rattle.view_model.specs.declared.answer.Answer.{Answer}
+use Rattle.view_model.specs.declared.answer.Answer.TheVariants as plan
+use Rattle.view_model.specs.declared.class.Class.{Class}
+use Rattle.view_model.specs.declared.class.Class.TheVariants as class
 use Rattle.touch_targets.specs.Captures.{Target}
 
 -- the children in the order of their capture, the newest first

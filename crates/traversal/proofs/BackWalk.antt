@@ -6,8 +6,8 @@ use Rattle.kept_views.specs.Laying.{Fit, IsQuietBack, kid_sizes, sizes_back}
 use Rattle.kept_views.proofs.LaidFrames.{Fit-along, Fit-first, Fit-later, IsQuiet-start, IsQuietAs-along, quiet_joined_back, sizes_back-few}
 use Rattle.seen_parts.specs.declared.frame.Canvas.{Canvas}
 use Rattle.view_model.specs.declared.facts.Facts.{Facts}
-use Rattle.view_model.specs.declared.kinds.Class.{Class}
-use Rattle.view_model.specs.declared.kinds.Class.TheVariants.{RelativeLayout}
+use Rattle.view_model.specs.declared.class.Class.{Class}
+use Rattle.view_model.specs.declared.class.Class.TheVariants.{RelativeLayout}
 use Rattle.view_model.specs.declared.limits.TheConstants.{MAX_VIEWS}
 use Rattle.view_model.specs.Facts.{is_shown, layout_facts}
 use Rattle.view_model.specs.Forest.{Forest, Nothing, Branch, count_of}

@@ -9,8 +9,8 @@ use Rattle.geom_core.specs.declared.geometry.Size.{Size}
 use Rattle.measure_pass.proofs.Laws.{measured_sides}
 use Rattle.size_hooks.specs.Hook.{Hook}
 use Rattle.size_hooks.specs.Hooks.{reported_as}
-use Rattle.view_model.specs.declared.kinds.Class.{Class}
-use Rattle.view_model.specs.declared.kinds.Class.TheVariants.{RelativeLayout}
+use Rattle.view_model.specs.declared.class.Class.{Class}
+use Rattle.view_model.specs.declared.class.Class.TheVariants.{RelativeLayout}
 use Rattle.view_model.specs.Classes.{is_relative, lays_in_line}
 use Rattle.view_model.proofs.ClassLaws.{relative_is}
 use Rattle.view_model.specs.RelativeCourse.{relative_place}

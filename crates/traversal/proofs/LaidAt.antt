@@ -17,7 +17,7 @@ use Rattle.kept_views.proofs.LaidFrames.{Fit-along, Fit-below, differ-along, owe
 use Rattle.kept_views.proofs.LaidRows.{calm_row, not_own, put_row, wrote_below}
 use Rattle.measure_pass.proofs.Laws.{measured_sides}
 use Rattle.scroll_offsets.specs.Bringing.{child_rect, first_range}
-use Rattle.view_model.specs.declared.kinds.Class.TheVariants.{RelativeLayout}
+use Rattle.view_model.specs.declared.class.Class.TheVariants.{RelativeLayout}
 use Rattle.view_model.specs.Facts.{is_shown, layout_facts}
 use Rattle.view_model.specs.Forest.{Forest, Nothing, Branch}
 use Rattle.view_model.specs.Geometry.{size_of_rect}

@@ -6,7 +6,7 @@ use Rattle.kept_views.specs.Kept.{owed}
 use Rattle.kept_views.specs.Laying.{Fit, IsQuiet, IsQuietAll, differ, last_sizes}
 use Rattle.kept_views.proofs.LaidFrames.{Fit-later, IsQuietAs-along, IsQuiet-start, differ-along, differ_parts, last_sizes-along, last_sizes-few, owed-along, owed_parts, quiet_joined}
 use Rattle.measure_pass.specs.Caches.{Grown}
-use Rattle.view_model.specs.declared.kinds.Class.TheVariants.{RelativeLayout}
+use Rattle.view_model.specs.declared.class.Class.TheVariants.{RelativeLayout}
 use Rattle.view_model.specs.declared.limits.TheConstants.{MAX_VIEWS}
 use Rattle.geom_core.specs.declared.geometry.Rect.{Rect}
 use Rattle.view_model.specs.Facts.{is_shown}

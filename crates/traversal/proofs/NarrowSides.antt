@@ -10,12 +10,12 @@ use Rattle.geom_core.specs.declared.geometry.Rect.{Rect}
 use Rattle.kept_views.specs.Kept.{IsSized, last_edges}
 use Rattle.measure_pass.proofs.Laws.{measured_sides}
 use Rattle.view_model.specs.declared.facts.Facts.{Facts}
-use Rattle.view_model.specs.declared.kinds.Class.{Class}
-use Rattle.view_model.specs.declared.kinds.Class.TheVariants.{RelativeLayout}
+use Rattle.view_model.specs.declared.class.Class.{Class}
+use Rattle.view_model.specs.declared.class.Class.TheVariants.{RelativeLayout}
 use Rattle.view_model.specs.declared.relative.Anchor.{Anchor}
 use Rattle.view_model.specs.declared.relative.Anchors.{Anchors}
-use Rattle.view_model.specs.declared.relative.Band.{Band}
-use Rattle.view_model.specs.declared.relative.Tied.{Tied}
+use Rattle.view_model.specs.declared.relative.GroupAxis.{GroupAxis}
+use Rattle.view_model.specs.declared.relative.ChildAxis.{ChildAxis}
 use Rattle.view_model.specs.Course.{Child, Requested, last_of}
 use Rattle.view_model.specs.Facts.{is_shown}
 use Rattle.view_model.specs.Forest.{Forest, Nothing, Branch}
@@ -54,37 +54,37 @@ so_in : (so : Bool) (side : Option ℤ) → IfSome side (λ x. IsCoordinate x) �
 so_in true side is = is
 so_in false side is = tt
 
-near_in : (band : Band) (kid : Tied) (anchors : Anchors) → IfSome (near_side band kid anchors) (λ x. IsCoordinate x)
+near_in : (group : GroupAxis) (kid : ChildAxis) (anchors : Anchors) → IfSome (near_side group kid anchors) (λ x. IsCoordinate x)
 unfolding near_side
-near_in band kid anchors =
+near_in group kid anchors =
     let sides : List (Option ℤ) =
     option_map (after_anchor kid) anchors.after
     ∷ option_map (begins_with kid) anchors.align_near
-    ∷ where_so kid.at_near (Some (begins_at_parent band kid))
+    ∷ where_so kid.at_near (Some (begins_at_parent group kid))
     ∷ [] in
     let are : AreSides sides = (
       mapped (after_anchor kid) (λ anchor. clamped _) anchors.after,
-      (mapped (begins_with kid) (λ anchor. clamped _) anchors.align_near, (so_in kid.at_near (Some (begins_at_parent band kid)) (clamped _), tt)),
+      (mapped (begins_with kid) (λ anchor. clamped _) anchors.align_near, (so_in kid.at_near (Some (begins_at_parent group kid)) (clamped _), tt)),
     ) in
     last_in sides are
 
-room_in : (band : Band) (kid : Tied) (room : Option ℤ) → IfSome (option_map (ends_at_parent band kid) room) (λ x. IsCoordinate x)
-room_in band kid None = tt
-room_in band kid (Some room) = clamped _
+room_in : (group : GroupAxis) (kid : ChildAxis) (room : Option ℤ) → IfSome (option_map (ends_at_parent group kid) room) (λ x. IsCoordinate x)
+room_in group kid None = tt
+room_in group kid (Some room) = clamped _
 
-far_in : (band : Band) (kid : Tied) (anchors : Anchors) → IfSome (far_side band kid anchors) (λ x. IsCoordinate x)
+far_in : (group : GroupAxis) (kid : ChildAxis) (anchors : Anchors) → IfSome (far_side group kid anchors) (λ x. IsCoordinate x)
 unfolding far_side
-far_in band kid anchors =
+far_in group kid anchors =
     let sides : List (Option ℤ) =
     option_map (before_anchor kid) anchors.before
     ∷ option_map (ends_with kid) anchors.align_far
-    ∷ where_so kid.at_far (option_map (ends_at_parent band kid) (room_of band))
+    ∷ where_so kid.at_far (option_map (ends_at_parent group kid) (room_of group))
     ∷ [] in
     let are : AreSides sides = (
       mapped (before_anchor kid) (λ anchor. clamped _) anchors.before,
       (
         mapped (ends_with kid) (λ anchor. clamped _) anchors.align_far,
-        (so_in kid.at_far (option_map (ends_at_parent band kid) (room_of band)) (room_in band kid (room_of band)), tt),
+        (so_in kid.at_far (option_map (ends_at_parent group kid) (room_of group)) (room_in group kid (room_of group)), tt),
       ),
     ) in
     last_in sides are
@@ -108,25 +108,25 @@ near_both near far first last =
     let d = last.high in
     record { low = grind (arith, ints); high = grind (arith, ints) }
 
-span_near : (band : Band) (kid : Tied) (near far : Option ℤ) (length : ℤ) → IfSome near (λ x. IsCoordinate x) → IfSome far (λ x. IsCoordinate x) → IsSide length
-    → AreNear (span_of band kid near far length)
+span_near : (group : GroupAxis) (kid : ChildAxis) (near far : Option ℤ) (length : ℤ) → IfSome near (λ x. IsCoordinate x) → IfSome far (λ x. IsCoordinate x) → IsSide length
+    → AreNear (span_of group kid near far length)
 unfolding span_of
-span_near band kid None None length first last side = near_length _ length side
-span_near band kid (Some near) None length first last side = near_length near length side
-span_near band kid None (Some far) length first last side = near_both _ far (clamped _) last
-span_near band kid (Some near) (Some far) length first last side = near_both near far first last
+span_near group kid None None length first last side = near_length _ length side
+span_near group kid (Some near) None length first last side = near_length near length side
+span_near group kid None (Some far) length first last side = near_both _ far (clamped _) last
+span_near group kid (Some near) (Some far) length first last side = near_both near far first last
 
-settled_near : (band : Band) (kid : Tied) (anchors : Anchors) (length : ℤ) → IsSide length → AreNear (settled_span band kid anchors length)
-settled_near band kid anchors length side =
-    span_near band kid (near_side band kid anchors) (far_side band kid anchors) length (near_in band kid anchors) (far_in band kid anchors) side
+settled_near : (group : GroupAxis) (kid : ChildAxis) (anchors : Anchors) (length : ℤ) → IsSide length → AreNear (settled_span group kid anchors length)
+settled_near group kid anchors length side =
+    span_near group kid (near_side group kid anchors) (far_side group kid anchors) length (near_in group kid anchors) (far_in group kid anchors) side
 
 near_if : (test : Bool) (one other : ℤ × ℤ) → AreNear one → AreNear other → AreNear (if test then one else other)
 near_if true one other first second = first
 near_if false one other first second = second
 
-moved_near : (band : Band) (kid : Tied) (own : ℤ) (span : ℤ × ℤ) (length : ℤ) → AreNear span → IsSide length → AreNear (moved_span band kid own span length)
+moved_near : (group : GroupAxis) (kid : ChildAxis) (own : ℤ) (span : ℤ × ℤ) (length : ℤ) → AreNear span → IsSide length → AreNear (moved_span group kid own span length)
 unfolding moved_span
-moved_near band kid own span length near side =
+moved_near group kid own span length near side =
     near_if _ span _ near (near_if kid.centered _ _ (near_length _ length side) (near_if kid.at_far _ _ (near_length _ length side) (near_if kid.rests_far _ span (near_length _ length side) near)))
 
 one_less : (a b : ℤ) → a ≤ℤ b → int_max a b ≡ b

@@ -6,7 +6,7 @@ use Rattle.geom_core.specs.declared.geometry.Rect.{Rect}
 use Rattle.kept_views.specs.Kept.{Around, Cleared, Kept, first_place, hidden_in, inside}
 use Rattle.kept_views.specs.Laying.{Brought}
 use Rattle.view_model.specs.declared.facts.Facts.{Facts}
-use Rattle.view_model.specs.declared.kinds.Class.{Class}
+use Rattle.view_model.specs.declared.class.Class.{Class}
 use Rattle.view_model.proofs.ClassLaws.{range_nowhere, range_unscrolled}
 use Rattle.view_model.specs.Facts.{is_shown}
 use Rattle.view_model.specs.Forest.{Forest, Nothing, Branch}

@@ -6,7 +6,7 @@ use Rattle.view_model.specs.declared.changes.Act.{Act}
 use Rattle.view_model.specs.declared.changes.Act.TheVariants as act
 use Rattle.view_model.specs.declared.changes.Change.TheVariants as change
 use Rattle.view_model.specs.declared.changes.Flag.TheVariants as flag
-use Rattle.view_model.specs.declared.kinds.Visibility.TheVariants.{Visible, Invisible, Gone}
+use Rattle.view_model.specs.declared.visibility.Visibility.TheVariants.{Visible, Invisible, Gone}
 use Rattle.view_model.proofs.FacetLaws.{hidden_asks, named_asks, named_stays, named_turns}
 use Rattle.view_model.specs.Facets.{facet_of}
 use Rattle.view_model.specs.Facts.{is_shown, layout_facts, unscrolled_facts}

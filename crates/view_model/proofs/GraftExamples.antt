@@ -1,7 +1,7 @@
 -- Worked rows of why a sapling is refused.
 use Rattle.std.specs.Prelude.{◌≡◌, ℕ, true, false, pos, [], Option, Some, None, refl}
-use Rattle.view_model.specs.declared.kinds.Class.{Class}
-use Rattle.view_model.specs.declared.kinds.Class.TheVariants.{View, FrameLayout, ScrollView}
+use Rattle.view_model.specs.declared.class.Class.{Class}
+use Rattle.view_model.specs.declared.class.Class.TheVariants.{View, FrameLayout, ScrollView}
 use Rattle.view_model.specs.declared.refusals.TheConstants.{DEPTH, NOT_GROUP, SCROLL_FULL, VIEWS}
 use Rattle.view_model.specs.Facts.{new_facts}
 use Rattle.view_model.specs.Forest.{Nothing, Branch}

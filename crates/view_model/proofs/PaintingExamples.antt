@@ -7,9 +7,9 @@ use Rattle.geom_core.specs.Spec.{child_spec_of, default_size_of, remaining_of, r
 use Rattle.geom_core.specs.declared.color.Argb.{Argb}
 use Rattle.geom_core.specs.declared.geometry.Size.{Size}
 use Rattle.view_model.specs.declared.facts.Facts.{Facts}
-use Rattle.view_model.specs.declared.kinds.Class.{Class}
-use Rattle.view_model.specs.declared.kinds.Class.TheVariants as class
-use Rattle.view_model.specs.declared.kinds.Visibility.TheVariants.{Invisible}
+use Rattle.view_model.specs.declared.class.Class.{Class}
+use Rattle.view_model.specs.declared.class.Class.TheVariants as class
+use Rattle.view_model.specs.declared.visibility.Visibility.TheVariants.{Invisible}
 use Rattle.view_model.specs.CellText.{cell_in, lines_for}
 use Rattle.view_model.specs.Facts.{new_facts}
 use Rattle.view_model.specs.Forest.{Forest, Nothing, Branch}

@@ -6,8 +6,8 @@ use Rattle.geom_core.specs.declared.measuring.Mode.TheVariants.{Unspecified, Exa
 use Rattle.geom_core.specs.Limits.{clamp_coordinate}
 use Rattle.geom_core.specs.Spec.{child_spec_of, remaining_of, resolve_of, default_size_of}
 use Rattle.view_model.specs.declared.facts.Facts.{Facts}
-use Rattle.view_model.specs.declared.kinds.Class.TheVariants as class
-use Rattle.view_model.specs.declared.kinds.Visibility.TheVariants.{Gone}
+use Rattle.view_model.specs.declared.class.Class.TheVariants as class
+use Rattle.view_model.specs.declared.visibility.Visibility.TheVariants.{Gone}
 use Rattle.view_model.specs.declared.refusal.Member.TheVariants as member
 use Rattle.view_model.specs.declared.relative.Axis.TheVariants.{Horizontal, Vertical}
 use Rattle.view_model.specs.declared.relative.Link.{Link}

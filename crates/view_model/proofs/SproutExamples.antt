@@ -1,6 +1,6 @@
 -- Worked lists in preorder, by computation: the trees that they represent.
 use Rattle.std.specs.Prelude.{◌≡◌, ℕ, pos, refl, [], ◌∷◌, List, true, false}
-use Rattle.view_model.specs.declared.kinds.Class.TheVariants.{FrameLayout}
+use Rattle.view_model.specs.declared.class.Class.TheVariants.{FrameLayout}
 use Rattle.view_model.specs.declared.sprout.Sprout.{Sprout}
 use Rattle.view_model.specs.Facts.{new_facts}
 use Rattle.view_model.specs.Forest.{Forest, Nothing, Branch}

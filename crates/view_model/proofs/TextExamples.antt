@@ -2,7 +2,7 @@
 use Rattle.std.specs.Prelude.{◌≡◌, ℕ, ℤ, pos, negsuc, refl, List, [], ◌∷◌, codes, Some, None}
 use Rattle.geom_core.specs.Limits.{clamp_coordinate}
 use Rattle.geom_core.specs.Spec.{child_spec_of, default_size_of, remaining_of, resolve_of}
-use Rattle.view_model.specs.declared.kinds.Class.TheVariants as class
+use Rattle.view_model.specs.declared.class.Class.TheVariants as class
 use Rattle.view_model.specs.CellText.{cell_in, cell_of, count_of_lines, lines_for, segments_of, widest_of}
 use Rattle.view_model.specs.Facts.{new_facts}
 use Rattle.view_model.specs.Forest.{Forest, Nothing, Branch}

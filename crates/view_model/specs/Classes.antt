@@ -1,8 +1,8 @@
 -- What a view has by its class.
 use Rattle.std.specs.Prelude.{Bool, true, false}
-use Rattle.view_model.specs.declared.kinds.Class.{Class}
-use Rattle.view_model.specs.declared.kinds.Class.TheVariants.{View, TextView, FrameLayout, LinearLayout, ScrollView}
-use Rattle.view_model.specs.declared.kinds.Class.TheVariants.{RelativeLayout}
+use Rattle.view_model.specs.declared.class.Class.{Class}
+use Rattle.view_model.specs.declared.class.Class.TheVariants.{View, TextView, FrameLayout, LinearLayout, ScrollView}
+use Rattle.view_model.specs.declared.class.Class.TheVariants.{RelativeLayout}
 
 -- whether a view of this class may have children
 abbrev pub is_group : Class → Bool

@@ -10,7 +10,7 @@ use Rattle.view_model.specs.declared.facets.Facet.{Facet}
 use Rattle.view_model.specs.declared.facets.Facet.TheVariants.{Set, Visible, Scrolled, Turned, Named, Tied}
 use Rattle.view_model.specs.declared.facets.Reach.{Reach}
 use Rattle.view_model.specs.declared.facets.Reach.TheVariants.{Laid, Shown, Painted, Unread}
-use Rattle.view_model.specs.declared.kinds.Class.{Class}
+use Rattle.view_model.specs.declared.class.Class.{Class}
 use Rattle.view_model.specs.Classes.{has_text, is_group, lays_in_line, scrolls}
 use Rattle.view_model.specs.Facts.{takes_part}
 

@@ -1,7 +1,7 @@
 -- Why a tree does not take a sapling: the first reason, in preorder, with the number of the element that has it.
 use Rattle.std.specs.Prelude.{ℕ, suc, ◌+◌, Bool, true, false, Option, Some, None}
 use Rattle.std.specs.Option.{option_map, option_or}
-use Rattle.view_model.specs.declared.kinds.Class.{Class}
+use Rattle.view_model.specs.declared.class.Class.{Class}
 use Rattle.view_model.specs.Forest.{Forest, Nothing, Branch, count_of}
 use Rattle.view_model.specs.Growth.{growth_refusal}
 use Rattle.view_model.specs.PlainTree.{PlainView, depth_of, has_child, view_in}

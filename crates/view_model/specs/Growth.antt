@@ -1,6 +1,6 @@
 -- Where a tree takes a new view, and why it does not elsewhere.
 use Rattle.std.specs.Prelude.{ℕ, nat_lt, Bool, not, ◌&&◌, if◌then◌else◌, Option, Some, None}
-use Rattle.view_model.specs.declared.kinds.Class.{Class}
+use Rattle.view_model.specs.declared.class.Class.{Class}
 use Rattle.view_model.specs.Classes.{is_group, takes_one_child}
 use Rattle.view_model.specs.Forest.{Forest, count_of}
 use Rattle.view_model.specs.Numbers.{max_depth, max_views, not_group, scroll_full, too_deep, too_many_views}

@@ -9,8 +9,8 @@ use Rattle.geom_core.specs.declared.color.Argb.{Argb}
 use Rattle.geom_core.specs.declared.geometry.Rect.{Rect}
 use Rattle.geom_core.specs.declared.geometry.Size.{Size}
 use Rattle.view_model.specs.declared.facts.Facts.{Facts}
-use Rattle.view_model.specs.declared.kinds.Visibility.{Visibility}
-use Rattle.view_model.specs.declared.kinds.Visibility.TheVariants.{Visible, Invisible, Gone}
+use Rattle.view_model.specs.declared.visibility.Visibility.{Visibility}
+use Rattle.view_model.specs.declared.visibility.Visibility.TheVariants.{Visible, Invisible, Gone}
 use Rattle.view_model.specs.CellText.{cell_of}
 use Rattle.view_model.specs.Classes.{has_text}
 use Rattle.view_model.specs.Facts.{padding_left, padding_right}

@@ -6,7 +6,7 @@ use Rattle.std.specs.Option.{option_map}
 use Rattle.geom_core.specs.declared.geometry.Rect.{Rect}
 use Rattle.geom_core.specs.declared.geometry.Size.{Size}
 use Rattle.view_model.specs.declared.facts.Facts.{Facts}
-use Rattle.view_model.specs.declared.kinds.Visibility.TheVariants.{Gone}
+use Rattle.view_model.specs.declared.visibility.Visibility.TheVariants.{Gone}
 use Rattle.view_model.specs.declared.relative.Anchor.{Anchor}
 use Rattle.view_model.specs.declared.relative.Anchors.{Anchors}
 use Rattle.view_model.specs.declared.relative.Axis.{Axis}

@@ -17,9 +17,9 @@ use Rattle.view_model.specs.declared.relative.Anchor.{Anchor}
 use Rattle.view_model.specs.declared.relative.Anchors.{Anchors}
 use Rattle.view_model.specs.declared.relative.Axis.{Axis}
 use Rattle.view_model.specs.declared.relative.Axis.TheVariants.{Horizontal, Vertical}
-use Rattle.view_model.specs.declared.relative.Band.{Band}
+use Rattle.view_model.specs.declared.relative.GroupAxis.{GroupAxis}
 use Rattle.view_model.specs.declared.relative.Edges.{Edges}
-use Rattle.view_model.specs.declared.relative.Tied.{Tied}
+use Rattle.view_model.specs.declared.relative.ChildAxis.{ChildAxis}
 use Rattle.view_model.specs.Direction.{left_of_two, right_of_two}
 use Rattle.view_model.specs.Facts.{is_match, margin_left, margin_right, padding_left, padding_right}
 use Rattle.view_model.specs.FrameLayout.{is_exactly}
@@ -32,10 +32,10 @@ use Rattle.view_model.specs.Verbs as verb
 abbrev pub is_set : Rules → ℕ → Bool
 is_set rules verb = not (value_of rules verb == 0)
 
-abbrev pub band_on : Axis → Facts → Specs → Band
-band_on Horizontal own specs =
+abbrev pub group_on : Axis → Facts → Specs → GroupAxis
+group_on Horizontal own specs =
     record { spec = specs.across; padding_near = padding_left own; padding_far = padding_right own; min = own.min.w }
-band_on Vertical own specs =
+group_on Vertical own specs =
     record { spec = specs.down; padding_near = own.padding.top; padding_far = own.padding.bottom; min = own.min.h }
 
 -- the margins of a child on an axis
@@ -49,8 +49,8 @@ far_margin Vertical kid = kid.margins.bottom
 
 -- a child in a group that runs from right to left or not. Where it does, one without a rule for the axis rests at the
 -- far side; down there is no such thing
-abbrev pub tied_on : Bool → Axis → Facts → Tied
-tied_on rtl Horizontal kid = record {
+abbrev pub child_on : Bool → Axis → Facts → ChildAxis
+child_on rtl Horizontal kid = record {
   dim = kid.width;
   margin_near = margin_left kid;
   margin_far = margin_right kid;
@@ -63,7 +63,7 @@ tied_on rtl Horizontal kid = record {
   centered = is_set kid.rules verb.center || is_set kid.rules verb.center_h;
   rests_far = rtl && is_free kid.rules;
 }
-tied_on rtl Vertical kid = record {
+child_on rtl Vertical kid = record {
   dim = kid.height;
   margin_near = kid.margins.top;
   margin_far = kid.margins.bottom;
@@ -83,8 +83,8 @@ room_by Unspecified size = None
 room_by Exactly size = Some size
 room_by AtMost size = Some size
 
-abbrev pub room_of : Band → Option ℤ
-room_of band = room_by band.spec.mode band.spec.size
+abbrev pub room_of : GroupAxis → Option ℤ
+room_of group = room_by group.spec.mode group.spec.size
 
 -- The sides that the rules of a child set. Rules set a side one after the other, and the last wins.
 
@@ -106,47 +106,47 @@ outer_near anchor = anchor.near -ℤ anchor.margin_near
 abbrev pub outer_far : Anchor → ℤ
 outer_far anchor = anchor.far +ℤ anchor.margin_far
 
-abbrev pub near_inset : Band → Tied → ℤ
-near_inset band kid = band.padding_near +ℤ kid.margin_near
+abbrev pub near_inset : GroupAxis → ChildAxis → ℤ
+near_inset group kid = group.padding_near +ℤ kid.margin_near
 
-abbrev pub far_inset : Band → Tied → ℤ
-far_inset band kid = band.padding_far +ℤ kid.margin_far
+abbrev pub far_inset : GroupAxis → ChildAxis → ℤ
+far_inset group kid = group.padding_far +ℤ kid.margin_far
 
-abbrev pub both_insets : Band → Tied → ℤ
-both_insets band kid = near_inset band kid +ℤ far_inset band kid
+abbrev pub both_insets : GroupAxis → ChildAxis → ℤ
+both_insets group kid = near_inset group kid +ℤ far_inset group kid
 
 -- the near side: after an anchor, at an anchor's near side, at the group's
-abbrev pub after_anchor : Tied → Anchor → ℤ
+abbrev pub after_anchor : ChildAxis → Anchor → ℤ
 after_anchor kid anchor = clamp_coordinate (outer_far anchor +ℤ kid.margin_near)
 
-abbrev pub begins_with : Tied → Anchor → ℤ
+abbrev pub begins_with : ChildAxis → Anchor → ℤ
 begins_with kid anchor = clamp_coordinate (anchor.near +ℤ kid.margin_near)
 
-abbrev pub begins_at_parent : Band → Tied → ℤ
-begins_at_parent band kid = clamp_coordinate (near_inset band kid)
+abbrev pub begins_at_parent : GroupAxis → ChildAxis → ℤ
+begins_at_parent group kid = clamp_coordinate (near_inset group kid)
 
-unfoldable pub near_side : Band → Tied → Anchors → Option ℤ
-near_side band kid anchors = last_set (
+unfoldable pub near_side : GroupAxis → ChildAxis → Anchors → Option ℤ
+near_side group kid anchors = last_set (
     option_map (after_anchor kid) anchors.after
     ∷ option_map (begins_with kid) anchors.align_near
-    ∷ where_so kid.at_near (Some (begins_at_parent band kid))
+    ∷ where_so kid.at_near (Some (begins_at_parent group kid))
     ∷ [])
 
 -- the far side: before an anchor, at an anchor's far side, at the group's if its size is known
-abbrev pub before_anchor : Tied → Anchor → ℤ
+abbrev pub before_anchor : ChildAxis → Anchor → ℤ
 before_anchor kid anchor = clamp_coordinate (outer_near anchor -ℤ kid.margin_far)
 
-abbrev pub ends_with : Tied → Anchor → ℤ
+abbrev pub ends_with : ChildAxis → Anchor → ℤ
 ends_with kid anchor = clamp_coordinate (anchor.far -ℤ kid.margin_far)
 
-abbrev pub ends_at_parent : Band → Tied → ℤ → ℤ
-ends_at_parent band kid room = clamp_coordinate (room -ℤ far_inset band kid)
+abbrev pub ends_at_parent : GroupAxis → ChildAxis → ℤ → ℤ
+ends_at_parent group kid room = clamp_coordinate (room -ℤ far_inset group kid)
 
-unfoldable pub far_side : Band → Tied → Anchors → Option ℤ
-far_side band kid anchors = last_set (
+unfoldable pub far_side : GroupAxis → ChildAxis → Anchors → Option ℤ
+far_side group kid anchors = last_set (
     option_map (before_anchor kid) anchors.before
     ∷ option_map (ends_with kid) anchors.align_far
-    ∷ where_so kid.at_far (option_map (ends_at_parent band kid) (room_of band))
+    ∷ where_so kid.at_far (option_map (ends_at_parent group kid) (room_of group))
     ∷ [])
 
 -- The specs under which a child is measured.
@@ -172,28 +172,29 @@ bounded_spec available dim =
     else (if int_lt available (pos 0) then exactly dim else exactly (int_min dim available))
 
 -- what is between the sides, if they are set, of a child in a group of this size
-unfoldable pub available_to : Band → Tied → Option ℤ → Option ℤ → ℤ → ℤ
-available_to band kid near far room = unwrap_or far (room -ℤ far_inset band kid) -ℤ unwrap_or near (near_inset band kid)
+unfoldable pub available_to : GroupAxis → ChildAxis → Option ℤ → Option ℤ → ℤ → ℤ
+available_to group kid near far room =
+    unwrap_or far (room -ℤ far_inset group kid) -ℤ unwrap_or near (near_inset group kid)
 
-abbrev pub spec_in : Band → Tied → Option ℤ → Option ℤ → Option ℤ → Spec
-spec_in band kid near far None = unbounded_spec kid.dim
-spec_in band kid near far (Some room) = bounded_spec (available_to band kid near far room) kid.dim
+abbrev pub spec_in : GroupAxis → ChildAxis → Option ℤ → Option ℤ → Option ℤ → Spec
+spec_in group kid near far None = unbounded_spec kid.dim
+spec_in group kid near far (Some room) = bounded_spec (available_to group kid near far room) kid.dim
 
 -- the spec of a child on an axis with these sides
-abbrev pub side_spec : Band → Tied → Option ℤ → Option ℤ → Spec
-side_spec band kid None far = spec_in band kid None far (room_of band)
-side_spec band kid (Some near) None = spec_in band kid (Some near) None (room_of band)
-side_spec band kid (Some near) (Some far) = exactly (far -ℤ near)
+abbrev pub side_spec : GroupAxis → ChildAxis → Option ℤ → Option ℤ → Spec
+side_spec group kid None far = spec_in group kid None far (room_of group)
+side_spec group kid (Some near) None = spec_in group kid (Some near) None (room_of group)
+side_spec group kid (Some near) (Some far) = exactly (far -ℤ near)
 
 -- its height's spec while its width is measured, which knows no anchors
-unfoldable pub loose_spec : Band → Tied → ℤ → Spec
-loose_spec band kid room =
-    let available = room -ℤ both_insets band kid in
+unfoldable pub loose_spec : GroupAxis → ChildAxis → ℤ → Spec
+loose_spec group kid room =
+    let available = room -ℤ both_insets group kid in
     if is_match kid.dim then exactly available else at_most available
 
-abbrev pub loose_spec_in : Band → Tied → Option ℤ → Spec
-loose_spec_in band kid None = unbounded_spec kid.dim
-loose_spec_in band kid (Some room) = loose_spec band kid room
+abbrev pub loose_spec_in : GroupAxis → ChildAxis → Option ℤ → Spec
+loose_spec_in group kid None = unbounded_spec kid.dim
+loose_spec_in group kid (Some room) = loose_spec group kid room
 
 -- Both sides of a child, once it is measured.
 
@@ -201,31 +202,32 @@ abbrev pub span_at : ℤ → ℤ → ℤ × ℤ
 span_at near length = let edge = clamp_coordinate near in (edge, edge +ℤ length)
 
 -- the near side of a child that rests at the far side of a group of this size
-abbrev pub rest_near : Band → Tied → ℤ → ℤ → ℤ
-rest_near band kid room length = room -ℤ (far_inset band kid +ℤ length)
+abbrev pub rest_near : GroupAxis → ChildAxis → ℤ → ℤ → ℤ
+rest_near group kid room length = room -ℤ (far_inset group kid +ℤ length)
 
 abbrev pub centered_in : ℤ → ℤ → ℤ
 centered_in room length = int_div (room -ℤ length) (pos 2)
 
 -- if no side is set: in the middle of a group whose size is given, at its far side if it rests there, or at its near
 -- side
-unfoldable pub free_near : Band → Tied → ℤ → ℤ
-free_near band kid length =
-    if is_exactly band.spec.mode
-    then (if kid.centered then centered_in band.spec.size length
-    else if kid.rests_far then rest_near band kid band.spec.size length else near_inset band kid)
-    else near_inset band kid
+unfoldable pub free_near : GroupAxis → ChildAxis → ℤ → ℤ
+free_near group kid length =
+    if is_exactly group.spec.mode
+    then (if kid.centered then centered_in group.spec.size length
+    else if kid.rests_far then rest_near group kid group.spec.size length else near_inset group kid)
+    else near_inset group kid
 
 -- a side that is not set follows from the other and the length
-unfoldable pub span_of : Band → Tied → Option ℤ → Option ℤ → ℤ → ℤ × ℤ
-span_of band kid None None length = span_at (free_near band kid length) length
-span_of band kid (Some near) None length = (near, near +ℤ length)
-span_of band kid None (Some far) length = (clamp_coordinate (far -ℤ length), far)
-span_of band kid (Some near) (Some far) length = (near, far)
+unfoldable pub span_of : GroupAxis → ChildAxis → Option ℤ → Option ℤ → ℤ → ℤ × ℤ
+span_of group kid None None length = span_at (free_near group kid length) length
+span_of group kid (Some near) None length = (near, near +ℤ length)
+span_of group kid None (Some far) length = (clamp_coordinate (far -ℤ length), far)
+span_of group kid (Some near) (Some far) length = (near, far)
 
 -- a child with these anchors that was measured with this length
-abbrev pub settled_span : Band → Tied → Anchors → ℤ → ℤ × ℤ
-settled_span band kid anchors length = span_of band kid (near_side band kid anchors) (far_side band kid anchors) length
+abbrev pub settled_span : GroupAxis → ChildAxis → Anchors → ℤ → ℤ × ℤ
+settled_span group kid anchors length =
+    span_of group kid (near_side group kid anchors) (far_side group kid anchors) length
 
 -- a child that was measured on an axis, with its sides there
 pub record Spanned : Type 0 where
@@ -242,19 +244,19 @@ greatest_reach axis kids = fold (λ most kid. int_max most (reach_of axis kid)) 
 -- the length of the group itself
 abbrev pub own_length : Axis → Facts → Specs → List Spanned → ℤ
 own_length axis own specs kids =
-    let band = band_on axis own specs in
-    resolve_of (int_max band.min (greatest_reach axis kids +ℤ band.padding_far)) band.spec
+    let group = group_on axis own specs in
+    resolve_of (int_max group.min (greatest_reach axis kids +ℤ group.padding_far)) group.spec
 
 -- if the group's size was not given, children in its middle or at its far side, and those that rest there, move once it
 -- is known; their siblings don't move along
-unfoldable pub moved_span : Band → Tied → ℤ → ℤ × ℤ → ℤ → ℤ × ℤ
-moved_span band kid own span length =
-    if is_exactly band.spec.mode
+unfoldable pub moved_span : GroupAxis → ChildAxis → ℤ → ℤ × ℤ → ℤ → ℤ × ℤ
+moved_span group kid own span length =
+    if is_exactly group.spec.mode
     then span
     else (if kid.centered
     then span_at (centered_in own length) length
-    else if kid.at_far then span_at (own -ℤ (band.padding_far +ℤ length)) length
-    else if kid.rests_far then span_at (rest_near band kid own length) length else span)
+    else if kid.at_far then span_at (own -ℤ (group.padding_far +ℤ length)) length
+    else if kid.rests_far then span_at (rest_near group kid own length) length else span)
 
 -- The two phases.
 
@@ -268,28 +270,28 @@ width_of span = span.1 -ℤ span.0
 -- the specs of a child in the first phase, by its anchors from left to right
 abbrev pub across_specs : Facts → Specs → Facts → Anchors → Specs
 across_specs own specs kid anchors =
-    let band = band_on Horizontal own specs in
-    let tied = tied_on own.rtl Horizontal kid in
-    let lower = band_on Vertical own specs in
+    let group = group_on Horizontal own specs in
+    let tied = child_on own.rtl Horizontal kid in
+    let lower = group_on Vertical own specs in
     record {
-      across = side_spec band tied (near_side band tied anchors) (far_side band tied anchors);
-      down = loose_spec_in lower (tied_on own.rtl Vertical kid) (room_of lower);
+      across = side_spec group tied (near_side group tied anchors) (far_side group tied anchors);
+      down = loose_spec_in lower (child_on own.rtl Vertical kid) (room_of lower);
     }
 
 -- in the second, by its sides from left to right and its anchors from top to bottom
 abbrev pub down_specs : Facts → Specs → Facts → ℤ × ℤ → Anchors → Specs
 down_specs own specs kid span anchors =
-    let band = band_on Vertical own specs in
-    let tied = tied_on own.rtl Vertical kid in
+    let group = group_on Vertical own specs in
+    let tied = child_on own.rtl Vertical kid in
     record {
       across = exactly (width_of span);
-      down = side_spec band tied (near_side band tied anchors) (far_side band tied anchors);
+      down = side_spec group tied (near_side group tied anchors) (far_side group tied anchors);
     }
 
 -- the sides of a child, measured with this size, on an axis
 abbrev pub span_on : Axis → Facts → Specs → Facts → Anchors → Size → ℤ × ℤ
 span_on axis own specs kid anchors size =
-    settled_span (band_on axis own specs) (tied_on own.rtl axis kid) anchors (length_on axis size)
+    settled_span (group_on axis own specs) (child_on own.rtl axis kid) anchors (length_on axis size)
 
 -- the axis of a phase, by the phases before
 abbrev pub phase_axis : List (List Spanned) → Axis
@@ -318,7 +320,7 @@ sides_of edges = sides_by edges.across edges.down
 -- its final sides
 abbrev pub final_span : Axis → Facts → Specs → ℤ → Facts → ℤ × ℤ → Size → ℤ × ℤ
 final_span axis own specs size kid span kid_size =
-    moved_span (band_on axis own specs) (tied_on own.rtl axis kid) size span (length_on axis kid_size)
+    moved_span (group_on axis own specs) (child_on own.rtl axis kid) size span (length_on axis kid_size)
 
 -- the size of the group, whose children were taken with these sides from left to right and from top to bottom
 abbrev pub relative_size : Facts → Specs → List Spanned → List Spanned → Size

@@ -3,7 +3,8 @@ ghost use Rattle.std.specs.Prelude.{◌≡◌};
 ghost use Rattle.view_model.specs.Facets.{facet_of, reach_of_change, reach_of_flag, row_of, row_of_reach, takes, takes_change, takes_flag};
 
 use crate::changes::{Act, Change, Flag};
-use crate::kinds::{Class, Visibility};
+use crate::class::Class;
+use crate::visibility::Visibility;
 
 /// Who reads what an edit sets.
 #[derive(Clone, Copy)]

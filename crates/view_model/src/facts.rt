@@ -5,8 +5,9 @@
 //! what is left of a line uses 128.
 ghost use Rattle.std.specs.Prelude.{◌≡◌, false, negsuc, pos, ◌≤ℤ◌};
 
-use crate::kinds::{Answer, Visibility};
+use crate::answer::Answer;
 use crate::placing::{Across, Direction, Down, Gravity, left_of_two, right_of_two};
+use crate::visibility::Visibility;
 use geom_core::{Argb, Insets, MATCH, Size};
 
 /// The rules that tie a child of a relative layout to its siblings and its parent. The verbs are, in this order:

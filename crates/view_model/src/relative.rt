@@ -70,7 +70,7 @@ pub struct Anchors {
 
 /// A relative layout on an axis.
 #[derive(Clone, Copy)]
-pub struct Band {
+pub struct GroupAxis {
     pub spec: Spec,
     pub padding_near: i32,
     pub padding_far: i32,
@@ -80,7 +80,7 @@ pub struct Band {
 
 /// A child of a relative layout on an axis, apart from its siblings.
 #[derive(Clone, Copy)]
-pub struct Tied {
+pub struct ChildAxis {
     /// The width or the height that it wants.
     pub dim: i32,
     pub margin_near: i32,
@@ -96,20 +96,20 @@ pub struct Tied {
 }
 
 impl Axis {
-    ghost use Rattle.view_model.specs.RelativeLayout.{band_on, far_margin, length_on, near_margin, tied_on};
+    ghost use Rattle.view_model.specs.RelativeLayout.{group_on, far_margin, length_on, near_margin, child_on};
 
     /// A group with these facts under these specs.
-    pub fn band(self, own: &Facts, ws: Spec, hs: Spec) -> Band
-        ensures { result ≡ band_on self own.now (record { across = ws; down = hs }) }
+    pub fn group(self, own: &Facts, ws: Spec, hs: Spec) -> GroupAxis
+        ensures { result ≡ group_on self own.now (record { across = ws; down = hs }) }
     {
         match self {
-            Axis::Horizontal => Band {
+            Axis::Horizontal => GroupAxis {
                 spec: ws,
                 padding_near: own.padding_left(),
                 padding_far: own.padding_right(),
                 min: own.min.w,
             },
-            Axis::Vertical => Band {
+            Axis::Vertical => GroupAxis {
                 spec: hs,
                 padding_near: own.padding.top,
                 padding_far: own.padding.bottom,
@@ -119,12 +119,12 @@ impl Axis {
     }
 
     /// A child with these facts, in a group that runs from right to left or not.
-    pub fn tied(self, rtl: bool, kid: &Facts) -> Tied
-        ensures { result ≡ tied_on rtl self kid.now }
+    pub fn child(self, rtl: bool, kid: &Facts) -> ChildAxis
+        ensures { result ≡ child_on rtl self kid.now }
     {
         let rules = kid.rules.values;
         match self {
-            Axis::Horizontal => Tied {
+            Axis::Horizontal => ChildAxis {
                 dim: kid.width,
                 margin_near: kid.margin_left(),
                 margin_far: kid.margin_right(),
@@ -135,7 +135,7 @@ impl Axis {
                 centered: rules[CENTER] != 0 || rules[CENTER_H] != 0,
                 rests_far: rtl && is_free(&kid.rules),
             },
-            Axis::Vertical => Tied {
+            Axis::Vertical => ChildAxis {
                 dim: kid.height,
                 margin_near: kid.margins.top,
                 margin_far: kid.margins.bottom,

@@ -1,7 +1,7 @@
 //! A view that is to be added to a tree.
 
+use crate::class::Class;
 use crate::facts::Facts;
-use crate::kinds::Class;
 use crate::text::Text;
 
 /// A view that is to be added to a tree with others, and has no number yet.

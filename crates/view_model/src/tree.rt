@@ -1,7 +1,7 @@
 //! Plain trees.
 
+use crate::class::Class;
 use crate::facts::Facts;
-use crate::kinds::Class;
 use crate::text::Text;
 
 /// A plain tree: a view and the trees of its children, in order.

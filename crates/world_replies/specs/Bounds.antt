@@ -5,7 +5,7 @@ use Rattle.view_model.specs.Classes.{scrolls}
 use Rattle.view_model.specs.Forest.{Forest, Nothing, Branch}
 use Rattle.view_model.specs.Geometry.{Laid, rect_in}
 use Rattle.view_model.specs.PlainTree.{PlainView}
-use Rattle.view_model.specs.declared.kinds.Class.{Class}
+use Rattle.view_model.specs.declared.class.Class.{Class}
 use Rattle.world_replies.specs.Replies.{bounds_line}
 
 -- the offset that is printed of a view of this class, if it has one

@@ -5,7 +5,7 @@ ghost use Rattle.measure_pass.specs.Courses.{IsMeasuredBelow};
 ghost use Rattle.measure_pass.specs.Measured.{KeepsRest, kids_from, tree_from};
 ghost use Rattle.measure_pass.specs.Phases.{MeasuresAll, MeasuresNext, MeasuresPhase};
 ghost use Rattle.measure_pass.specs.Plans.{Ends, Frame};
-ghost use Rattle.view_model.specs.declared.kinds.Class.TheVariants.{FrameLayout};
+ghost use Rattle.view_model.specs.declared.class.Class.TheVariants.{FrameLayout};
 ghost use Rattle.view_tree.specs.Rows.{part_from};
 ghost use Rattle.view_tree.specs.Views.{IsLive, IsTree, class_of, held_of};
 

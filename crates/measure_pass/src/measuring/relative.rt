@@ -7,7 +7,7 @@ ghost use Rattle.measure_pass.specs.Replacing.{AreReplaced};
 ghost use Rattle.measure_pass.specs.Siblings.{AfterTurn, AfterTurns, FirstHasSize, FirstIsKnown, HaveSizes, TurnIsFixed, kept_spans, kids_in, order_on, phase_of};
 ghost use Rattle.relative_layout.specs.plan.RelativePlan.{RepresentsRelative};
 ghost use Rattle.view_model.specs.declared.facts.Facts.{Facts as FactsValue};
-ghost use Rattle.view_model.specs.declared.kinds.Class.TheVariants.{RelativeLayout};
+ghost use Rattle.view_model.specs.declared.class.Class.TheVariants.{RelativeLayout};
 ghost use Rattle.view_model.specs.Cycles.{links_in};
 ghost use Rattle.view_model.specs.Measuring.{Specs};
 ghost use Rattle.view_model.specs.RelativeLayout.{Spanned, phase_axis};

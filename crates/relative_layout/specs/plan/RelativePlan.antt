@@ -1,7 +1,7 @@
 -- What a plan represents: a group, its specs, and the children that it has taken in each phase, with their sides.
 use Rattle.std.specs.Prelude.{◌≡◌, ℕ, ℤ, Bool, true, false, List, [], ◌∷◌, ◌++◌, filter, map}
 use Rattle.geom_core.specs.declared.geometry.Size.{Size}
-use Rattle.relative_layout.specs.declared.plan.extent.Extent.{Extent}
+use Rattle.relative_layout.specs.declared.plan.extent.AxisExtent.{AxisExtent}
 use Rattle.relative_layout.specs.declared.plan.RelativePlan.{RelativePlan}
 use Rattle.view_model.specs.declared.facts.Facts.{Facts}
 use Rattle.view_model.specs.declared.relative.Anchors.{Anchors}
@@ -12,11 +12,12 @@ use Rattle.view_model.specs.Course.{Child}
 use Rattle.view_model.specs.Facts.{is_shown}
 use Rattle.view_model.specs.Measuring.{Specs}
 use Rattle.view_model.specs.RelativeCourse.{child_at}
-use Rattle.view_model.specs.RelativeLayout.{Spanned, band_on, edges_with, greatest_reach, phase_axis, span_on}
+use Rattle.view_model.specs.RelativeLayout.{Spanned, group_on, edges_with, greatest_reach, phase_axis, span_on}
 
 -- an axis of a group with these children
-pub record IsExtent (extent : Extent) (axis : Axis) (own : Facts) (specs : Specs) (kids : List Spanned) : Type 0 where
-  pub of_band : extent.band ≡ band_on axis own specs
+pub record IsExtent (extent : AxisExtent) (axis : Axis) (own : Facts) (specs : Specs) (kids : List Spanned) :
+    Type 0 where
+  pub of_band : extent.group ≡ group_on axis own specs
   pub of_most : extent.most ≡ greatest_reach axis kids
 
 -- a plan in a phase of this axis, with these children taken from left to right and these from top to bottom

@@ -5,15 +5,15 @@ ghost use Rattle.geom_core.specs.Limits.{IsCoordinate};
 ghost use Rattle.view_model.specs.RelativeLayout.{after_anchor, at_most, available_to, before_anchor, begins_at_parent, begins_with, both_insets, bounded_spec, ends_at_parent, ends_with, exactly, far_inset, far_side, loose_spec, loose_spec_in, near_inset, near_side, outer_far, outer_near, room_of, side_spec, spec_in, unbounded_spec, width_of};
 
 use geom_core::{MATCH, Mode, Spec, to_coordinate, to_size};
-use view_model::{Anchor, Anchors, Band, Tied};
+use view_model::{Anchor, Anchors, ChildAxis, GroupAxis};
 
 /// The size that a group's spec gives it.
-pub fn room(band: &Band) -> Option<i32>
-    ensures { result ≡ room_of band.now }
+pub fn room(group: &GroupAxis) -> Option<i32>
+    ensures { result ≡ room_of group.now }
 {
-    match band.spec.mode {
+    match group.spec.mode {
         Mode::Unspecified => None,
-        Mode::Exactly | Mode::AtMost => Some(band.spec.size),
+        Mode::Exactly | Mode::AtMost => Some(group.spec.size),
     }
 }
 
@@ -36,74 +36,74 @@ fn outer_far(anchor: &Anchor) -> i64
 }
 
 /// What the padding and the child's margin take on the near side.
-pub fn near_inset(band: &Band, kid: &Tied) -> i64
-    ensures value { result ≡ near_inset band.now kid.now }
+pub fn near_inset(group: &GroupAxis, kid: &ChildAxis) -> i64
+    ensures value { result ≡ near_inset group.now kid.now }
     ensures low { negsuc 4294967295 ≤ℤ result }
     ensures high { result ≤ℤ pos 4294967295 }
 {
-    i64::from(band.padding_near) + i64::from(kid.margin_near)
+    i64::from(group.padding_near) + i64::from(kid.margin_near)
 }
 
 /// What the padding and the child's margin take on the far side.
-pub fn far_inset(band: &Band, kid: &Tied) -> i64
-    ensures value { result ≡ far_inset band.now kid.now }
+pub fn far_inset(group: &GroupAxis, kid: &ChildAxis) -> i64
+    ensures value { result ≡ far_inset group.now kid.now }
     ensures low { negsuc 4294967295 ≤ℤ result }
     ensures high { result ≤ℤ pos 4294967295 }
 {
-    i64::from(band.padding_far) + i64::from(kid.margin_far)
+    i64::from(group.padding_far) + i64::from(kid.margin_far)
 }
 
-fn after(kid: &Tied, anchor: &Anchor) -> i32
+fn after(kid: &ChildAxis, anchor: &Anchor) -> i32
     ensures value { result ≡ after_anchor kid.now anchor.now }
     ensures edge { IsCoordinate result }
 {
     to_coordinate(outer_far(anchor) + i64::from(kid.margin_near))
 }
 
-fn begins_with(kid: &Tied, anchor: &Anchor) -> i32
+fn begins_with(kid: &ChildAxis, anchor: &Anchor) -> i32
     ensures value { result ≡ begins_with kid.now anchor.now }
     ensures edge { IsCoordinate result }
 {
     to_coordinate(i64::from(anchor.near) + i64::from(kid.margin_near))
 }
 
-fn begins_at_parent(band: &Band, kid: &Tied) -> i32
-    ensures value { result ≡ begins_at_parent band.now kid.now }
+fn begins_at_parent(group: &GroupAxis, kid: &ChildAxis) -> i32
+    ensures value { result ≡ begins_at_parent group.now kid.now }
     ensures edge { IsCoordinate result }
 {
-    to_coordinate(near_inset(band, kid))
+    to_coordinate(near_inset(group, kid))
 }
 
-fn before(kid: &Tied, anchor: &Anchor) -> i32
+fn before(kid: &ChildAxis, anchor: &Anchor) -> i32
     ensures value { result ≡ before_anchor kid.now anchor.now }
     ensures edge { IsCoordinate result }
 {
     to_coordinate(outer_near(anchor) - i64::from(kid.margin_far))
 }
 
-fn ends_with(kid: &Tied, anchor: &Anchor) -> i32
+fn ends_with(kid: &ChildAxis, anchor: &Anchor) -> i32
     ensures value { result ≡ ends_with kid.now anchor.now }
     ensures edge { IsCoordinate result }
 {
     to_coordinate(i64::from(anchor.far) - i64::from(kid.margin_far))
 }
 
-fn ends_at_parent(band: &Band, kid: &Tied) -> Option<i32>
-    ensures value { result ≡ option_map (ends_at_parent band.now kid.now) (room_of band.now) }
+fn ends_at_parent(group: &GroupAxis, kid: &ChildAxis) -> Option<i32>
+    ensures value { result ≡ option_map (ends_at_parent group.now kid.now) (room_of group.now) }
     ensures edge { IfSome result (λ side. IsCoordinate side) }
 {
-    let room = room(band)?;
-    Some(to_coordinate(i64::from(room) - far_inset(band, kid)))
+    let room = room(group)?;
+    Some(to_coordinate(i64::from(room) - far_inset(group, kid)))
 }
 
 /// The near side of a child as its rules set it.
 #[tactic(auto, unfolding(view_model::specs::RelativeLayout::near_side))]
-pub fn near_side(band: &Band, kid: &Tied, anchors: &Anchors) -> Option<i32>
-    ensures value { result ≡ near_side band.now kid.now anchors.now }
+pub fn near_side(group: &GroupAxis, kid: &ChildAxis, anchors: &Anchors) -> Option<i32>
+    ensures value { result ≡ near_side group.now kid.now anchors.now }
     ensures edge { IfSome result (λ side. IsCoordinate side) }
 {
     if kid.at_near {
-        return Some(begins_at_parent(band, kid));
+        return Some(begins_at_parent(group, kid));
     }
     match (anchors.align_near, anchors.after) {
         (Some(anchor), _) => Some(begins_with(kid, &anchor)),
@@ -114,12 +114,12 @@ pub fn near_side(band: &Band, kid: &Tied, anchors: &Anchors) -> Option<i32>
 
 /// The far side of a child as its rules set it.
 #[tactic(auto, unfolding(view_model::specs::RelativeLayout::far_side))]
-pub fn far_side(band: &Band, kid: &Tied, anchors: &Anchors) -> Option<i32>
-    ensures value { result ≡ far_side band.now kid.now anchors.now }
+pub fn far_side(group: &GroupAxis, kid: &ChildAxis, anchors: &Anchors) -> Option<i32>
+    ensures value { result ≡ far_side group.now kid.now anchors.now }
     ensures edge { IfSome result (λ side. IsCoordinate side) }
 {
     if kid.at_far {
-        if let Some(side) = ends_at_parent(band, kid) {
+        if let Some(side) = ends_at_parent(group, kid) {
             return Some(side);
         }
     }
@@ -181,79 +181,85 @@ fn bounded_spec(available: i64, dim: i32) -> Spec
 }
 
 /// Where a child may begin at the earliest.
-fn near_limit(band: &Band, kid: &Tied, near: Option<i32>) -> i64
-    ensures value { result ≡ unwrap_or near (near_inset band.now kid.now) }
+fn near_limit(group: &GroupAxis, kid: &ChildAxis, near: Option<i32>) -> i64
+    ensures value { result ≡ unwrap_or near (near_inset group.now kid.now) }
     ensures low { negsuc 4294967295 ≤ℤ result }
     ensures high { result ≤ℤ pos 4294967295 }
 {
     match near {
         Some(near) => i64::from(near),
-        None => near_inset(band, kid),
+        None => near_inset(group, kid),
     }
 }
 
 /// Where a child of a group of this size may end at the latest.
-fn far_limit(band: &Band, kid: &Tied, far: Option<i32>, room: i32) -> i64
-    ensures value { result ≡ unwrap_or far (room -ℤ far_inset band.now kid.now) }
+fn far_limit(group: &GroupAxis, kid: &ChildAxis, far: Option<i32>, room: i32) -> i64
+    ensures value { result ≡ unwrap_or far (room -ℤ far_inset group.now kid.now) }
     ensures low { negsuc 8589934591 ≤ℤ result }
     ensures high { result ≤ℤ pos 8589934591 }
 {
     match far {
         Some(far) => i64::from(far),
-        None => i64::from(room) - far_inset(band, kid),
+        None => i64::from(room) - far_inset(group, kid),
     }
 }
 
 /// How much is between the sides of a child, if they are set, and otherwise between those of a group of this size.
 #[tactic(auto, unfolding(view_model::specs::RelativeLayout::available_to))]
-fn available(band: &Band, kid: &Tied, near: Option<i32>, far: Option<i32>, room: i32) -> i64
-    ensures { result ≡ available_to band.now kid.now near far room }
+fn available(
+    group: &GroupAxis,
+    kid: &ChildAxis,
+    near: Option<i32>,
+    far: Option<i32>,
+    room: i32,
+) -> i64
+    ensures { result ≡ available_to group.now kid.now near far room }
 {
-    far_limit(band, kid, far, room) - near_limit(band, kid, near)
+    far_limit(group, kid, far, room) - near_limit(group, kid, near)
 }
 
-fn spec_in(band: &Band, kid: &Tied, near: Option<i32>, far: Option<i32>) -> Spec
-    ensures { result ≡ spec_in band.now kid.now near far (room_of band.now) }
+fn spec_in(group: &GroupAxis, kid: &ChildAxis, near: Option<i32>, far: Option<i32>) -> Spec
+    ensures { result ≡ spec_in group.now kid.now near far (room_of group.now) }
 {
-    match room(band) {
+    match room(group) {
         None => unbounded_spec(kid.dim),
-        Some(room) => bounded_spec(available(band, kid, near, far, room), kid.dim),
+        Some(room) => bounded_spec(available(group, kid, near, far, room), kid.dim),
     }
 }
 
 /// The spec of a child with these sides.
-pub fn side_spec(band: &Band, kid: &Tied, near: Option<i32>, far: Option<i32>) -> Spec
-    ensures { result ≡ side_spec band.now kid.now near far }
+pub fn side_spec(group: &GroupAxis, kid: &ChildAxis, near: Option<i32>, far: Option<i32>) -> Spec
+    ensures { result ≡ side_spec group.now kid.now near far }
 {
     match (near, far) {
         (Some(near), Some(far)) => exactly(i64::from(far) - i64::from(near)),
-        (None, _) => spec_in(band, kid, near, far),
-        (Some(_), None) => spec_in(band, kid, near, far),
+        (None, _) => spec_in(group, kid, near, far),
+        (Some(_), None) => spec_in(group, kid, near, far),
     }
 }
 
 /// What the padding and the child's margins take on both sides.
-fn both_insets(band: &Band, kid: &Tied) -> i64
-    ensures value { result ≡ both_insets band.now kid.now }
+fn both_insets(group: &GroupAxis, kid: &ChildAxis) -> i64
+    ensures value { result ≡ both_insets group.now kid.now }
     ensures low { negsuc 8589934591 ≤ℤ result }
     ensures high { result ≤ℤ pos 8589934591 }
 {
-    near_inset(band, kid) + far_inset(band, kid)
+    near_inset(group, kid) + far_inset(group, kid)
 }
 
 /// What is left for a child of a group of this size.
-fn inner_room(band: &Band, kid: &Tied, room: i32) -> i64
-    ensures { result ≡ room -ℤ both_insets band.now kid.now }
+fn inner_room(group: &GroupAxis, kid: &ChildAxis, room: i32) -> i64
+    ensures { result ≡ room -ℤ both_insets group.now kid.now }
 {
-    i64::from(room) - both_insets(band, kid)
+    i64::from(room) - both_insets(group, kid)
 }
 
 /// The spec of a child in a group of this size, while nothing is known of its siblings.
 #[tactic(auto, unfolding(view_model::specs::RelativeLayout::loose_spec))]
-fn loose_spec_within(band: &Band, kid: &Tied, room: i32) -> Spec
-    ensures { result ≡ loose_spec band.now kid.now room }
+fn loose_spec_within(group: &GroupAxis, kid: &ChildAxis, room: i32) -> Spec
+    ensures { result ≡ loose_spec group.now kid.now room }
 {
-    let available = inner_room(band, kid, room);
+    let available = inner_room(group, kid, room);
     if kid.dim == MATCH {
         return exactly(available);
     }
@@ -261,12 +267,12 @@ fn loose_spec_within(band: &Band, kid: &Tied, room: i32) -> Spec
 }
 
 /// The spec of a child while nothing is known of its siblings.
-pub fn loose_spec(band: &Band, kid: &Tied) -> Spec
-    ensures { result ≡ loose_spec_in band.now kid.now (room_of band.now) }
+pub fn loose_spec(group: &GroupAxis, kid: &ChildAxis) -> Spec
+    ensures { result ≡ loose_spec_in group.now kid.now (room_of group.now) }
 {
-    match room(band) {
+    match room(group) {
         None => unbounded_spec(kid.dim),
-        Some(room) => loose_spec_within(band, kid, room),
+        Some(room) => loose_spec_within(group, kid, room),
     }
 }
 

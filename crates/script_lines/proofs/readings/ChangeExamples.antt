@@ -9,7 +9,7 @@ use Rattle.script_lines.specs.declared.words.naming.Name.TheVariants.{Number, Id
 use Rattle.view_model.specs.declared.changes.Act.TheVariants as act
 use Rattle.view_model.specs.declared.changes.Change.TheVariants as change
 use Rattle.view_model.specs.declared.changes.Flag.TheVariants as flag
-use Rattle.view_model.specs.declared.kinds.Visibility.TheVariants as visibility
+use Rattle.view_model.specs.declared.visibility.Visibility.TheVariants as visibility
 use Rattle.view_model.specs.declared.placing.Across.TheVariants as across
 use Rattle.view_model.specs.declared.placing.Down.TheVariants as down
 use Rattle.view_model.specs.Facts.{no_gravity}

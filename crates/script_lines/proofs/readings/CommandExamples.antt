@@ -6,7 +6,7 @@ use lib.Utf8.{encode}
 use Rattle.script_lines.specs.commands.PlainCommands.{Window, Add, Remove, Frame, Bounds}
 use Rattle.script_lines.specs.declared.fault.LineFault.TheVariants.{Syntax, Range}
 use Rattle.script_lines.specs.declared.words.naming.Name.TheVariants.{Number, Id}
-use Rattle.view_model.specs.declared.kinds.Class.TheVariants as class
+use Rattle.view_model.specs.declared.class.Class.TheVariants as class
 use Rattle.script_lines.specs.reading.Changes.{act_of, change_of}
 use Rattle.script_lines.specs.reading.Commands.{add_of, bounds_of, class_of, command_by, command_in, command_of, frame_of, remove_of, set_of}
 use Rattle.script_lines.specs.words.Dimensions.{dimension_of, extents_of}

@@ -8,7 +8,7 @@ use Rattle.script_lines.specs.declared.fault.LineFault.TheVariants.{Syntax, Rang
 use Rattle.script_lines.specs.declared.words.naming.Name.TheVariants.{Number, Id}
 use Rattle.view_model.specs.declared.changes.Act.TheVariants as act
 use Rattle.view_model.specs.declared.changes.Flag.TheVariants as flag
-use Rattle.view_model.specs.declared.kinds.Answer.TheVariants as answer
+use Rattle.view_model.specs.declared.answer.Answer.TheVariants as answer
 use Rattle.script_lines.specs.reading.Actions.{action_of, actions_of, with_actions}
 use Rattle.script_lines.specs.reading.Changes.{act_of, answer_named, answer_of, change_of, flag_named, flag_of}
 use Rattle.script_lines.specs.reading.Commands.{command_by, command_in, command_of, disallow_of, set_of}

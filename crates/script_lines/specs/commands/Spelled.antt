@@ -15,12 +15,12 @@ use Rattle.view_model.specs.declared.changes.Change.{Change}
 use Rattle.view_model.specs.declared.changes.Change.TheVariants as change
 use Rattle.view_model.specs.declared.changes.Flag.{Flag}
 use Rattle.view_model.specs.declared.changes.Flag.TheVariants as flag
-use Rattle.view_model.specs.declared.kinds.Answer.{Answer}
-use Rattle.view_model.specs.declared.kinds.Answer.TheVariants as answer
-use Rattle.view_model.specs.declared.kinds.Class.{Class}
-use Rattle.view_model.specs.declared.kinds.Class.TheVariants as class
-use Rattle.view_model.specs.declared.kinds.Visibility.{Visibility}
-use Rattle.view_model.specs.declared.kinds.Visibility.TheVariants as visibility
+use Rattle.view_model.specs.declared.answer.Answer.{Answer}
+use Rattle.view_model.specs.declared.answer.Answer.TheVariants as answer
+use Rattle.view_model.specs.declared.class.Class.{Class}
+use Rattle.view_model.specs.declared.class.Class.TheVariants as class
+use Rattle.view_model.specs.declared.visibility.Visibility.{Visibility}
+use Rattle.view_model.specs.declared.visibility.Visibility.TheVariants as visibility
 use Rattle.view_model.specs.declared.placing.Across.{Across}
 use Rattle.view_model.specs.declared.placing.Across.TheVariants as across
 use Rattle.view_model.specs.declared.placing.Direction.{Direction}

@@ -11,10 +11,10 @@ use Rattle.view_model.specs.declared.changes.Change.{Change}
 use Rattle.view_model.specs.declared.changes.Change.TheVariants as change
 use Rattle.view_model.specs.declared.changes.Flag.{Flag}
 use Rattle.view_model.specs.declared.changes.Flag.TheVariants as flag
-use Rattle.view_model.specs.declared.kinds.Answer.{Answer}
-use Rattle.view_model.specs.declared.kinds.Answer.TheVariants as answer
-use Rattle.view_model.specs.declared.kinds.Visibility.{Visibility}
-use Rattle.view_model.specs.declared.kinds.Visibility.TheVariants as visibility
+use Rattle.view_model.specs.declared.answer.Answer.{Answer}
+use Rattle.view_model.specs.declared.answer.Answer.TheVariants as answer
+use Rattle.view_model.specs.declared.visibility.Visibility.{Visibility}
+use Rattle.view_model.specs.declared.visibility.Visibility.TheVariants as visibility
 use Rattle.script_lines.specs.reading.Actions.{actions_of}
 use Rattle.script_lines.specs.words.Colors.{last_color}
 use Rattle.script_lines.specs.words.Dimensions.{IsExtent, extents_of}

@@ -9,7 +9,7 @@ use Rattle.kept_views.specs.Kept.{IsConsistent, IsKept, first_place}
 use Rattle.touch_dispatch.specs.Dispatch.{range_for}
 use Rattle.touch_dispatch.specs.reaching.TreeEvents.{own_range}
 use Rattle.view_model.specs.declared.facts.Facts.{Facts}
-use Rattle.view_model.specs.declared.kinds.Class.{Class}
+use Rattle.view_model.specs.declared.class.Class.{Class}
 use Rattle.view_model.specs.Forest.{Forest, Nothing, Branch}
 use Rattle.view_model.specs.Classes.{scrolls}
 use Rattle.view_model.specs.Offsets.{brought, range_by}

@@ -22,8 +22,8 @@ use Rattle.touch_event.specs.declared.event.Action.{Action}
 use Rattle.touch_event.specs.declared.event.Action.TheVariants.{Down, Up, Move, Cancel, PointerDown, PointerUp}
 use Rattle.touch_event.specs.declared.event.Event.{Event}
 use Rattle.touch_targets.specs.Captures.{Target, is_target}
-use Rattle.view_model.specs.declared.kinds.Answer.{Answer}
-use Rattle.view_model.specs.declared.kinds.Answer.TheVariants.{Off, Yes, Click as ClickPlan}
+use Rattle.view_model.specs.declared.answer.Answer.{Answer}
+use Rattle.view_model.specs.declared.answer.Answer.TheVariants.{Off, Yes, Click as ClickPlan}
 use Rattle.view_model.specs.Facts.{is_shown}
 use Rattle.view_model.specs.Classes.{is_group}
 use Rattle.view_model.specs.Forest.{Forest, Nothing, Branch}

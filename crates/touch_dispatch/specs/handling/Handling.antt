@@ -12,8 +12,8 @@ use Rattle.touch_event.specs.declared.event.Action.{Action}
 use Rattle.touch_event.specs.declared.event.Action.TheVariants.{Down, Up, Move, Cancel, PointerDown, PointerUp}
 use Rattle.touch_event.specs.declared.event.Event.{Event}
 use Rattle.touch_targets.specs.Captures.{Target}
-use Rattle.view_model.specs.declared.kinds.Answer.{Answer}
-use Rattle.view_model.specs.declared.kinds.Answer.TheVariants.{Off, Yes, Click as ClickPlan}
+use Rattle.view_model.specs.declared.answer.Answer.{Answer}
+use Rattle.view_model.specs.declared.answer.Answer.TheVariants.{Off, Yes, Click as ClickPlan}
 use Rattle.view_model.specs.ScrollView.{offset_within}
 
 -- the progress of an event: the gesture and the offsets after it so far, and which views it went to

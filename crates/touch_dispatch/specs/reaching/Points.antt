@@ -6,8 +6,8 @@ use Rattle.geom_core.specs.declared.geometry.Rect.{Rect}
 use Rattle.touch_event.specs.declared.event.Action.TheVariants.{Cancel}
 use Rattle.touch_event.specs.declared.event.Event.{Event}
 use Rattle.touch_event.specs.declared.event.Point.{Point}
-use Rattle.view_model.specs.declared.kinds.Visibility.{Visibility}
-use Rattle.view_model.specs.declared.kinds.Visibility.TheVariants.{Visible, Invisible, Gone}
+use Rattle.view_model.specs.declared.visibility.Visibility.{Visibility}
+use Rattle.view_model.specs.declared.visibility.Visibility.TheVariants.{Visible, Invisible, Gone}
 
 abbrev pub point_of : ℕ → List Point → Option Point
 point_of id points = find (λ (p : Point). p.id == id) points

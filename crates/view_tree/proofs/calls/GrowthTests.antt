@@ -1,6 +1,6 @@
 -- Whether a parent takes a child, as a test computes it.
 use Rattle.std.proofs.Common.{◌≡◌, ◌+◌, ◌∙◌, ℕ, suc, Bool, Option, Some, Result, length, ap, sym, subst, arith}
-use Rattle.view_model.specs.declared.kinds.Class.{Class}
+use Rattle.view_model.specs.declared.class.Class.{Class}
 use Rattle.view_model.specs.Forest.{count_of}
 use Rattle.view_model.specs.Growth.{growth_refusal, refusal_at}
 use Rattle.view_model.specs.Refusals.{RefusesExactlyFor, PlainRefusal}

@@ -9,7 +9,7 @@ use Rattle.view_model.specs.declared.tree.Tree.TheFolds.{fold-roll-Tree}
 use Rattle.view_tree.specs.Rows.{Row, first_tree, later_siblings, children_of_first, part_from, count_of_key}
 use Rattle.view_tree.specs.Views.{Held, IsLive, Views, class_of, facts_of, held_of, number_of, plain_rows, text_of, view_at}
 use Rattle.view_model.specs.declared.facts.Facts.{Facts}
-use Rattle.view_model.specs.declared.kinds.Class.{Class}
+use Rattle.view_model.specs.declared.class.Class.{Class}
 use Rattle.view_tree.proofs.forest.KeyLaws.{located}
 
 -- these trees, and then the rest

@@ -4,7 +4,7 @@ use Rattle.std.proofs.lemmas.Bool.{eq-eqb}
 use Rattle.std.specs.Prelude.{IfSome}
 use Rattle.std.specs.Option.{option_map, option_or}
 use Rattle.view_model.specs.Numbers.{max_views}
-use Rattle.view_model.specs.declared.kinds.Class.{Class}
+use Rattle.view_model.specs.declared.class.Class.{Class}
 use Rattle.view_model.specs.declared.sprout.Sprout.{Sprout}
 use Rattle.view_model.specs.Directed.{directed}
 use Rattle.view_model.specs.Forest.{Forest, Nothing, Branch, count_of}

@@ -5,7 +5,7 @@ use Rattle.std.proofs.lemmas.List.{append-nil}
 use Rattle.std.specs.Option.{option_map, option_or}
 use Rattle.std.specs.Prelude.{IfSome, if◌then◌else◌}
 use Rattle.view_model.proofs.SproutLaws.{preorder-seeds_of}
-use Rattle.view_model.specs.declared.kinds.Class.{Class}
+use Rattle.view_model.specs.declared.class.Class.{Class}
 use Rattle.view_model.specs.declared.refusal.Member.{Member}
 use Rattle.view_model.specs.declared.relative.Link.{Link}
 use Rattle.view_model.specs.declared.sprout.Sprout.{Sprout}

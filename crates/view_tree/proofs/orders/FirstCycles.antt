@@ -3,7 +3,7 @@ use Rattle.std.proofs.Common.{◌≡◌, ◌≢◌, ℕ, ◌+◌, Bool, true, Li
 use Rattle.std.proofs.lemmas.Bool.{cases_Bool, cases_eq, eq-eqb, ne_eqb}
 use Rattle.std.specs.Option.{option_or}
 use Rattle.std.specs.Prelude.{slice_index}
-use Rattle.view_model.specs.declared.kinds.Class.{Class}
+use Rattle.view_model.specs.declared.class.Class.{Class}
 use Rattle.view_model.specs.declared.refusal.Member.{Member}
 use Rattle.view_model.specs.Numbers.{cycle}
 use Rattle.view_model.specs.Classes.{is_relative}

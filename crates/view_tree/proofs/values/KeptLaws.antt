@@ -4,7 +4,7 @@ use Rattle.std.proofs.lemmas.Bool.{eq-eqb, ne_eqb, cases_eq, cases_Bool, ltb-tru
 use Rattle.std.specs.Prelude.{◌==◌, ◌&&◌, if◌then◌else◌, IfSome, nat_lt, not}
 use Rattle.std.specs.Option.{option_map}
 use Rattle.view_model.specs.Numbers.{max_depth, max_views, not_group, scroll_full, too_deep, too_many_views}
-use Rattle.view_model.specs.declared.kinds.Class.{Class}
+use Rattle.view_model.specs.declared.class.Class.{Class}
 use Rattle.view_model.specs.Direction.{dir}
 use Rattle.view_model.specs.Forest.{Forest, Nothing, Branch, count_of, edited_where, joined, or_else}
 use Rattle.view_model.specs.Classes.{is_group, takes_one_child}

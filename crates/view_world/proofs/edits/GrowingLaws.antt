@@ -27,7 +27,7 @@ use Rattle.view_model.specs.Forest.{Nothing, count_of}
 use Rattle.view_model.specs.Growth.{grown_at, refusal_at}
 use Rattle.view_model.specs.PlainTree.{single}
 use Rattle.view_model.specs.Refusals.{PlainRefusal}
-use Rattle.view_model.specs.declared.kinds.Class.{Class}
+use Rattle.view_model.specs.declared.class.Class.{Class}
 use Rattle.kept_views.specs.Kept.{IsConsistent}
 use Rattle.view_tree.specs.tree.Directions.{running_below}
 use Rattle.view_tree.specs.Rows.{Row, count_of_key, count_of_number, leaf}

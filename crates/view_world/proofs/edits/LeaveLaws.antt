@@ -24,7 +24,7 @@ use Rattle.view_model.specs.PlainTree.{PlainView, numbers_of, part_of, pruned, v
 use Rattle.view_model.specs.declared.changes.Act.{Act}
 use Rattle.view_model.specs.declared.changes.Act.TheVariants as act
 use Rattle.view_model.specs.declared.facts.Facts.{Facts}
-use Rattle.view_model.specs.declared.kinds.Visibility.{Visibility}
+use Rattle.view_model.specs.declared.visibility.Visibility.{Visibility}
 use Rattle.view_tree.proofs.forest.PlainLaws.{number_there}
 use Rattle.view_tree.specs.Rows.{ancestors}
 use Rattle.view_tree.specs.Views.{IsLive, IsTree, SameTree, Views, facts_of, number_of, plain_of}

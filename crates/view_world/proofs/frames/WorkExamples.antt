@@ -13,7 +13,7 @@ use Rattle.seen_edits.specs.Differing.{differing}
 use Rattle.text_lines.specs.Joined.{◌⧺◌}
 use Rattle.view_model.specs.declared.changes.Act.TheVariants as act
 use Rattle.view_model.specs.declared.changes.Change.TheVariants as change
-use Rattle.view_model.specs.declared.kinds.Class.TheVariants as class
+use Rattle.view_model.specs.declared.class.Class.TheVariants as class
 use Rattle.view_model.specs.Growth.{growth_refusal}
 use Rattle.view_model.specs.Visible.{no_rect}
 use Rattle.world_parts.specs.Reply.{Reply, Done, Refused}

@@ -44,7 +44,7 @@ use Rattle.view_model.specs.declared.changes.Change.TheVariants as change
 use Rattle.view_model.specs.declared.changes.Flag.TheVariants as flag
 use Rattle.view_model.specs.declared.changes.NumEdit.{NumEdit}
 use Rattle.view_model.specs.declared.facts.Facts.{Facts}
-use Rattle.view_model.specs.declared.kinds.Class.{Class}
+use Rattle.view_model.specs.declared.class.Class.{Class}
 use Rattle.view_model.specs.declared.facets.Facet.{Facet}
 use Rattle.view_model.specs.declared.facets.Facet.TheVariants as facet
 use Rattle.view_tree.proofs.forest.ForestLaws.{every-edited, every-joined}

@@ -8,9 +8,9 @@ use Rattle.script_lines.specs.declared.words.naming.Name.TheVariants.{Number}
 use Rattle.text_lines.specs.Joined.{◌⧺◌, texts_of}
 use Rattle.touch_dispatch.specs.reaching.Points.{is_inside, local_point}
 use Rattle.view_model.specs.declared.changes.Act.TheVariants as act
-use Rattle.view_model.specs.declared.kinds.Answer.TheVariants as answer
-use Rattle.view_model.specs.declared.kinds.Class.TheVariants as class
-use Rattle.view_model.specs.declared.kinds.Visibility.TheVariants.{Gone}
+use Rattle.view_model.specs.declared.answer.Answer.TheVariants as answer
+use Rattle.view_model.specs.declared.class.Class.TheVariants as class
+use Rattle.view_model.specs.declared.visibility.Visibility.TheVariants.{Gone}
 use Rattle.view_model.specs.Growth.{growth_refusal}
 use Rattle.view_model.specs.LinearLayout.{alignment_on, dim_on, extent, first_dim, is_skipped, line_begin, low_margin, low_padding, margins_on, padding_on, size_on, spec_on}
 use Rattle.view_model.specs.Refusals.{refusal_numbered}

@@ -8,8 +8,8 @@ use Rattle.script_lines.specs.commands.PlainCommands.{Window, Add, Remove, Act, 
 use Rattle.script_lines.specs.declared.words.naming.Name.TheVariants.{Number, Id}
 use Rattle.text_lines.specs.Joined.{◌⧺◌}
 use Rattle.view_model.specs.declared.changes.Act.TheVariants as act
-use Rattle.view_model.specs.declared.kinds.Class.TheVariants as class
-use Rattle.view_model.specs.declared.kinds.Visibility.TheVariants.{Visible, Gone}
+use Rattle.view_model.specs.declared.class.Class.TheVariants as class
+use Rattle.view_model.specs.declared.visibility.Visibility.TheVariants.{Visible, Gone}
 use Rattle.view_model.specs.Growth.{growth_refusal}
 use Rattle.view_model.specs.Refusals.{PlainRefusal, refusal_numbered}
 use Rattle.world_parts.specs.World.{World, empty_world}

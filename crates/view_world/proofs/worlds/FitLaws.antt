@@ -11,7 +11,7 @@ use Rattle.view_model.specs.Facets.{takes}
 use Rattle.tree_edits.specs.Scene.{EditScene, scene_of}
 use Rattle.view_model.specs.declared.fault.Fault.{Fault}
 use Rattle.view_model.specs.declared.changes.Act.{Act}
-use Rattle.view_model.specs.declared.kinds.Class.{Class}
+use Rattle.view_model.specs.declared.class.Class.{Class}
 use Rattle.view_model.specs.Geometry.{Laid, without}
 use Rattle.view_model.specs.Growth.{refusal_at}
 use Rattle.view_model.specs.PlainTree.{PlainView, numbers_of, part_of, view_in}

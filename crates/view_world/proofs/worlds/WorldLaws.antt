@@ -16,7 +16,7 @@ use Rattle.tree_edits.specs.Scene.{EditScene, scene_of}
 use Rattle.view_model.specs.declared.fault.Fault.{Fault}
 use Rattle.view_model.specs.declared.fault.Fault.TheVariants as fault
 use Rattle.view_model.specs.declared.changes.Act.{Act}
-use Rattle.view_model.specs.declared.kinds.Class.{Class}
+use Rattle.view_model.specs.declared.class.Class.{Class}
 use Rattle.view_model.specs.Forest.{Forest, Nothing, Branch}
 use Rattle.view_model.specs.Growth.{refusal_at}
 use Rattle.view_model.specs.PlainTree.{PlainView, view_in, with_text}

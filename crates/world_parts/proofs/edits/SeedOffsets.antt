@@ -29,7 +29,7 @@ use Rattle.view_model.specs.Refusals.{◌>>=◌, PlainRefusal}
 use Rattle.view_model.specs.Resources.{Entries}
 use Rattle.view_model.specs.Sprouts.{seeds_of}
 use Rattle.view_model.specs.declared.facts.Facts.{Facts}
-use Rattle.view_model.specs.declared.kinds.Class.{Class}
+use Rattle.view_model.specs.declared.class.Class.{Class}
 use Rattle.world_parts.specs.Inflating.{document_of, views_in}
 use Rattle.world_parts.specs.Inflating.{AreUnscrolled}
 

@@ -13,8 +13,8 @@ use Rattle.touch_targets.specs.Captures.{Target, is_target}
 use Rattle.view_model.specs.Forest.{Forest, Nothing, Branch}
 use Rattle.view_model.specs.Classes.{is_group, scrolls}
 use Rattle.view_model.specs.PlainTree.{PlainView}
-use Rattle.view_model.specs.declared.kinds.Answer.{Answer}
-use Rattle.view_model.specs.declared.kinds.Answer.TheVariants.{Off, Yes, Click}
+use Rattle.view_model.specs.declared.answer.Answer.{Answer}
+use Rattle.view_model.specs.declared.answer.Answer.TheVariants.{Off, Yes, Click}
 
 -- what is read of a view that handles an event itself
 abbrev received : ℕ → Bool → Answer → ℕ → Option Rect → ℤ → Bool → ℤ → Receiver

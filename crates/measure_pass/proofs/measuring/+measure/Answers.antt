@@ -26,7 +26,7 @@ use Rattle.relative_layout.specs.plan.RelativePlan.{spanned_in}
 use Rattle.view_model.specs.declared.relative.Axis.TheVariants.{Horizontal, Vertical}
 use Rattle.geom_core.specs.declared.geometry.Size.{Size}
 use Rattle.view_model.specs.declared.facts.Facts.{Facts}
-use Rattle.view_model.specs.declared.kinds.Class.TheVariants.{View, TextView, FrameLayout, LinearLayout, ScrollView}
+use Rattle.view_model.specs.declared.class.Class.TheVariants.{View, TextView, FrameLayout, LinearLayout, ScrollView}
 use Rattle.view_model.specs.declared.work.Work.{Work}
 use Rattle.view_model.specs.Facts.{is_shown, layout_facts}
 use Rattle.view_model.specs.Forest.{Branch, count_of}

@@ -16,7 +16,7 @@ returns-clause-colors c =
     let some : 0 < c.args.width = omega arith in
     seen_of-written_then (blend_of ink.color) (is_between strip.top strip.bottom y) (is_set strip ink.bits x y) (is_set strip ink.bits 0 y) _ _ _ _ _ _
     (λ under. alpha_of-blend_of ink.color under fits.fits) (λ is. (of_both _ _ (of_both _ _ is).1).0) (λ is. (of_both _ _ (of_both _ _ is).1).0)
-    (c.write_band.ensures.seen 0 y some) (c.write_band.ensures.seen x y column)
+    (c.write_range.ensures.seen 0 y some) (c.write_range.ensures.seen x y column)
     (c.ink_written.ensures.colors 0 y some) (c.ink_written.ensures.colors x y column)
 
 pub returns-clause-unmarked : goal.returns-clause-unmarked
@@ -25,4 +25,4 @@ returns-clause-unmarked c =
     let fits : Fits w32 ink.color.0 = search rules in
     λ y is.
     unmarked-changed (blend_of ink.color) (is_set c.args.strip ink.bits 0 y) _ _ (λ under. alpha_of-blend_of ink.color under fits.fits)
-    (c.ink_written.ensures.colors 0 y (omega arith)) (c.write_band.ensures.unmarked y is)
+    (c.ink_written.ensures.colors 0 y (omega arith)) (c.write_range.ensures.unmarked y is)

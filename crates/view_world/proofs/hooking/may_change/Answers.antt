@@ -2,7 +2,7 @@ use Rattle.std.proofs.Common.{sym, ◌∙◌, ap}
 use Rattle.std.specs.Prelude.{Option}
 use Rattle.view_model.specs.Facets.{takes_change}
 use Rattle.view_model.specs.PlainTree.{PlainView}
-use Rattle.view_model.specs.declared.kinds.Class.{Class}
+use Rattle.view_model.specs.declared.class.Class.{Class}
 use Rattle.view_world.specs.world.Step.{may_change}
 use Rattle.view_world.proofs.hooking.may_change.Goals as goal
 

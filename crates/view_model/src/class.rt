@@ -1,4 +1,4 @@
-//! The class of a view, its visibility and how it answers events.
+//! The class of a view.
 
 /// The class of a view, by which it measures and lays out its children. A class is added here together with its rules.
 #[derive(Clone, Copy, PartialEq, Eq)]
@@ -102,23 +102,4 @@ impl Class {
             Class::ScrollView => true,
         }
     }
-}
-
-/// Whether a view is drawn, and whether it takes part in layout.
-#[derive(Clone, Copy)]
-pub enum Visibility {
-    Visible,
-    /// Not drawn, but measured and laid out.
-    Invisible,
-    /// Neither drawn nor measured nor laid out, and all below it likewise.
-    Gone,
-}
-
-/// How a view answers an event that reaches it.
-#[derive(Clone, Copy)]
-pub enum Answer {
-    Off,
-    Yes,
-    /// Yes, and a press that is lifted near the view is a click.
-    Click,
 }
