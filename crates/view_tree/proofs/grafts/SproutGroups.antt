@@ -132,7 +132,7 @@ AllKept groups number (sprout ∷ more) =
 pub own_kept : (relative : Bool) (number : ℕ) (links : List Link) (numbers : List ℕ) (entries : List (ℕ × Group)) (before : Option PlainGroup) → IsOwnFor relative number links numbers entries → relative ≡ true
     → IsKeptFor links numbers (noted entries number before)
 own_kept false number links numbers entries before is relative = absurd (cc)
-own_kept true number links numbers entries before is relative = rw (is.only, eq-eqb number number refl) is.right
+own_kept true number links numbers entries before is relative = rw (is.only, eq-eqb number number refl) is.right.right
 
 pub all_kept : (groups : Groups) (before : Groups) (number : ℕ) (sprouts : List Sprout) (entries : List (ℕ × Group)) → AreEntries number sprouts entries
     → ((k : ℕ) → number ≤ k → groups k ≡ noted entries k (before k)) → AllKept groups number sprouts

@@ -179,6 +179,11 @@ pub record IsGroupFor (links : List Link) (kids : List ℕ) (group : PlainGroup)
   pub given_up : IsAllOrNone group.complete group.latest
   pub marked : HasRightMarks group
 
+-- what is made anew for such children is right, and its table has at most one id for each of them
+pub record IsNewGroupFor (links : List Link) (kids : List ℕ) (group : PlainGroup) : Type 0 where
+  pub right : IsGroupFor links kids group
+  pub few : length group.latest ≤ length kids
+
 abbrev pub IsKeptFor : List Link → List ℕ → Option PlainGroup → Type 0
 IsKeptFor links kids None = ⊥
 IsKeptFor links kids (Some group) = IsGroupFor links kids group

@@ -14,7 +14,7 @@ use Rattle.view_model.specs.SiblingRules.{leads}
 use Rattle.view_model.specs.declared.fault.Fault.{Fault}
 use Rattle.view_model.specs.declared.fault.Fault.TheVariants as fault
 use Rattle.view_tree.specs.declared.groups.Group.{Group}
-use Rattle.view_tree.specs.groups.Ordering.{IsGroupFor, PlainGroup, plain_group}
+use Rattle.view_tree.specs.groups.Ordering.{IsNewGroupFor, PlainGroup, plain_group}
 use Rattle.view_tree.specs.Rows.{children_of_first, part_from, views_of}
 use Rattle.view_tree.specs.Views.{Views, class_of, number_of}
 
@@ -62,7 +62,7 @@ cycle_in name number (sprout ∷ more) = option_or (cycle_after name number spro
 pub record IsEntryFor (number : ℕ) (links : List Link) (numbers : List ℕ) (entries : List (ℕ × Group)) : Type 0 where
   pub group : Group
   pub only : entries ≡ (number, group) ∷ []
-  pub right : IsGroupFor links numbers (plain_group group)
+  pub right : IsNewGroupFor links numbers (plain_group group)
 
 -- an entry, if the view is a relative layout
 abbrev pub IsOwnFor : Bool → ℕ → List Link → List ℕ → List (ℕ × Group) → Type 0
@@ -91,7 +91,7 @@ IsMadeUnless reason Made (Err fault.NoMemory) = Unit {0}
 -- the result for children that are to be put in order
 abbrev pub IsGroupOrCycle : (ℕ → Member) → List Link → List ℕ → Result Group Fault → Type 0
 IsGroupOrCycle name links numbers result =
-    IsMadeUnless (cycle_of name links numbers) (λ group. IsGroupFor links numbers (plain_group group)) result
+    IsMadeUnless (cycle_of name links numbers) (λ group. IsNewGroupFor links numbers (plain_group group)) result
 
 -- some entries come after others
 pub record HasAdded (old new : List (ℕ × Group)) (Made : List (ℕ × Group) → Type 0) : Type 0 where

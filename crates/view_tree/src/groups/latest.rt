@@ -70,14 +70,16 @@ pub fn reserve_id(latest: &mut IndexMap<u32, u64>, id: u32) -> Result<(), AllocE
     latest.reserve(1)
 }
 
-/// For each id of some children a number that those of the children with the id do not exceed.
+/// For each id of some children a number that those of the children with the id do not exceed. It takes memory for
+/// these ids alone.
 pub fn latest_of(
     alloc: Global,
     links: &[Link],
     numbers: &[u64],
 ) -> Result<IndexMap<u32, u64>, AllocError>
     requires { length numbers.now ≡ length links.now }
-    ensures { IfOk result (λ latest. AreReached latest.entries links.now numbers.now) }
+    ensures reached { IfOk result (λ latest. AreReached latest.entries links.now numbers.now) }
+    ensures few { IfOk result (λ latest. length latest.entries ≤ length links.now) }
 {
     let mut latest = IndexMap::new(alloc);
     for (place, link) in links.iter().enumerate() {

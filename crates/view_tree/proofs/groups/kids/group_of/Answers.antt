@@ -1,4 +1,4 @@
-use Rattle.std.proofs.Common.{◌≡◌, List, ℕ, false, refl, subst, true}
+use Rattle.std.proofs.Common.{◌≡◌, List, ℕ, ◌≤◌, arith, false, length, refl, subst, true}
 use Rattle.std.specs.Prelude.{slice_index}
 use Rattle.relative_layout.specs.declared.ordering.OrderFault.TheVariants as order
 use Rattle.relative_layout.specs.ordering.Sorting.{IsFaultOf}
@@ -17,16 +17,22 @@ returns-in-Ok-latest_of c =
       none_of (member_from c.args.next) c.args.kids.links.items c.args.kids.numbers.items
           (subst IsFree c.deref.ensures.value (record { across = e.acyclic_across; down = e.acyclic_down })),
       record {
-        numbers = refl;
-        orders = subst (λ (links : List Link). AreOrders links (plain_orders c.in-Ok.orders)) c.deref.ensures.value (record { across = e.across; down = e.down });
-        highest = subst (IsAboveNamed c.highest_named.result) c.deref-in-Ok-latest_of-3.ensures.value c.highest_named.ensures;
-        rising = c.requires.rising;
-        latest = λ _. rw (c.deref-in-Ok.ensures.value, c.deref-in-Ok-2.ensures.value) at c.in-Ok-latest_of.ensures;
-        given_up = λ no. let e : true ≡ false = no in absurd (cc);
-        marked = record {
-          across = λ e. subst IsStraight c.deref-in-Ok-latest_of.ensures.value (c.is_straight.ensures e);
-          down = λ e. subst IsStraight c.deref-in-Ok-latest_of-2.ensures.value (c.is_straight-in-Ok-latest_of.ensures e);
+        right = record {
+          numbers = refl;
+          orders = subst (λ (links : List Link). AreOrders links (plain_orders c.in-Ok.orders)) c.deref.ensures.value (record { across = e.across; down = e.down });
+          highest = subst (IsAboveNamed c.highest_named.result) c.deref-in-Ok-latest_of-3.ensures.value c.highest_named.ensures;
+          rising = c.requires.rising;
+          latest = λ _. rw (c.deref-in-Ok.ensures.value, c.deref-in-Ok-2.ensures.value) at c.in-Ok-latest_of.ensures.reached;
+          given_up = λ no. let e : true ≡ false = no in absurd (cc);
+          marked = record {
+            across = λ e. subst IsStraight c.deref-in-Ok-latest_of.ensures.value (c.is_straight.ensures e);
+            down = λ e. subst IsStraight c.deref-in-Ok-latest_of-2.ensures.value (c.is_straight-in-Ok-latest_of.ensures e);
+          };
         };
+        few =
+            let few : length c.in-Ok-latest_of.latest.entries ≤ length c.args.kids.links.items = subst (λ (links : List Link). length c.in-Ok-latest_of.latest.entries ≤ length links) c.deref-in-Ok.ensures.value c.in-Ok-latest_of.ensures.few in
+            let alike = c.requires.alike in
+            omega arith;
       },
     )
 
