@@ -1,5 +1,5 @@
-/** Carries calls out by the WebAssembly module: each has its words, its script and its files in base64, and its answer is a
- * page in base64 and a status. A call of the word `lines` has a session carry out a script line by line. */
+/** Carries calls out by the WebAssembly module: each has its words, its script and its files in base64, and its answer
+ * is a page in base64 and a status. A call of the word `lines` has a session carry out a script line by line. */
 const decoded = (text) => Uint8Array.from(atob(text), (it) => it.charCodeAt(0));
 const encoded = (bytes) => btoa(Array.from(bytes, (it) => String.fromCharCode(it)).join(""));
 
@@ -20,7 +20,8 @@ function lines(vindaesk, script, files) {
 }
 
 function answered(vindaesk, { words: [form, ...more], script, files }) {
-    const given = decoded(script), held = Object.fromEntries(Object.entries(files).map(([name, it]) => [name, decoded(it)]));
+    const given = decoded(script);
+    const held = Object.fromEntries(Object.entries(files).map(([name, it]) => [name, decoded(it)]));
     switch (form) {
         case "lines": return lines(vindaesk, given, held);
         case "dump": return vindaesk.dump(more[0], held);

@@ -25,6 +25,10 @@ FLAG = "--experimental-wasm-memory64"
 # how often a call is made before and after its memory is looked at
 REPEATED = 300
 
+# lines of which one has a long answer, and many short ones
+SHORT = 50
+LINES = ["window 400 400", "add root View match match", "frame", "pixels 0 0 400 100", *["size v1 %d 9" % it for it in range(SHORT)]]
+
 Call = Dict[str, object]
 
 
@@ -122,6 +126,22 @@ def memory_stays() -> str:
     return "" if after <= before else "%d bytes after %d calls, %d after as many more" % (before, REPEATED, after)
 
 
+def takes_little() -> str:
+    """Why a line of a session takes memory for more than its own bytes, once an answer had much room, or nothing."""
+    asked = cast(List[int], in_node("""(() => {
+        const taken = [], exports = { ...vindaesk.exports };
+        exports.vindaesk_take = (size) => (taken.push(Number(size)), vindaesk.exports.vindaesk_take(size));
+        const session = new Vindaesk(exports).session();
+        given.forEach((line) => session.line(line));
+        return taken.slice(-%d);
+    })()""" % SHORT, LINES))
+    return first_unlike(asked, [len(it) for it in LINES[-SHORT:]])
+
+
+def first_unlike(found: List[int], wanted: List[int]) -> str:
+    return next(("%d bytes in place of %d" % pair for pair in zip(found, wanted) if pair[0] != pair[1]), "")
+
+
 def statuses() -> str:
     """Statuses that no worked call has."""
     calls: List[Call] = [{"words": words, "script": text(script), "files": {}} for words, script in (
@@ -135,3 +155,4 @@ def checks() -> Checks:
     yield "web module/Chromium gives the bytes of the program", partial(same_bytes, by_chromium)
     yield "web module/statuses", statuses
     yield "web module/memory stays", memory_stays
+    yield "web module/lines take little", takes_little

@@ -1,9 +1,10 @@
 /** Vindaesk in a page or in Node: each call gives the bytes that the program writes, and its status.
  *
  *      const vindaesk = await Vindaesk.load(await (await fetch("vindaesk.wasm")).arrayBuffer());
- *      const { page, status } = vindaesk.run("window 360 640\ninflate a.xml\nframe\nbounds\n", { "a.xml": bytes });
+ *      const { page, status } = vindaesk.run("window 9 9\ninflate a.xml\nframe\nbounds\n", { "a.xml": bytes });
  *
- * Scripts and files are texts or Uint8Arrays. include/vindaesk.h says what each call does. A module is used by one thread. */
+ * Scripts and files are texts or Uint8Arrays. include/vindaesk.h says what each call does. A module is used by one
+ * thread. */
 
 const SMALL = 8;
 const ENCODER = new TextEncoder();
@@ -13,7 +14,8 @@ const bytesOf = (given) => (typeof given === "string" ? ENCODER.encode(given) : 
 function packed(files) {
     const parts = [];
     for (const [name, contents] of Object.entries(files).map((it) => it.map(bytesOf))) {
-        parts.push(new Uint8Array(new BigUint64Array([BigInt(name.length), BigInt(contents.length)]).buffer), name, contents);
+        const lengths = new BigUint64Array([BigInt(name.length), BigInt(contents.length)]);
+        parts.push(new Uint8Array(lengths.buffer), name, contents);
     }
     const all = new Uint8Array(parts.reduce((sum, it) => sum + it.length, 0));
     parts.reduce((at, it) => (all.set(it, at), at + it.length), 0);
@@ -28,7 +30,10 @@ export class Vindaesk {
 
     constructor(exports) {
         this.exports = exports;
+        // how much room an answer has; the buffer with so much is kept from call to call, as the place of its size is
         this.room = 65536;
+        this.kept = { room: 0, answer: 0n };
+        this.size = this.taken(8);
     }
 
     /** Each of these returns { page, status }, of which `page` has the bytes. */
@@ -76,26 +81,41 @@ export class Vindaesk {
         return found.status === SMALL ? this.call(name, given) : found;
     }
 
-    /** A call with a buffer for the answer, which has more room after one that was too small. */
+    /** A call with the buffer for answers, which has more room after one that was too small. */
     call(name, given, first = []) {
-        const arrays = given.map(bytesOf);
-        const places = arrays.map((it) => this.put(it));
-        const answer = this.put(new Uint8Array(this.room)), size = this.put(new Uint8Array(8));
-        const lengths = arrays.map((it) => BigInt(it.length));
-        const words = [...first, ...places.flatMap((at, i) => [at, lengths[i]]), answer, BigInt(this.room), size];
-        const status = this.exports[name](...words);
-        const length = Number(new DataView(this.exports.memory.buffer).getBigUint64(Number(size), true));
+        const answer = this.answers(), arrays = given.map(bytesOf), places = arrays.map((it) => this.put(it));
+        const words = places.flatMap((at, i) => [at, BigInt(arrays[i].length)]);
+        const status = this.exports[name](...first, ...words, answer, BigInt(this.room), this.size);
+        const { buffer } = this.exports.memory;
+        const length = Number(new DataView(buffer).getBigUint64(Number(this.size), true));
         if (status === SMALL) this.room = length;
-        const page = new Uint8Array(this.exports.memory.buffer).slice(Number(answer), Number(answer) + (status === SMALL ? 0 : length));
-        for (const at of [...places, answer, size]) this.exports.vindaesk_free(at);
+        const page = new Uint8Array(buffer, Number(answer), status === SMALL ? 0 : length).slice();
+        for (const at of places) this.exports.vindaesk_free(at);
         return { page, status };
+    }
+
+    /** Where the buffer for answers is. */
+    answers() {
+        if (this.kept.room !== this.room) {
+            if (this.kept.answer) this.exports.vindaesk_free(this.kept.answer);
+            this.kept = { room: 0, answer: 0n };
+            this.kept = { room: this.room, answer: this.taken(this.room) };
+        }
+        return this.kept.answer;
+    }
+
+    /** Some bytes of the module's memory. */
+    taken(length) {
+        const at = this.exports.vindaesk_take(BigInt(length));
+        if (at === 0n) throw new Error("the module has no memory");
+        return at;
     }
 
     /** Copies an array into the module's memory. */
     put(array) {
-        const at = this.exports.vindaesk_take(BigInt(array.byteLength));
-        if (at === 0n) throw new Error("the module has no memory");
-        new Uint8Array(this.exports.memory.buffer, Number(at)).set(new Uint8Array(array.buffer, array.byteOffset, array.byteLength));
+        const { buffer, byteOffset, byteLength } = array, at = this.taken(byteLength);
+        const room = new Uint8Array(this.exports.memory.buffer, Number(at), byteLength);
+        room.set(new Uint8Array(buffer, byteOffset, byteLength));
         return at;
     }
 }
