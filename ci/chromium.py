@@ -13,6 +13,9 @@ COMMAND = shutil.which("chromium") or shutil.which("chromium-browser") or shutil
 FLAGS = ["--headless=new", "--no-sandbox", "--disable-gpu", "--disable-dev-shm-usage", "--no-first-run",
          "--disable-extensions", "--disable-background-networking", "--remote-debugging-pipe", "about:blank"]
 SECONDS = 120
+# the numbers of keys by which a page does what browsers do by themselves, and the texts that they write
+KEYS = {"Tab": (9, ""), "Enter": (13, "\r"), " ": (32, " "), "Escape": (27, "")}
+CODES = {" ": "Space"}
 
 
 class Browser:
@@ -128,10 +131,13 @@ class Browser:
         for kind, button in (("mouseMoved", "none"), ("mousePressed", "left"), ("mouseReleased", "left")):
             self.ask("Input.dispatchMouseEvent", type=kind, x=x, y=y, button=button, clickCount=int(button == "left"))
 
-    def press(self, key: str) -> None:
+    def press(self, key: str, is_shifted: bool = False) -> None:
         """Presses a key and releases it."""
+        number, text = KEYS.get(key, (0, ""))
         for kind in ("keyDown", "keyUp"):
-            self.ask("Input.dispatchKeyEvent", type=kind, key=key, code=key)
+            more = {"text": text} if text and kind == "keyDown" else {}
+            self.ask("Input.dispatchKeyEvent", type=kind, key=key, code=CODES.get(key, key), windowsVirtualKeyCode=number,
+                     modifiers=8 if is_shifted else 0, **more)
 
     def screenshot(self) -> bytes:
         """What is shown, as the bytes of a PNG file."""

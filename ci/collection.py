@@ -13,7 +13,7 @@ MODULES = (
     "fuzz_apps", "resources", "fuzz_resources", "driving", "facts", "serving", "lints", "lint_rules", "lint_formats",
     "browser", "previews", "languages", "farms", "installed", "packages", "shells", "release_checks", "package",
     "house", "edits", "words", "spelling", "stored", "native", "native_sessions",
-    "web_module", "play",
+    "web_module", "play", "play_use",
 )
 # those that are run only where they are asked for
 ON_REQUEST = ("memory", "peaks", "out_of_memory", "engines")

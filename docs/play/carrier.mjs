@@ -15,33 +15,47 @@ export class Carrier {
     start() {
         this.worker = new Worker(this.address);
         this.worker.postMessage({ module: this.module, tables: this.tables });
-        this.worker.onmessage = ({ data }) => this.end(data);
-        this.worker.onerror = (it) => this.end({ error: it.message || "the worker has failed" });
+        this.worker.onmessage = ({ data }) => {
+            // a module that has failed may not be asked again
+            if (data.error) this.anew();
+            this.end(data);
+        };
+        this.worker.onerror = (it) => {
+            this.anew();
+            this.end({ error: it.message || "the page's worker has failed; reload the page" });
+        };
     }
 
-    /** What a script comes to: { found } or { error }; { isOld } where a newer script was given before it began. */
-    run(script, files) {
+    anew() {
+        this.worker.terminate();
+        this.start();
+    }
+
+    /** What a script comes to, which is given with its form and its files: { found } or { error }; { isOld } where a
+     * newer one was given before it began. */
+    run(given) {
         return new Promise((done) => {
             if (this.waiting) this.waiting.done({ isOld: true });
-            this.waiting = { script, files, done };
+            this.waiting = { given, done };
             if (!this.busy) this.next();
             else this.endIn(IMPATIENT, { isOld: true });
         });
     }
 
     next() {
-        const { script, files, done } = this.waiting;
+        const { given, done } = this.waiting;
         Object.assign(this, { waiting: null, busy: done });
-        this.worker.postMessage({ script, files });
-        this.endIn(this.most, { error: `the script was ended after ${this.most / 1000} seconds` });
+        this.worker.postMessage({ given });
+        this.endIn(this.most, {
+            error: `the script was ended after ${this.most / 1000} seconds; ./vindaesk ${given.form} has no such limit`,
+        });
     }
 
     /** Ends the worker in a time, unless it has answered by then. */
     endIn(time, answer) {
         clearTimeout(this.timer);
         this.timer = setTimeout(() => {
-            this.worker.terminate();
-            this.start();
+            this.anew();
             this.end(answer);
         }, time);
     }

@@ -17,7 +17,9 @@ function chunksOf(file) {
 /** The chunk of an element that begins, with its first attributes alone. */
 function shortened(bytes, count) {
     const from = new DataView(bytes.buffer, bytes.byteOffset, bytes.byteLength);
-    const fields = from.getUint16(2, true), first = fields + from.getUint16(fields + 8, true), each = from.getUint16(fields + 10, true);
+    const fields = from.getUint16(2, true);
+    const first = fields + from.getUint16(fields + 8, true);
+    const each = from.getUint16(fields + 10, true);
     const made = bytes.slice(0, first + count * each), to = new DataView(made.buffer);
     to.setUint32(4, made.length, true);
     to.setUint16(fields + 12, count, true);

@@ -2,6 +2,21 @@
 import { by, made } from "./page.mjs";
 
 const LINE = 22;
+// how much a text field takes, in which browsers stay quick
+export const MOST_LINES = 20000;
+export const MOST_BYTES = 1 << 20;
+
+/** Where the first lines of a text, or of its bytes, end, up to a count. */
+export function wholeLines(text, count) {
+    const feed = typeof text === "string" ? "\n" : 10;
+    let end = 0;
+    for (let left = Math.max(count, 0); left > 0; left--) {
+        const at = text.indexOf(feed, end);
+        if (at < 0) return text.length;
+        end = at + 1;
+    }
+    return end;
+}
 
 /** A row of a text from a column on, as a part of it: the word there. */
 function partsOf(row, column) {
@@ -11,7 +26,8 @@ function partsOf(row, column) {
 }
 
 export class Editor {
-    constructor(changed) {
+    /** `changed` is called after an edit, `tooLong` with the length of a text that is pasted and is too long. */
+    constructor(changed, tooLong) {
         this.field = by("script");
         this.refused = new Map();
         this.field.addEventListener("input", () => {
@@ -21,6 +37,12 @@ export class Editor {
             changed();
         });
         this.field.addEventListener("scroll", () => this.draw());
+        this.field.addEventListener("paste", (it) => {
+            const text = it.clipboardData.getData("text/plain"), length = text.length + this.field.value.length;
+            if (wholeLines(text, MOST_LINES - this.rows.length) === text.length && length <= MOST_BYTES) return;
+            it.preventDefault();
+            tooLong(length);
+        });
         new ResizeObserver(() => this.draw()).observe(this.field);
     }
 
@@ -35,6 +57,15 @@ export class Editor {
         this.refused = new Map();
         this.rows = null;
         this.draw();
+    }
+
+    /** Whether the text cannot be edited. */
+    set isFixed(it) {
+        this.field.readOnly = it;
+    }
+
+    get isFixed() {
+        return this.field.readOnly;
     }
 
     /** Adds a line at the end, and shows it. */
@@ -56,7 +87,8 @@ export class Editor {
     draw() {
         this.rows = this.rows || this.field.value.split("\n");
         const { scrollTop, scrollLeft, clientHeight } = this.field;
-        const first = Math.floor(scrollTop / LINE), seen = this.rows.slice(first, first + Math.ceil(clientHeight / LINE) + 1);
+        const first = Math.floor(scrollTop / LINE);
+        const seen = this.rows.slice(first, first + Math.ceil(clientHeight / LINE) + 1);
         by("back").replaceChildren(...seen.map((row, at) => this.line(row, this.refused.get(first + at + 1))));
         by("gutter").replaceChildren(...seen.map((_, at) => this.number(first + at + 1)));
         by("back").style.transform = `translate(${-scrollLeft}px, ${first * LINE - scrollTop}px)`;
@@ -72,7 +104,8 @@ export class Editor {
         if (!refusal) return made("div");
         const [before, word, rest] = partsOf(row, refusal.column);
         const found = made("div", before, { class: "wrong" });
-        found.append(made("mark", word || " "), rest, made("span", `${refusal.title}: ${refusal.why}`, { class: "why" }));
+        const why = made("span", `${refusal.title}: ${refusal.why}`, { class: "why" });
+        found.append(made("mark", word || " "), rest, why);
         return found;
     }
 

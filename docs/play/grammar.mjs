@@ -70,8 +70,10 @@ export class Grammar {
 
     /** What may be at a place, by the words that some forms have there. */
     expected(slots) {
-        const fixed = slots.filter((it) => it.kind.choices.length === 1 && it.kind.choices[0] === it.name).map((it) => it.name);
-        const others = slots.filter((it) => !fixed.includes(it.name)).map((it) => filled(this.say.MEANS, it.name, it.kind.says));
+        const isFixed = ({ name, kind: { choices } }) => choices.length === 1 && choices[0] === name;
+        const fixed = slots.filter(isFixed).map((it) => it.name);
+        const others = slots.filter((it) => !fixed.includes(it.name))
+            .map((it) => filled(this.say.MEANS, it.name, it.kind.says));
         const words = fixed.length ? [filled(this.say.EXPECTED, listed(unique(fixed).map((it) => `'${it}'`)))] : [];
         return [...words, ...unique(others)].join(", or ");
     }
@@ -92,7 +94,8 @@ export class Grammar {
         return { at: word.at + Math.max(word.text.indexOf(part), 0), why };
     }
 
-    /** How far a line fits a form: its words with their slots; and where it does not fit, the word and the slot there. */
+    /** How far a line fits a form: its words with their slots; and where it does not fit, the word and the slot
+     * there. */
     tried(line, words, form) {
         const read = [];
         let slot;
@@ -121,7 +124,8 @@ export class Grammar {
         const most = Math.max(...trials.map((it) => it.words.length));
         const best = trials.filter((it) => it.words.length === most);
         const slots = best.map((it) => it.slot).filter(Boolean), word = best[0].word;
-        const misfit = word ? this.wrong(word, slots) : { at: line.length, why: filled(this.say.MISSING, this.expected(slots)) };
+        const missing = { at: line.length, why: filled(this.say.MISSING, this.expected(slots)) };
+        const misfit = word ? this.wrong(word, slots) : missing;
         return { words: best[0].words, misfit };
     }
 

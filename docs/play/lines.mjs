@@ -1,27 +1,33 @@
 /** The lines of a script, their words, and the columns in them. */
 export const MAX_LINE = 1024;
+export const MAX_SCRIPT = 16777216;
+
+const NO_MEMORY = 5, LONG = 7;
 
 const DECODER = new TextDecoder("utf-8", { ignoreBOM: true });
 const ENCODER = new TextEncoder();
 export const decoded = (bytes) => DECODER.decode(bytes);
 export const encoded = (text) => ENCODER.encode(text);
 
-/** The lines of a script. A last one without a line feed counts if it is not empty, and a carriage return at its end
- * belongs to it. */
-export function linesIn(bytes) {
-    const found = [];
-    for (let at = 0; at < bytes.length; ) {
-        const feed = bytes.indexOf(10, at);
-        if (feed < 0) {
-            const last = bytes.subarray(at);
-            found.push(last[last.length - 1] === 13 ? Uint8Array.of(...last, 13) : last);
-            break;
-        }
-        found.push(bytes.subarray(at, feed));
-        at = feed + 1;
-    }
-    return found;
+/** Some arrays as one. */
+export function joined(pages) {
+    const all = new Uint8Array(pages.reduce((sum, it) => sum + it.length, 0));
+    pages.reduce((at, it) => (all.set(it, at), at + it.length), 0);
+    return all;
 }
+
+/** The lines of a script, one after the other. A last one without a line feed counts if it is not empty, and a carriage
+ * return at its end belongs to it. */
+export function* linesIn(bytes) {
+    for (let at = 0; at < bytes.length; ) {
+        const feed = bytes.indexOf(10, at), end = feed < 0 ? bytes.length : feed, line = bytes.subarray(at, end);
+        yield feed < 0 && line[line.length - 1] === 13 ? joined([line, Uint8Array.of(13)]) : line;
+        at = end + 1;
+    }
+}
+
+/** The texts of an answer, a line each. */
+export const textsOf = (page) => (page.length ? decoded(page).slice(0, -1).split("\n") : []);
 
 /** A line less the one carriage return that may end it. */
 export const withoutReturn = (line) => (line[line.length - 1] === 13 ? line.subarray(0, -1) : line);
@@ -49,8 +55,17 @@ export function validBytes(bytes) {
     return bytes.length;
 }
 
+/** Whether a file is XML as people write it. */
+export const isXml = (bytes) => decoded(bytes.subarray(0, 64)).replace(/^[\ufeff \t\r\n]+/, "").startsWith("<");
+
 /** A text of a line without its escapes. */
 export const unescaped = (text) => text.replace(/\\([n\\])/g, (_, it) => (it === "n" ? "\n" : it));
+
+/** Why the module carries a script out no further, by its status. */
+export const failureOf = (status) => new Error({
+    [NO_MEMORY]: "the script needs more memory than the module has: make its window or its texts smaller",
+    [LONG]: `with the lines that this page adds the script has more than ${MAX_SCRIPT} bytes`,
+}[status] || `the module ended with the status ${status}; this is a mistake of the page`);
 
 const NUMBER = /^(?:0|-?[1-9][0-9]{0,9})$/;
 const MAX_SIDE = 4096;
@@ -77,8 +92,8 @@ export function printable(text) {
 
 function escape(character) {
     const named = { "\t": "\\t", "\n": "\\n", "\r": "\\r" }[character];
-    const number = character.codePointAt(0);
+    const number = character.codePointAt(0), digits = (count) => number.toString(16).padStart(count, "0");
     if (named) return named;
-    if (number < 0x100) return "\\x" + number.toString(16).padStart(2, "0");
-    return number < 0x10000 ? "\\u" + number.toString(16).padStart(4, "0") : "\\U" + number.toString(16).padStart(8, "0");
+    if (number < 0x100) return "\\x" + digits(2);
+    return number < 0x10000 ? "\\u" + digits(4) : "\\U" + digits(8);
 }

@@ -1,36 +1,45 @@
 /** The page: an editor whose script is carried out as one types, and what it comes to. */
 import { Carrier } from "./carrier.mjs";
 import { Editor } from "./editor.mjs";
-import { decoded, encoded } from "./lines.mjs";
+import { Held } from "./held.mjs";
+import { decoded, encoded, wordsOf } from "./lines.mjs";
 import { MOST, fromBase64, hashOf, ofHash } from "./link.mjs";
-import { by, made } from "./page.mjs";
-import { Stage } from "./stage.mjs";
+import { fileRows, messages, touchRows } from "./lists.mjs";
+import { by, made, pick, picked } from "./page.mjs";
+import { Stage, boxOf } from "./stage.mjs";
+import { UNSEEN } from "./stacks.mjs";
+import { Touching } from "./touching.mjs";
 import { Views } from "./views.mjs";
 
 // how long the page waits for the next key, in milliseconds, and how much of an answer it shows, in characters
 const PAUSE = 60, SHOWN = 200000;
-const NAME = /^[A-Za-z0-9_-][A-Za-z0-9_.-]{0,63}$/;
+// the first words of lines that a stack alone has, and one that a window alone has
+const OF_STACKS = ["at", "in", "raise", "close", "compose", "sdown", "smove", "sup", "scancel"];
+const OF_WINDOWS = ["window"];
+
+const BROKEN = "The link is cut short or wrong: it holds no script. Ask for it once more, or for the script.";
 
 const data = JSON.parse(by("data").textContent);
-const examples = data.examples.map(({ name, script, files: held }) => ({
-    name, script: fromBase64(script),
-    files: Object.fromEntries(Object.entries(held).map(([key, file]) => [key, fromBase64(file)])),
+const examples = data.examples.map(({ name, form, script, files }) => ({
+    name, form, script: fromBase64(script),
+    files: Object.fromEntries(Object.entries(files).map(([key, file]) => [key, fromBase64(file)])),
 }));
-const ofExamples = Object.assign({}, ...examples.map((it) => it.files));
 const carrier = new Carrier(by("worker").textContent, fromBase64(data.module), data.tables);
-const editor = new Editor(() => soon(PAUSE));
-const views = new Views((view) => {
-    stage.mark(view);
-    by("tap").disabled = !(view && view.window);
+const editor = new Editor(() => soon(PAUSE), (length) => {
+    const why = `With this text the script has ${length} characters, too many to be edited here`;
+    say(why + ": save it as a file, and add that.");
+});
+const held = new Held(editor, Object.assign({}, ...examples.map((it) => it.files)));
+const touching = new Touching();
+const views = new Views((row) => {
+    stage.mark(row);
+    by("tap").disabled = !(row && row.view && row.view.window);
 });
 const stage = new Stage((x, y) => views.chooseAt(x, y), touched);
 
-let files = {};
-// the bytes of the script that was opened, as long as nobody edits it
-let opened = { text: "", bytes: new Uint8Array() };
 let timer = 0;
 // what the last run came to, for a check and for the console
-globalThis.play = { open, carrier, runs: 0 };
+globalThis.play = { open, take, carrier, runs: 0 };
 
 const say = (text) => {
     by("note").textContent = text;
@@ -43,167 +52,180 @@ function soon(time) {
     timer = setTimeout(() => run(begun), time);
 }
 
-const bytesOf = () => (editor.text === opened.text ? opened.bytes : encoded(editor.text));
-
 async function run(begun) {
     by("state").setAttribute("aria-busy", "true");
-    const script = bytesOf(), { found, error, isOld } = await carrier.run(script, files);
+    const { script, form, files } = held, pane = by("pane").value;
+    const given = { script, form, files, pane: pane === "" ? null : Number(pane) };
+    const { found, error, isOld } = await carrier.run(given);
     if (isOld) return;
-    if (error) {
-        by("state").textContent = `No answer: ${error}.`;
-        by("state").classList.add("failed");
-    } else show(found);
+    by("state").removeAttribute("aria-busy");
+    by("state").classList.toggle("failed", Boolean(error));
+    if (error) by("state").textContent = `No answer: ${error}.`;
+    else show(found, form);
     requestAnimationFrame(() => {
-        const { runs } = globalThis.play;
-        globalThis.play = { open, carrier, ...found, error, script, took: performance.now() - begun, runs: runs + 1 };
+        const runs = globalThis.play.runs + 1, took = performance.now() - begun;
+        globalThis.play = { open, take, carrier, ...found, error, script, took, runs };
     });
 }
 
-/** Shows what a script came to. */
-function show(found) {
-    const { refused, status, touches, picture, answer } = found;
-    editor.show(refused);
-    const count = refused.length;
-    by("state").textContent = `Status ${status}, ${count > 1 ? `${count} lines are` : `${count || "no"} line is`} refused.`;
-    by("messages").replaceChildren(...refused.slice(0, 100).map(message));
+/** Shows what a script of a form came to. */
+function show(found, form) {
+    const { refused, touches, picture, answer, windows } = found;
+    editor.show(refused.filter((it) => !it.file));
+    by("state").textContent = stateOf(found, form);
+    by("messages").replaceChildren(...messages(refused, (it) => editor.go(it)));
+    showPanes(found, form);
+    touching.show(form, windows);
     stage.show(picture, touches);
     by("nothing").textContent = picture ? "" : nothing("There is no picture", found.noPicture);
-    views.show(found.views);
-    by("no-views").textContent = found.noViews ? nothing("There are no bounds", found.noViews) : "";
-    by("touches").replaceChildren(...touches.map((it, at) => touch(it, at === touches.length - 1)));
+    views.show(windows);
+    const without = windows.find((it) => it.noViews);
+    const where = without && without.pane !== null ? ` of the window ${without.pane}` : "";
+    by("no-views").textContent = without ? nothing("There are no bounds" + where, without.noViews) : "";
+    by("touches").replaceChildren(...touchRows(touches));
     by("touches").scrollTop = by("touches").scrollHeight;
     by("no-touches").hidden = touches.length > 0;
     const text = decoded(answer);
-    by("answer").textContent = text.length > SHOWN ? text.slice(0, SHOWN) + `\n.. and ${text.length - SHOWN} characters more` : text;
+    const more = text.length > SHOWN ? `\n.. and ${text.length - SHOWN} characters more` : "";
+    by("answer").textContent = text.slice(0, SHOWN) + more;
 }
 
-const nothing = (what, number) => `${what}: ${data.tables.nothing[number] || "refusal " + number}.`;
-
-function message(it) {
-    const button = made("button", `${it.line}:${it.column}: ${it.title}: ${it.why}`, { type: "button" });
-    button.onclick = () => editor.go(it);
-    const row = made("li");
-    row.append(button);
-    return row;
+/** How a script ended, in a sentence; and where its lines are those of the other form, how that is chosen. */
+function stateOf({ refused, status }, form) {
+    const count = refused.length, lines = count > 1 ? `${count} lines are` : `${count || "no"} line is`;
+    const rows = editor.text.split("\n"), others = form === "run" ? OF_STACKS : OF_WINDOWS;
+    const other = refused.find((it) => !it.file && others.includes(wordsOf(encoded(rows[it.line - 1] || ""))[0]));
+    const hint = form === "run" ? "a stack of windows" : "one window";
+    const more = other ? ` Line ${other.line} is of ${hint}, which can be chosen above.` : "";
+    return `Status ${status}, ${lines} refused.${more}`;
 }
 
-function touch({ line, words, replies }, isLast) {
-    const row = made("li"), found = made("details", undefined, isLast ? { open: "" } : {});
-    const summary = `line ${line}: ${words.join(" ")} → ${replies[replies.length - 1] || "nothing"}`;
-    found.append(made("summary", summary), made("pre", replies.join("\n")));
-    row.append(found);
-    return row;
+/** Shows which windows of a stack there are to be shown. */
+function showPanes({ windows, pane }, form) {
+    by("panes").hidden = form === "run";
+    const all = made("option", "all, as they lie", { value: "" });
+    by("pane").replaceChildren(all, ...windows.map((it) => made("option", String(it.pane), { value: it.pane })));
+    by("pane").value = pane ?? "";
 }
 
-/** Adds lines to the script, which is then carried out. */
-function add(...lines) {
+function nothing(what, number) {
+    return `${what}: ${data.tables.nothing[number] || UNSEEN[number] || "refusal " + number}.`;
+}
+
+/** Adds lines to the script. */
+function add(lines) {
+    if (held.fixed) return say(held.fixed);
     for (const it of lines) editor.append(it);
     soon(0);
 }
 
 /** Takes an event of a pointer that touches. */
-function touched(kind, number, [x, y], isLast) {
-    const line = { down: `down ${number} ${x} ${y}`, move: `move ${number} ${x} ${y}`, up: `up ${number}`, cancel: "cancel" }[kind];
-    if (kind === "move" && editor.text.endsWith(line + "\n")) return;
-    add(...[line, ...(isLast ? ["frame"] : [])]);
-}
-
-function tapChosen() {
-    const [left, top, right, bottom] = stage.view.window;
-    add(`down 0 ${(left + right) >> 1} ${(top + bottom) >> 1}`, "up 0", "frame");
+function touched(kind, ...event) {
+    const lines = touching.lines(kind, ...event);
+    if (kind !== "move" || !editor.text.endsWith(lines[0] + "\n")) add(lines);
 }
 
 /** Opens a script with its files. */
-function open(bytes, itsFiles) {
-    editor.text = decoded(bytes);
-    opened = { text: editor.text, bytes };
-    files = itsFiles;
+function open(bytes, files, form = "run") {
+    held.open(bytes, files, form);
+    opened();
+}
+
+/** Shows what was opened. */
+function opened() {
+    pick("form", held.form);
     by("link").hidden = true;
+    by("pane").value = "";
     showFiles();
     soon(0);
 }
 
 function openExample(name) {
     const found = examples.find((it) => it.name === name);
-    open(found.script, { ...found.files });
+    open(found.script, { ...found.files }, found.form);
     by("example").value = name;
-    say("");
 }
 
-/** The bytes of two files are the same. */
-const same = (one, other) => Boolean(other) && one.length === other.length && one.every((it, at) => it === other[at]);
-
-const namesOfOwn = () => Object.keys(files).filter((name) => !same(files[name], ofExamples[name]));
-
 function showFiles() {
-    by("files").replaceChildren(...Object.entries(files).map(([name, it]) => {
-        const row = made("li", `${name}, ${it.length} bytes`);
-        const button = made("button", "Remove", { type: "button", "aria-label": "Remove " + name });
-        button.onclick = () => {
-            delete files[name];
-            showFiles();
-            soon(0);
-        };
-        row.append(button);
-        return row;
+    by("files").replaceChildren(...fileRows(held.files, (name) => {
+        delete held.files[name];
+        showFiles();
+        by("upload").focus();
+        soon(0);
     }));
 }
 
-/** Adds files, of which those that end with .script or .stack are opened. */
+/** Adds files, of which scripts are opened. */
 async function take(given) {
     const said = [];
     for (const it of given) {
-        const bytes = new Uint8Array(await it.arrayBuffer());
-        if (it.name.endsWith(".script")) open(bytes, files);
-        else if (!NAME.test(it.name)) said.push(`${it.name} is no name that a line inflate can have.`);
-        else files[it.name] = bytes;
+        const bytes = await it.arrayBuffer().catch(() => null);
+        said.push(bytes ? held.take(it.name, new Uint8Array(bytes)) : `${it.name} cannot be read; it may be a folder.`);
     }
-    say(said.join(" "));
-    showFiles();
-    soon(0);
+    say(said.filter(Boolean).join(" "));
+    by("example").value = "";
+    opened();
 }
 
 async function share() {
-    const hash = await hashOf(editor.text, namesOfOwn()), link = location.href.split("#")[0] + hash;
+    if (held.fixed) return say(held.fixed);
+    const own = held.ownFiles;
+    const hash = await hashOf(editor.text, held.form, own);
+    const link = location.href.split("#")[0] + hash;
     if (link.length > MOST) {
-        say(`The link would have ${link.length} characters, and many programs cut those of more than ${MOST}: save the script instead.`);
-        return;
+        const why = `The link would have ${link.length} characters, and many programs cut those of more than ${MOST}`;
+        return say(why + ": save the script instead.");
     }
     history.replaceState(null, "", hash);
     Object.assign(by("link"), { hidden: false, value: link });
     const isCopied = await navigator.clipboard.writeText(link).then(() => true, () => false);
     if (!isCopied) by("link").select();
-    const without = namesOfOwn();
-    say((isCopied ? "The link is copied." : "Here is the link.") + (without.length ? ` It does not hold ${without.join(", ")}.` : ""));
+    held.keep();
+    const without = own.length ? ` It does not hold ${own.join(", ")}.` : "";
+    say((isCopied ? "The link is copied." : "Here is the link.") + without);
 }
 
 /** Opens the script of the page's address. Returns whether there is one. */
 async function openLink() {
     const found = await ofHash(location.hash).catch(() => ({ isBroken: true }));
-    if (found && found.isBroken) say("The link is cut short or wrong: it holds no script.");
+    if (found && found.isBroken) say(BROKEN);
     if (!found || found.isBroken) return false;
-    const named = [...found.script.matchAll(/^ *inflate +([A-Za-z0-9_-][A-Za-z0-9_.-]{0,63})/gm)].map((it) => it[1]);
-    const there = named.filter((it) => ofExamples[it] && !found.without.includes(it));
-    open(encoded(found.script), Object.fromEntries(there.map((it) => [it, ofExamples[it]])));
+    const { script, form, without } = found, { ofExamples } = held;
+    const named = [...script.matchAll(new RegExp(data.inflating, "gm"))].map((it) => it[1]);
+    const there = named.filter((it) => Object.hasOwn(ofExamples, it) && !without.includes(it));
+    open(encoded(script), Object.fromEntries(there.map((it) => [it, ofExamples[it]])), form);
     by("example").value = "";
-    say(found.without.length ? `The link does not hold ${found.without.join(", ")}: add ${found.without.length > 1 ? "them" : "it"}.` : "");
+    const them = without.length > 1 ? "them" : "it";
+    say(without.length ? `The link does not hold ${without.join(", ")}: add ${them}.` : "");
     return true;
 }
 
 function save() {
-    const link = made("a", undefined, { download: "play.script", href: URL.createObjectURL(new Blob([bytesOf()])) });
+    const name = held.form === "stack" ? "play.stack" : "play.script";
+    const link = made("a", undefined, { download: name, href: URL.createObjectURL(new Blob([held.script])) });
     link.click();
     URL.revokeObjectURL(link.href);
+    held.keep();
 }
 
 by("version").textContent = data.version;
-by("example").append(made("option", "(own script)", { value: "" }), ...examples.map((it) => made("option", it.name, { value: it.name })));
-by("example").onchange = () => by("example").value && openExample(by("example").value);
-by("upload").onchange = () => take([...by("upload").files]);
+by("example").append(made("option", "(own script)", { value: "" }));
+by("example").append(...examples.map((it) => made("option", it.name, { value: it.name })));
+by("example").onchange = () => {
+    say("");
+    if (by("example").value) openExample(by("example").value);
+};
+by("upload").onchange = () => take([...by("upload").files]).then(() => (by("upload").value = ""));
 by("share").onclick = share;
 by("save").onclick = save;
-by("tap").onclick = tapChosen;
+by("tap").onclick = () => add(touching.tap(boxOf(stage.row)));
+by("pane").onchange = () => soon(0);
+by("form").onchange = () => {
+    held.form = picked("form");
+    soon(0);
+};
 addEventListener("hashchange", openLink);
+addEventListener("beforeunload", (it) => held.isUnsaved && it.preventDefault());
 for (const kind of ["dragover", "dragleave", "drop"]) {
     addEventListener(kind, (it) => {
         it.preventDefault();

@@ -1,5 +1,5 @@
-/** Which word of a refused line is meant, and why it is refused: what `vindaesk check` says, by its tables. Whether a line
- * is refused, and for what, the proved module says. */
+/** Which word of a refused line is meant, and why it is refused: what `vindaesk check` says, by its tables. Whether
+ * a line is refused, and for what, the proved module says. */
 import { Grammar, wordsFrom } from "./grammar.mjs";
 import { MAX_LINE, characters, decoded, filled, validBytes, withoutReturn } from "./lines.mjs";
 

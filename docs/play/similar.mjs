@@ -32,9 +32,14 @@ function ratio(one, other) {
     return (2 * count) / (one.length + other.length || 1);
 }
 
-/** The word among some that is nearest to another one, in either case of letters; nothing where none is near. */
+const compared = (one, other) => (one < other ? -1 : one > other ? 1 : 0);
+
+/** The word among some that is nearest to another one, in either case of letters; nothing where none is near. Of two
+ * that differ by capitals alone it is the one that begins as the word does. */
 export function nearest(word, choices) {
-    const folded = new Map(choices.filter((it) => it !== word).map((it) => [it.toLowerCase(), it]));
+    const ordered = [...choices].sort((one, other) =>
+        (one[0] === word[0]) - (other[0] === word[0]) || compared(one, other));
+    const folded = new Map(ordered.filter((it) => it !== word).map((it) => [it.toLowerCase(), it]));
     const characters = [...word.toLowerCase()];
     let best = null, most = 0;
     for (const it of folded.keys()) {

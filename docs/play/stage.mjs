@@ -1,12 +1,14 @@
-/** The picture, with the chosen view and the paths of touches over it. */
+/** The picture, with the chosen view and the paths of touches over it. Points are those of the stack. */
 import { by, drawn, picked } from "./page.mjs";
+import { onStack } from "./views.mjs";
 
 const WAYS = { down: 2, move: 2, up: 0 };
 
 /** The paths of pointers, by the lines of touches. */
 function pathsOf(touches) {
     const found = [], open = new Map();
-    for (const { words: [word, pointer, x, y] } of touches) {
+    for (const { words: [whole, pointer, x, y] } of touches) {
+        const word = whole.replace(/^s/, "");
         if (word === "down") {
             open.set(pointer, []);
             found.push(open.get(pointer));
@@ -16,14 +18,21 @@ function pathsOf(touches) {
     return found;
 }
 
+/** A path as a drawing has it; that of one point has a second one, so that there is a line. */
+function wayOf(points) {
+    const [x, y] = points[0], more = points.length === 1 ? [[x, y + 0.01]] : [];
+    return [...points, ...more].map((it) => it.join()).join(" ");
+}
+
 export class Stage {
     /** `chosen` is called with a point that is clicked, `touched` with the events of a pointer that touches. */
     constructor(chosen, touched) {
-        Object.assign(this, { chosen, touched, picture: null, view: null, touches: [], pointers: new Map() });
+        Object.assign(this, { chosen, touched, picture: null, row: null, touches: [], pointers: new Map() });
         const stage = by("stage");
         for (const kind of ["pointerdown", "pointermove", "pointerup", "pointercancel"]) {
             stage.addEventListener(kind, (it) => this.take(it));
         }
+        addEventListener("keydown", (it) => it.key === "Escape" && this.cancel());
         by("zoom").addEventListener("change", () => this.size());
         by("mode").addEventListener("change", () => stage.classList.toggle("touching", picked("mode") === "touch"));
         new ResizeObserver(() => this.size()).observe(by("s-picture"));
@@ -33,48 +42,49 @@ export class Stage {
     show(picture, touches) {
         this.picture = picture;
         this.touches = touches;
-        by("stage").hidden = !picture;
+        by("stage").parentElement.hidden = !picture;
         if (!picture) return;
-        const canvas = by("picture"), { width, height } = picture;
+        const canvas = by("picture"), { width, height, origin } = picture;
         if (canvas.width !== width || canvas.height !== height) Object.assign(canvas, { width, height });
         canvas.getContext("2d").putImageData(new ImageData(picture.pixels, width, height), 0, 0);
         canvas.setAttribute("aria-label", `Picture of the last frame, ${width} by ${height} pixels`);
-        by("marks").setAttribute("viewBox", `0 0 ${width} ${height}`);
+        by("marks").setAttribute("viewBox", [...origin, width, height].join(" "));
         this.size();
-        this.mark(this.view);
+        this.mark(this.row);
     }
 
     /** Gives the picture the size that was asked for. */
     size() {
         if (!this.picture) return;
         const zoom = picked("zoom"), { width, height } = this.picture;
-        const room = by("stage").parentElement.clientWidth, most = Math.min(room / width, (0.75 * innerHeight) / height);
+        const room = by("stage").parentElement.clientWidth;
+        const most = Math.min(room / width, (0.75 * innerHeight) / height);
         const scale = zoom === "fit" ? (most > 1 ? Math.min(Math.floor(most), 8) : most) : Number(zoom);
         by("stage").style.width = width * scale + "px";
         by("stage").style.height = height * scale + "px";
         by("picture").classList.toggle("large", scale >= 1);
     }
 
-    /** Draws the chosen view and the paths. */
-    mark(view) {
-        this.view = view;
+    /** Draws the chosen view, or window, and the paths. */
+    mark(row) {
+        this.row = row;
         const found = [];
-        for (const points of pathsOf(this.touches)) {
-            const [x, y] = points[0], way = [...points, ...(points.length === 1 ? [[x, y + 0.01]] : [])].map((it) => it.join()).join(" ");
-            found.push(drawn("polyline", { points: way, class: "under" }), drawn("polyline", { points: way, class: "path" }));
+        for (const points of pathsOf(this.touches).map(wayOf)) {
+            found.push(drawn("polyline", { points, class: "under" }), drawn("polyline", { points, class: "path" }));
         }
-        if (view && view.window) {
-            const [left, top, right, bottom] = view.window;
-            found.push(drawn("rect", { x: left, y: top, width: right - left, height: bottom - top, class: "chosen" }));
+        const box = boxOf(row);
+        if (box) {
+            const [x, y, right, bottom] = box, sides = { x, y, width: right - x, height: bottom - y };
+            found.push(drawn("rect", { ...sides, class: "around" }), drawn("rect", { ...sides, class: "chosen" }));
         }
         by("marks").replaceChildren(...found);
     }
 
-    /** The pixel of the picture under a pointer. */
+    /** The point of the stack that is under a pointer. */
     point(event) {
-        const box = by("stage").getBoundingClientRect();
-        return [Math.floor(((event.clientX - box.left) * this.picture.width) / box.width),
-            Math.floor(((event.clientY - box.top) * this.picture.height) / box.height)];
+        const box = by("stage").getBoundingClientRect(), { width, height, origin: [left, top] } = this.picture;
+        return [left + Math.floor(((event.clientX - box.left) * width) / box.width),
+            top + Math.floor(((event.clientY - box.top) * height) / box.height)];
     }
 
     /** The number of a pointer in lines: the least that is free. */
@@ -86,6 +96,13 @@ export class Stage {
         return this.pointers.get(id);
     }
 
+    /** Takes the gesture away. */
+    cancel() {
+        if (!this.pointers.size) return;
+        this.pointers.clear();
+        this.touched("cancel", 0, [0, 0], true);
+    }
+
     take(event) {
         if (!this.picture || (event.type === "pointerdown" && event.button !== 0)) return;
         if (picked("mode") === "choose" && !this.pointers.size) {
@@ -95,8 +112,15 @@ export class Stage {
         if (event.type === "pointerdown") by("stage").setPointerCapture(event.pointerId);
         else if (!this.pointers.has(event.pointerId)) return;
         const number = this.numberOf(event.pointerId);
+        if (event.type === "pointercancel") return void this.cancel();
         if (event.type === "pointerup") this.pointers.delete(event.pointerId);
-        if (event.type === "pointercancel") this.pointers.clear();
         this.touched(event.type.slice("pointer".length), number, this.point(event), this.pointers.size === 0);
     }
+}
+
+/** Where the view of a row, or its window, is on the stack; nothing where it is nowhere. */
+export function boxOf(row) {
+    if (!row) return null;
+    const box = row.view ? row.view.window : row.window.size && [0, 0, ...row.window.size];
+    return box && onStack(row.window, box);
 }

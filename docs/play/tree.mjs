@@ -3,6 +3,7 @@
 import { decoded, unescaped, withoutReturn } from "./lines.mjs";
 import { elementsIn, lastPart, reference } from "./layouts.mjs";
 
+const LOST = "the views could not be followed; this is a mistake of the page";
 const VISIBILITIES = ["visible", "invisible", "gone"];
 
 /** The text at the end of a line, without its escapes. */
@@ -103,14 +104,15 @@ export class Tree extends Lines {
     /** All views in preorder where they lie, by the lines of `bounds`. */
     placed(lines) {
         const views = this.root ? [...andBelow(this.root)] : [], windows = new Map();
-        if (views.length !== lines.length) throw new Error("the views could not be followed; this is a mistake of the page");
+        if (views.length !== lines.length) throw new Error(LOST);
         return views.map((view, at) => {
             const [name, ...words] = lines[at].split(" ");
-            if (name !== "v" + view.number) throw new Error("the views could not be followed; this is a mistake of the page");
+            if (name !== "v" + view.number) throw new Error(LOST);
             const bounds = words[0] === "none" ? null : words.slice(0, 4).map(Number);
             const scroll = words[4] === "scroll" ? Number(words[5]) : null;
             const around = view.parent ? windows.get(view.parent.number) : { left: 0, top: 0 };
-            const window = bounds && around ? bounds.map((it, side) => it + (side % 2 ? around.top : around.left)) : null;
+            const shifted = (it, side) => it + (side % 2 ? around.top : around.left);
+            const window = bounds && around ? bounds.map(shifted) : null;
             windows.set(view.number, window && { left: window[0], top: window[1] - (scroll || 0) });
             const { number, depth, kind, id, text, visibility } = view;
             return { number, depth, kind, id, text, visibility, bounds, window, scroll };
@@ -124,7 +126,7 @@ const quoted = (text) => JSON.stringify(text).replace(/[\ud800-\udfff]/g, (it) =
 /** A view as a line of `vindaesk tree`, without what it is indented by. */
 export function rowOf(it) {
     const words = ["v" + it.number, it.kind];
-    if (it.id) words.push("@" + it.id.toString(16));
+    if (it.id) words.push(it.name);
     if (it.text) words.push(quoted(it.text));
     words.push(it.bounds ? it.bounds.join(" ") : "none");
     if (it.window && it.window.join() !== it.bounds.join()) words.push("at " + it.window.join(" "));

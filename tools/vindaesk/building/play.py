@@ -18,15 +18,17 @@ from ..common.failures import Failure, NOT_RUN
 from ..common.places import TOP, version
 from ..layouts import attributes, faults, values
 from ..provenance import dist
-from ..scripts import grammar, refusals, replies, sentences
+from ..scripts import grammar, names, refusals, replies, sentences
 
 MODULE = os.path.join(dist.FOLDER, dist.MODULE)
 SOURCES = os.path.join(TOP, "docs", "play")
 EXAMPLES = os.path.join(TOP, "examples")
 IMPORT = re.compile(r'^import (\{[^}]*\}) from "(\.[^"]*)";\n', re.M)
-EXPORT = re.compile(r"^export (?=(?:class|const|function|async function) (\w+))", re.M)
-# the names that follow the word of a line that reads a file
-NAMED = re.compile(rb"^ *inflate +([A-Za-z0-9_-][A-Za-z0-9_.-]{0,63})", re.M)
+EXPORT = re.compile(r"^export (?=(?:class|const|function|function\*|async function) (\w+))", re.M)
+# the names that follow the word of a line that reads a file, of a stack too; JavaScript reads it as well
+INFLATING = r"^ *(?:in +[0-7] +)?inflate +([A-Za-z0-9_-][A-Za-z0-9_.-]{0,63})"
+# the forms of scripts by the ends of their names
+FORMS = {".script": "run", ".stack": "stack"}
 # what is shown first
 FIRST = "card"
 
@@ -36,18 +38,28 @@ class Bundle:
 
     def __init__(self) -> None:
         self.names: Dict[str, str] = {}
+        self.exported: Dict[str, List[str]] = {}
         self.parts: List[str] = []
+
+    def imported(self, names: str, path: str) -> str:
+        """The name of a module of which these names are imported, as `{ one, other }`."""
+        found = self.name(path)
+        for it in re.findall(r"\w+", names):
+            if it not in self.exported[found]:
+                raise Failure("%s exports no %s" % (path, it), NOT_RUN)
+        return found
 
     def name(self, path: str) -> str:
         """The name of a module, which comes after those that it imports."""
         path = os.path.normpath(path)
         if path not in self.names:
-            text = IMPORT.sub(lambda it: "const %s = %s;\n" % (it[1], self.name(os.path.join(os.path.dirname(path), it[2]))),
-                              files.read(path).decode())
+            folder, text = os.path.dirname(path), files.read(path).decode()
+            text = IMPORT.sub(lambda it: "const %s = %s;\n" % (it[1], self.imported(it[1], os.path.join(folder, it[2]))), text)
             exported, text = EXPORT.findall(text), EXPORT.sub("", text)
             if re.search(r"^(?:import|export)\b", text, re.M):
                 raise Failure("%s has an import or an export of another form" % path, NOT_RUN)
             name = self.names[path] = "module%d" % len(self.names)
+            self.exported[name] = exported
             self.parts.append("const %s = (() => {\n%sreturn { %s };\n})();\n" % (name, text, ", ".join(exported)))
         return self.names[path]
 
@@ -61,7 +73,7 @@ def bundled(path: str) -> str:
 
 def form_record(form: attributes.Form) -> Dict[str, object]:
     """What the text of an attribute may be, as the page has it."""
-    return {"said": values.said(form), "words": form.words, "has_numbers": "whole" in form.forms}
+    return {"said": values.said(form), "forms": form.forms, "words": form.words, "flags": form.flags}
 
 
 def tables() -> Dict[str, object]:
@@ -75,7 +87,7 @@ def tables() -> Dict[str, object]:
         "at_lines": {number: list(it.items()) for number, it in refusals.AT_LINES.items()},
         "attributes": {name: form_record(it.form) for name, it in attributes.KNOWN.items()},
         "any_attribute": form_record(attributes.ANY), "resource_kinds": faults.KINDS,
-        "of_file": refusals.FILE, "classes": grammar.CLASSES.split(" "), "nothing": replies.REASONS,
+        "ids_of_android": names.OF_ANDROID, "first_of_android": names.FIRST_OF_ANDROID, "of_file": refusals.FILE, "classes": grammar.CLASSES.split(" "), "nothing": replies.REASONS,
         "sentences": {name: it for name, it in vars(sentences).items() if name.isupper()},
     }
 
@@ -86,17 +98,18 @@ def text(data: bytes) -> str:
 
 def examples() -> Iterator[Dict[str, object]]:
     """The worked scripts, each with the layout files that it names."""
-    for path in sorted(glob.glob(os.path.join(EXAMPLES, "*.script"))):
-        script = files.read(path)
-        there = [it for it in dict.fromkeys(NAMED.findall(script)) if os.path.exists(os.path.join(EXAMPLES, it.decode()))]
-        held = {it.decode(): text(files.read(os.path.join(EXAMPLES, it.decode()))) for it in there}
-        yield {"name": os.path.splitext(os.path.basename(path))[0], "script": text(script), "files": held}
+    for path in sorted(path for end in FORMS for path in glob.glob(os.path.join(EXAMPLES, "*" + end))):
+        script, (name, end) = files.read(path), os.path.splitext(os.path.basename(path))
+        named = re.findall(INFLATING.encode(), script, re.M)
+        there = [it.decode() for it in dict.fromkeys(named) if os.path.exists(os.path.join(EXAMPLES, it.decode()))]
+        held = {it: text(files.read(os.path.join(EXAMPLES, it))) for it in there}
+        yield {"name": name, "form": FORMS[end], "script": text(script), "files": held}
 
 
 def page(module: bytes) -> bytes:
     """The whole page."""
     data: Dict[str, object] = {"version": version(), "tables": tables(), "examples": list(examples()), "first": FIRST,
-                               "module": text(module)}
+                               "inflating": INFLATING, "module": text(module)}
     parts = {"STYLE": files.read(os.path.join(SOURCES, "play.css")).decode(), "DATA": embedding.embedded(data)}
     for name, source in (("WORKER", "worker.mjs"), ("SCRIPT", "play.mjs")):
         parts[name] = bundled(os.path.join(SOURCES, source)).replace("</", "<\\/")

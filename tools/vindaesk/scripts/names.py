@@ -11,6 +11,7 @@ from typing import List, NamedTuple, Optional, Sequence, Tuple
 
 from ..common import files
 from ..common.failures import Failure, NOT_RUN
+from . import sentences
 from .resource_names import SYSTEM, Names
 
 LIST = "ids.txt"
@@ -90,12 +91,12 @@ class Ids:
 
         whole = "@%s%s/%s" % (package and package + ":", kind, name)
         if package == SYSTEM and kind == "id":
-            return "Android has no public id %s%s" % (whole, guess(name, tuple(OF_ANDROID)))
+            return sentences.NO_PUBLIC_ID % (whole, guess(name, tuple(OF_ANDROID)))
         if not self.is_there:
-            return "%s has no id, since there is no list %s; --ids FILE names another one" % (whole, self.path)
+            return sentences.NO_LIST % (whole, self.path)
         near = guess(name, tuple(it[2] for it in self.listed.ids if it[1] == kind))
         near = near or guess(kind, tuple(dict.fromkeys(it[1] for it in self.listed.ids)))
-        return "%s is not in %s%s" % (whole, self.path, near)
+        return sentences.NOT_LISTED % (whole, self.path, near)
 
     def expanded(self, line: bytes) -> Expanded:
         """A line with ids in the place of the names in it. Names within texts stay."""
@@ -122,7 +123,7 @@ class Ids:
         assert found is not None
         plus, package, kind, name = (part.decode() if part else "" for part in found.groups())
         if plus:
-            return None, "a script makes no ids: @%s/%s, with a line in %s" % (kind, name, LIST)
+            return None, sentences.MAKES_NO_IDS % (kind, name, LIST)
         return self.number(package, kind, name), self.unknown(package, kind, name)
 
     def named(self, line: bytes) -> bytes:

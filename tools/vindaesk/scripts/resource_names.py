@@ -5,6 +5,7 @@ from typing import Dict, List, Optional, Tuple
 
 from ..common.failures import Failure, NOT_RUN
 from ..common.messages import shown
+from . import sentences
 
 LINE = r"(?:([A-Za-z_][\w.]*):)?(\w+)/([\w.$-]+) *= *(?:0x)?([0-9A-Fa-f]{8})"
 # the package of what an app has itself, and where the ids of its views begin where there are none yet
@@ -40,10 +41,10 @@ class Names:
         """Takes a line of the list."""
         found = re.fullmatch(LINE, line.decode("utf-8", "replace"), re.ASCII)
         if not found:
-            raise Failure("%s: this is not of the form app:id/title = 0x7f080000: %s" % (place, shown(line)), NOT_RUN)
+            raise Failure(sentences.NO_NAME_LINE % (place, shown(line)), NOT_RUN)
         name, number = (found[1] or "", found[2], found[3]), int(found[4], 16)
         if number == 0 or self.ids.get(name, number) != number or self.names.get(number, name) != name:
-            raise Failure("%s: the id is 0, or the name or the id came before: %s" % (place, shown(line)), NOT_RUN)
+            raise Failure(sentences.NAME_AGAIN % (place, shown(line)), NOT_RUN)
         self.put(name, number)
 
     def put(self, name: Name, number: int) -> None:

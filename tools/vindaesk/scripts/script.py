@@ -7,7 +7,7 @@ from typing import List, NamedTuple, Optional, Sequence, Tuple
 from ..common import files
 from ..common.failures import Failure, NOT_RUN
 from ..program.statuses import MAX_SCRIPT
-from . import names
+from . import names, sentences
 from .names import Expanded, Ids, Unknown
 
 NUMBER = re.compile(rb"0|-?[1-9][0-9]{0,9}")
@@ -119,16 +119,16 @@ class Includer:
             chain = chain[same:]
             raise failure(at, ", which includes ".join([chain[0] + " includes " + chain[1], *chain[2:]]))
         if not name:
-            raise failure(at, "the name of a file is missing")
+            raise failure(at, sentences.NO_INCLUDED)
         if os.path.isabs(name):
             raise failure(at, "%s is no path from the folder of this file" % name)
         if len(around) > MAX_DEPTH or self.count > MAX_INCLUDES:
-            raise failure(at, "files include others more than %d deep, or %d times" % (MAX_DEPTH, MAX_INCLUDES))
+            raise failure(at, sentences.MANY_INCLUDES % (MAX_DEPTH, MAX_INCLUDES))
         if not os.path.isfile(path):
-            raise failure(at, "there is no file %s" % path)
+            raise failure(at, sentences.NO_FILE % path)
         text = files.read(path, MAX_SCRIPT)
         if self.size + len(text) > MAX_SCRIPT:
-            raise failure(at, "with this file the script has more than %d bytes" % MAX_SCRIPT)
+            raise failure(at, sentences.LONG_INCLUDE % MAX_SCRIPT)
         return self.lines(path, text, around, ((at.file, at.number), *at.around))
 
 

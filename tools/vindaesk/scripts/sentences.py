@@ -19,6 +19,18 @@ NO_HOOK_EDIT = "this may not be in a hook, or is a ninth edit"
 A_VIEW = "a view of this line has a number or an id that there is not"
 NO_PANE, NO_PANE_WHY = "43 NoPane", "no window of this number is open"
 REFUSED = "it cannot be carried out"
+# of names of ids, and of their list
+MAKES_NO_IDS = "a script makes no ids: @%s/%s, with a line in %s"
+NO_PUBLIC_ID = "Android has no public id %s%s"
+NO_LIST = "%s has no id, since there is no list %s; --ids FILE names another one"
+NOT_LISTED = "%s is not in %s%s"
+NO_NAME_LINE = "%s: this is not of the form app:id/title = 0x7f080000: %s"
+NAME_AGAIN = "%s: the id is 0, or the name or the id came before: %s"
+# of lines `include`
+NO_INCLUDED = "the name of a file is missing"
+MANY_INCLUDES = "files include others more than %d deep, or %d times"
+NO_FILE = "there is no file %s"
+LONG_INCLUDE = "with this file the script has more than %d bytes"
 # of a layout file
 SOURCE = "this is the source of a layout; tools/axml compiles it"
 AT_BYTE = "%s, at the byte %d"
