@@ -10,11 +10,14 @@
     wide clause         a function with a line of its contract above 120 columns
     wide definition     a file of definitions with a line above 120 columns
     long file           a file of more than 800 lines
-    long function       a function whose body has more than 40 lines
+    long function       a function whose body has more than 40 lines; of JavaScript too
+    wide script         a file of JavaScript with a line above 120 columns
+    unsaid script       a file of JavaScript that does not begin with what it is for
 
 What is known of these is in house.txt, one a line. That list may only become shorter: the check fails for one that is
 not in it, and for one in it that is no longer found.
 """
+import glob
 import os
 import re
 import sys
@@ -31,6 +34,9 @@ SHOWN = 12
 USE = re.compile(r"^[ \t]*(pub(?:\([a-z]+\))? )?(ghost )?use ([^;]+);", re.M)
 ANTT_USE = re.compile(r"^use (\S+?)(?:\.\{([^}]*)\}| as (\S+))?$", re.M)
 COMMENT = re.compile(r"(?:^|\s)//.*$", re.M)
+SCRIPTS = ("docs/play/*.mjs", "bindings/web/*.mjs", "ci/*.mjs")
+# a function of JavaScript, by the line at which its body begins
+SCRIPTED = re.compile(r"^( *)(?!(?:if|for|while|switch|class|\})\b)\S.*(?:\)|=>) \{$")
 FUNCTION = re.compile(r"^( *)(?:pub(?:\([a-z]+\))? )?(?:const )?fn (\w+)", re.M)
 WORD = re.compile(r"[\w']+")
 CLAUSE = re.compile(r"\b(?:requires|ensures)\*?(?: [\w-]+)? \{")
@@ -196,6 +202,26 @@ def twice(files: Iterable[definitions.File]) -> Iterator[str]:
         yield from ("twice: %s: %s" % (path, name) for path in paths if len(paths) > 1)
 
 
+def scripted(text: str) -> Iterator[Tuple[str, int]]:
+    """The functions of a file of JavaScript: the line at which the body of each begins, and how many lines it has."""
+    lines = text.split("\n")
+    for at, line in enumerate(lines):
+        opened = SCRIPTED.match(line)
+        if opened:
+            ends = (k for k in range(at + 1, len(lines)) if lines[k].startswith(opened[1] + "}"))
+            yield line.strip(), next(ends, len(lines)) - at - 1
+
+
+def of_script(path: str) -> Iterator[str]:
+    """What is found in a file of JavaScript."""
+    text, name = read(path), below_top(path)
+    if not text.startswith("/** "):
+        yield "unsaid script: " + name
+    if any(len(line) > MOST_COLUMNS for line in text.split("\n")):
+        yield "wide script: " + name
+    yield from ("long function: %s: %s" % (name, line) for line, count in scripted(text) if count > MOST_IN_BODY)
+
+
 def found() -> List[str]:
     """All that is found, in order."""
     code = list(definitions.files_below(".rt", ("src",)))
@@ -206,6 +232,7 @@ def found() -> List[str]:
     every += [line for path in specs for line in unused_in_definitions(path, read(path))]
     every += [line for path in specs for line in wide_definition(path)]
     every += [line for path in code + specs + proofs for line in long_file(path)]
+    every += [line for form in SCRIPTS for path in glob.glob(os.path.join(TOP, form)) for line in of_script(path)]
     every += twice(files)
     every += ["unreached: %s: %s" % (below_top(it.path), it.name) for it in definitions.unreached(files)]
     return sorted(set(every))
@@ -232,7 +259,10 @@ def example() -> str:
             "    ensures { C ≡ 1 + 2 }\n{\n    a\n}\n\nfn g() {}\n")
     counts = [(it.name, it.parameters(), len(it.body)) for it in functions(text)]
     names = [line.rpartition(" ")[2] for line in unused_in_code(os.path.join(TOP, "x.rt"), text)]
-    return "" if (counts, names) == ([("f", 2, 1), ("g", 0, 0)], ["D"]) else "found %s, %s" % (counts, names)
+    script = "class A {\n    b(c) {\n        if (c) {\n        }\n        c((d) => {\n            d;\n        });\n    }\n}\n"
+    sizes = [count for _, count in scripted(script)]
+    right = ([("f", 2, 1), ("g", 0, 0)], ["D"], [5, 1])
+    return "" if (counts, names, sizes) == right else "found %s, %s, %s" % (counts, names, sizes)
 
 
 def checks() -> Checks:
