@@ -4,7 +4,6 @@ pub mod BoundLaws
 pub mod ChangeExamples
 pub mod CommandExamples
 pub mod CommandLaws
-pub mod EditLaws
 pub mod HookExamples
 pub mod HookLaws
 pub mod NumberLaws
@@ -16,3 +15,4 @@ pub mod StateExamples
 pub mod StateLaws
 pub mod TextLengthLaws
 pub mod TouchExamples
+pub mod VerbLaws

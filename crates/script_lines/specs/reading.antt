@@ -9,3 +9,4 @@ pub mod Resources
 pub mod Rules
 pub mod States
 pub mod Touches
+pub mod Verbs

@@ -3,8 +3,7 @@
 
 ghost use Rattle.std.specs.Prelude.{◌≡◌, ◌≤◌, true, length, Ok, Err, IfOk, IsTrue};
 ghost use Rattle.std.specs.Str.{is_utf8};
-ghost use Rattle.script_lines.specs.reading.Commands.{IsInBounds, add_of, bounds_of, class_of, command_by, command_in, command_of, digest_of, disallow_of, dpi_of, frame_of, inflate_of, into_of, keep_by, remove_of, set_of, set_text_of, touch_by, window_of};
-ghost use Rattle.script_lines.specs.reading.Hooks.{begins_edit};
+ghost use Rattle.script_lines.specs.reading.Commands.{IsInBounds, add_of, bounds_of, class_of, command_by, command_of, digest_of, disallow_of, dpi_of, frame_of, inflate_of, into_of, remove_of, set_of, set_text_of, window_of};
 ghost use Rattle.script_lines.specs.cutting.Lines.{is_passed_over};
 ghost use Rattle.script_lines.specs.commands.PlainCommands.{PlainCommand, plain_command, text_length};
 ghost use Rattle.script_lines.specs.commands.Spelled.{HasLine, spelled};
@@ -23,20 +22,22 @@ pub mod touches;
 
 use crate::commands::{Command, MAX_DPI, MAX_WINDOW, MIN_DPI};
 use crate::fault::LineFault;
-use crate::reading::changes::{begins_act, read_act};
-use crate::reading::hooks::{begins_edit, hook, read_asked};
+use crate::reading::changes::read_act;
+use crate::reading::hooks::hook;
 use crate::reading::pixels::pixels;
 use crate::reading::resources::res;
 use crate::reading::states::{restore, save};
 use crate::reading::touches::{cancel, down, moved, up};
+use crate::verbs::{ActVerb, Verb, named_verb};
 use crate::words::dimension::extents;
 use crate::words::escapes::rest_text;
 use crate::words::file_name::file_name_word;
 use crate::words::naming::{Name, name_word, parent_word};
 use crate::words::number::{natural_within, number, pair};
 use crate::words::{end, is, is_text, literal, read_on, word};
-use view_model::{Act, Class};
+use view_model::Class;
 
+#[inline(never)]
 fn window(bytes: &[u8]) -> Result<Command<'_>, LineFault>
     ensures value { map_ok plain_command result ≡ window_of (words bytes.now) }
     ensures bounds { IfOk result (λ command. IsInBounds (plain_command command)) }
@@ -46,6 +47,7 @@ fn window(bytes: &[u8]) -> Result<Command<'_>, LineFault>
 }
 
 /// A density.
+#[inline(never)]
 #[tactic(auto, unfolding(crate::specs::reading::Commands::dpi_of))]
 fn dpi(bytes: &[u8]) -> Result<Command<'_>, LineFault>
     ensures value { map_ok plain_command result ≡ dpi_of (words bytes.now) }
@@ -71,6 +73,7 @@ fn into(bytes: &[u8]) -> Result<Option<Name>, LineFault>
     Ok(Some(view))
 }
 
+#[inline(never)]
 #[tactic(auto, unfolding(crate::specs::reading::Commands::inflate_of))]
 fn inflate(bytes: &[u8]) -> Result<Command<'_>, LineFault>
     ensures value { map_ok plain_command result ≡ inflate_of (words bytes.now) }
@@ -107,6 +110,7 @@ fn read_class(word: &[u8]) -> Result<Class, LineFault>
     Err(LineFault::Syntax)
 }
 
+#[inline(never)]
 #[tactic(auto, unfolding(crate::specs::reading::Commands::add_of))]
 fn add(bytes: &[u8]) -> Result<Command<'_>, LineFault>
     ensures value { map_ok plain_command result ≡ add_of (words bytes.now) }
@@ -124,6 +128,7 @@ fn add(bytes: &[u8]) -> Result<Command<'_>, LineFault>
     })
 }
 
+#[inline(never)]
 #[tactic(auto, unfolding(crate::specs::reading::Commands::remove_of))]
 fn remove(bytes: &[u8]) -> Result<Command<'_>, LineFault>
     ensures value { map_ok plain_command result ≡ remove_of (words bytes.now) }
@@ -152,6 +157,7 @@ fn digest(bytes: &[u8]) -> Result<Command<'_>, LineFault>
     Ok(Command::Digest)
 }
 
+#[inline(never)]
 #[tactic(auto, unfolding(crate::specs::reading::Commands::bounds_of))]
 fn bounds(bytes: &[u8]) -> Result<Command<'_>, LineFault>
     ensures value { map_ok plain_command result ≡ bounds_of (words bytes.now) }
@@ -182,12 +188,12 @@ fn disallow(bytes: &[u8]) -> Result<Command<'_>, LineFault>
 /// A line that sets something of a view.
 #[inline(never)]
 #[tactic(auto, unfolding(crate::specs::reading::Commands::set_of))]
-fn set<'a>(head: &[u8], bytes: &'a [u8]) -> Result<Command<'a>, LineFault>
-    ensures value { map_ok plain_command result ≡ set_of head.now (words bytes.now) }
+fn set<'a>(verb: ActVerb, bytes: &'a [u8]) -> Result<Command<'a>, LineFault>
+    ensures value { map_ok plain_command result ≡ set_of verb (words bytes.now) }
     ensures bounds { IfOk result (λ command. IsInBounds (plain_command command)) }
 {
     let (view, rest) = name_word(bytes)?;
-    let act = read_act(head, rest)?;
+    let act = read_act(verb, rest)?;
     Ok(Command::Act { view, act })
 }
 
@@ -203,118 +209,43 @@ fn set_text(bytes: &[u8]) -> Result<Command<'_>, LineFault>
     Ok(Command::Text { view, text })
 }
 
-/// Parses `save`, `restore`, `hook` and the setters, by the first word of the line and what comes after it.
-fn read_keep<'a>(head: &[u8], bytes: &'a [u8]) -> Result<Command<'a>, LineFault>
-    ensures value { map_ok plain_command result ≡ keep_by head.now (words bytes.now) }
-    ensures bounds { IfOk result (λ command. IsInBounds (plain_command command)) }
-{
-    if is(head, b"hook") {
-        return hook(bytes);
-    }
-    if is(head, b"save") {
-        return save(bytes);
-    }
-    if is(head, b"restore") {
-        return restore(bytes);
-    }
-    set(head, bytes)
-}
-
-/// Parses the same and the lines of touch, by the first word of the line and what comes after it.
-fn read_touch<'a>(head: &[u8], bytes: &'a [u8]) -> Result<Command<'a>, LineFault>
-    ensures value { map_ok plain_command result ≡ touch_by head.now (words bytes.now) }
-    ensures bounds { IfOk result (λ command. IsInBounds (plain_command command)) }
-{
-    if is(head, b"down") {
-        return down(bytes);
-    }
-    if is(head, b"move") {
-        return moved(bytes);
-    }
-    if is(head, b"up") {
-        return up(bytes);
-    }
-    if is(head, b"cancel") {
-        return cancel(bytes);
-    }
-    if is(head, b"disallow") {
-        return disallow(bytes);
-    }
-    read_keep(head, bytes)
-}
-
-/// The command of a line by its first word and what comes after that.
+/// The command of a line by what its first word asks for and what comes after that word: the spaces in a text count.
+/// Each reading is a function of its own, so that a line does not clear what only other lines hold.
+#[inline(always)]
 #[tactic(auto, unfolding(crate::specs::reading::Commands::command_by))]
-fn read_command<'a>(head: &[u8], bytes: &'a [u8]) -> Result<Command<'a>, LineFault>
-    ensures value { map_ok plain_command result ≡ command_by head.now (words bytes.now) }
+fn read_by<'a>(verb: Verb, bytes: &'a [u8]) -> Result<Command<'a>, LineFault>
+    ensures value { map_ok plain_command result ≡ command_by verb bytes.now }
     ensures bounds { IfOk result (λ command. IsInBounds (plain_command command)) }
 {
-    if is(head, b"window") {
-        return window(bytes);
+    match verb {
+        Verb::Window => window(bytes),
+        Verb::Dpi => dpi(bytes),
+        Verb::Res => res(bytes),
+        Verb::Inflate => inflate(bytes),
+        Verb::Add => add(bytes),
+        Verb::Remove => remove(bytes),
+        Verb::Act(act) => set(act, bytes),
+        Verb::Text => set_text(bytes),
+        Verb::Disallow => disallow(bytes),
+        Verb::Hook => hook(bytes),
+        Verb::Down => down(bytes),
+        Verb::Move => moved(bytes),
+        Verb::Up => up(bytes),
+        Verb::Cancel => cancel(bytes),
+        Verb::Frame => frame(bytes),
+        Verb::Bounds => bounds(bytes),
+        Verb::Pixels => pixels(bytes),
+        Verb::Digest => digest(bytes),
+        Verb::Save => save(bytes),
+        Verb::Restore => restore(bytes),
     }
-    if is(head, b"dpi") {
-        return dpi(bytes);
-    }
-    if is(head, b"inflate") {
-        return inflate(bytes);
-    }
-    if is(head, b"add") {
-        return add(bytes);
-    }
-    if is(head, b"remove") {
-        return remove(bytes);
-    }
-    if is(head, b"frame") {
-        return frame(bytes);
-    }
-    if is(head, b"bounds") {
-        return bounds(bytes);
-    }
-    if is(head, b"pixels") {
-        return pixels(bytes);
-    }
-    if is(head, b"digest") {
-        return digest(bytes);
-    }
-    read_touch(head, bytes)
-}
-
-/// The command of a line by its first word and what comes after that: the spaces in a text count.
-#[inline(never)]
-#[tactic(auto, unfolding(crate::specs::reading::Commands::command_in))]
-fn read_rest<'a>(head: &[u8], bytes: &'a [u8]) -> Result<Command<'a>, LineFault>
-    ensures value { map_ok plain_command result ≡ command_in head.now bytes.now }
-    ensures bounds { IfOk result (λ command. IsInBounds (plain_command command)) }
-{
-    if is(head, b"res") {
-        return res(bytes);
-    }
-    if is(head, b"text") {
-        return set_text(bytes);
-    }
-    read_command(head, bytes)
-}
-
-/// A line that sets something which a hook can set too.
-#[tactic(auto, using(crate::proofs::readings::EditLaws::edit_line))]
-fn edit<'a>(head: &[u8], bytes: &'a [u8]) -> Result<Command<'a>, LineFault>
-    requires { begins_edit head.now ≡ true }
-    ensures value { map_ok plain_command result ≡ command_in head.now bytes.now }
-    ensures bounds { IfOk result (λ command. IsInBounds (plain_command command)) }
-{
-    let asked = read_asked(head, bytes)?;
-    Ok(Command::Act {
-        view: asked.view,
-        act: Act::Change(asked.change),
-    })
 }
 
 /// The command of a line. A fault of the grammar counts before a number outside its bounds, wherever the two are. A
 /// line that is passed over has no command. The text of a command is read as that command. A line that is read has the
-/// words of its command and no others, and each line that has them is read as that command. Those that come most often
-/// are looked for first.
+/// words of its command and no others, and each line that has them is read as that command.
 #[inline(always)]
-#[tactic(auto, unfolding(crate::specs::reading::Commands::command_of), using(crate::proofs::readings::EditLaws::add_line, crate::proofs::readings::EditLaws::frame_line, crate::proofs::readings::EditLaws::restore_line, crate::proofs::readings::EditLaws::act_line, crate::proofs::readings::EditLaws::text_line, crate::proofs::readings::EditLaws::disallow_line, crate::proofs::readings::ReadLaws::read_short, crate::proofs::readings::ReadLaws::read_written))]
+#[tactic(auto, unfolding(crate::specs::reading::Commands::command_of, crate::specs::reading::Commands::command_in), using(crate::proofs::readings::ReadLaws::read_short, crate::proofs::readings::ReadLaws::read_written))]
 pub fn line(bytes: &[u8]) -> Result<Command<'_>, LineFault>
     ensures value { map_ok plain_command result ≡ command_of bytes.now }
     ensures bounds { IfOk result (λ command. IsInBounds (plain_command command)) }
@@ -336,26 +267,8 @@ pub fn line(bytes: &[u8]) -> Result<Command<'_>, LineFault>
         return Err(LineFault::Syntax);
     }
     let (head, rest) = word(bytes)?;
-    if begins_edit(head) {
-        return edit(head, rest);
+    match named_verb(head) {
+        Some(verb) => read_by(verb, rest),
+        None => Err(LineFault::Syntax),
     }
-    if begins_act(head) {
-        return set(head, rest);
-    }
-    if is(head, b"add") {
-        return add(rest);
-    }
-    if is(head, b"frame") {
-        return frame(rest);
-    }
-    if is(head, b"restore") {
-        return restore(rest);
-    }
-    if is(head, b"text") {
-        return set_text(rest);
-    }
-    if is(head, b"disallow") {
-        return disallow(rest);
-    }
-    read_rest(head, rest)
 }

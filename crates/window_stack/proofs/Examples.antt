@@ -10,6 +10,7 @@ use Rattle.script_lines.specs.words.Numbers.{integer_of, natural_of, natural_wit
 use Rattle.script_lines.specs.reading.Pixels.{is_small}
 use Rattle.script_lines.specs.commands.PlainCommands.{Frame, Window}
 use Rattle.script_lines.specs.reading.Touches.{pointer_of, touch_of}
+use Rattle.script_lines.specs.reading.Verbs.{act_named, change_named, verb_named}
 use Rattle.script_lines.specs.words.Words.{after_word, words}
 use Rattle.script_lines.specs.declared.fault.LineFault.TheVariants.{Syntax, Range}
 use Rattle.window_stack.specs.PlainPanes.{PlainPanes, closed, corner_of, no_panes, order_of, raised, set_at, topmost}
@@ -48,31 +49,31 @@ unfolding is_utf8 chars encode words after_word natural_of integer_of within_of 
 a_window_is_closed = refl
 
 pub a_window_gets_a_size : stack_line_of (codes "in 0 window 4 4") ≡ Ok (In 0 (Window (pos 4) (pos 4)))
-unfolding is_utf8 chars encode words after_word natural_of integer_of within_of natural_within pair_of id_of name_of pane_of is_touch_word given_of in_of frame_of set_of command_by command_in command_of stack_line_by stack_line_of
+unfolding is_utf8 chars encode words after_word natural_of integer_of within_of natural_within pair_of id_of name_of pane_of is_touch_word given_of in_of frame_of set_of change_named act_named verb_named command_by command_in command_of stack_line_by stack_line_of
 a_window_gets_a_size = refl
 
 pub a_window_has_a_frame : stack_line_of (codes "in 5 frame") ≡ Ok (In 5 Frame)
-unfolding is_utf8 chars encode words after_word natural_of integer_of within_of natural_within pair_of id_of name_of pane_of is_touch_word given_of in_of frame_of set_of command_by command_in command_of stack_line_by stack_line_of
+unfolding is_utf8 chars encode words after_word natural_of integer_of within_of natural_within pair_of id_of name_of pane_of is_touch_word given_of in_of frame_of set_of change_named act_named verb_named command_by command_in command_of stack_line_by stack_line_of
 a_window_has_a_frame = refl
 
 pub a_command_of_touch_is_none_of_the_grammar : stack_line_of (codes "in 0 down 0 1 1") ≡ Err Syntax
-unfolding is_utf8 chars encode words after_word natural_of integer_of within_of natural_within pair_of id_of name_of pane_of is_touch_word given_of in_of frame_of set_of command_by command_in command_of stack_line_by stack_line_of
+unfolding is_utf8 chars encode words after_word natural_of integer_of within_of natural_within pair_of id_of name_of pane_of is_touch_word given_of in_of frame_of set_of change_named act_named verb_named command_by command_in command_of stack_line_by stack_line_of
 a_command_of_touch_is_none_of_the_grammar = refl
 
 pub also_where_its_numbers_are_out_of_range : stack_line_of (codes "in 0 down 0 99999999 1") ≡ Err Syntax
-unfolding is_utf8 chars encode words after_word natural_of integer_of within_of natural_within pair_of id_of name_of pane_of is_touch_word given_of in_of frame_of set_of command_by command_in command_of stack_line_by stack_line_of
+unfolding is_utf8 chars encode words after_word natural_of integer_of within_of natural_within pair_of id_of name_of pane_of is_touch_word given_of in_of frame_of set_of change_named act_named verb_named command_by command_in command_of stack_line_by stack_line_of
 also_where_its_numbers_are_out_of_range = refl
 
 pub a_comment_is_no_command : stack_line_of (codes "in 0 # x") ≡ Err Syntax
-unfolding is_utf8 chars encode words after_word natural_of integer_of within_of natural_within pair_of id_of name_of pane_of is_touch_word given_of in_of frame_of set_of command_by command_in command_of stack_line_by stack_line_of
+unfolding is_utf8 chars encode words after_word natural_of integer_of within_of natural_within pair_of id_of name_of pane_of is_touch_word given_of in_of frame_of set_of change_named act_named verb_named command_by command_in command_of stack_line_by stack_line_of
 a_comment_is_no_command = refl
 
 pub no_command : stack_line_of (codes "in 0") ≡ Err Syntax
-unfolding is_utf8 chars encode words after_word natural_of integer_of within_of natural_within pair_of id_of name_of pane_of is_touch_word given_of in_of frame_of set_of command_by command_in command_of stack_line_by stack_line_of
+unfolding is_utf8 chars encode words after_word natural_of integer_of within_of natural_within pair_of id_of name_of pane_of is_touch_word given_of in_of frame_of set_of change_named act_named verb_named command_by command_in command_of stack_line_by stack_line_of
 no_command = refl
 
 pub syntax_of_a_command_comes_before_the_range_of_a_name : stack_line_of (codes "in 9 frame 1") ≡ Err Syntax
-unfolding is_utf8 chars encode words after_word natural_of integer_of within_of natural_within pair_of id_of name_of pane_of is_touch_word given_of in_of frame_of set_of command_by command_in command_of stack_line_by stack_line_of
+unfolding is_utf8 chars encode words after_word natural_of integer_of within_of natural_within pair_of id_of name_of pane_of is_touch_word given_of in_of frame_of set_of change_named act_named verb_named command_by command_in command_of stack_line_by stack_line_of
 syntax_of_a_command_comes_before_the_range_of_a_name = refl
 
 pub colours_are_composed : stack_line_of (codes "compose 1 1 3 2") ≡ Ok (Compose (pos 1) (pos 1) (pos 3) (pos 2))

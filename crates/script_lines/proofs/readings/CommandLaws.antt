@@ -1,14 +1,12 @@
 -- Lines that have no command.
 use Rattle.std.proofs.Common.{◌≡◌, ℕ, ◌<◌, Bool, true, false, refl, ap, ◌∙◌, inl, inr, List, [], ◌∷◌, length, take, arith}
-use Rattle.std.specs.Prelude.{◌==◌, ◌&&◌, ◌||◌, nat_lt, slice_index, drop, Option, Some, None, Result, Ok, Err}
+use Rattle.std.specs.Prelude.{◌==◌, ◌&&◌, ◌||◌, nat_lt, slice_index, Result, Ok, Err}
 use Rattle.std.specs.List.{list_all, prefix_len}
 use Rattle.std.specs.Str.{is_utf8}
 use Rattle.std.proofs.lemmas.Bool.{cases_Bool}
-use Rattle.script_lines.specs.reading.Changes.{act_of, change_of}
-use Rattle.script_lines.specs.reading.Commands.{command_by, command_in, command_of, set_of}
+use Rattle.script_lines.specs.reading.Commands.{command_in, command_of}
 use Rattle.script_lines.specs.cutting.Lines.{is_passed_over, is_space}
-use Rattle.script_lines.specs.words.Names.{begins_with, hex_of, id_of, known, name_in, name_of}
-use Rattle.script_lines.specs.words.Numbers.{natural_of}
+use Rattle.script_lines.specs.reading.Verbs.{act_named, change_named, verb_named}
 use Rattle.script_lines.specs.words.Words.{after_word, first_word, in_word, map_ok, ◌>>=◌, word_in, words}
 use Rattle.script_lines.specs.declared.fault.LineFault.{LineFault}
 use Rattle.script_lines.specs.declared.fault.LineFault.TheVariants.{Syntax}
@@ -43,45 +41,10 @@ first_word-mark : (bs : List ℕ) → first_word (35 ∷ bs) ≡ 35 ∷ take (pr
 unfolding first_word
 first_word-mark bs = ap (λ n. take n (35 ∷ bs)) (one_add (prefix_len in_word bs))
 
--- a reading whose only fault is Syntax
-abbrev OnlySyntax : {A : Type 0} → Result A LineFault → Type 0
-OnlySyntax (Ok a) = Unit {0}
-OnlySyntax (Err fault) = fault ≡ Syntax
-
-known-only_syntax : {A B : Type 0} (f : A → B) (o : Option A) → OnlySyntax (map_ok f (known o))
-known-only_syntax f None = refl
-known-only_syntax f (Some a) = tt
-
-name_of-only_syntax : (word : List ℕ) → OnlySyntax (name_of word)
-unfolding name_of id_of
-name_of-only_syntax word = elim (cases_Bool (begins_with 118 word)) [
-  | inl e ↦ rw e (known-only_syntax _ (natural_of (drop 1 word)))
-  | inr e ↦ elim (cases_Bool (begins_with 64 word)) [
-    | inl i ↦ rw (e, i) (known-only_syntax _ (hex_of (drop 1 word)))
-    | inr i ↦ rw (e, i) refl
-  ]
-]
-
-then-only_syntax : {A B : Type 0} (r : Result A LineFault) (next : A → Result B LineFault) → OnlySyntax r → ((a : A) → next a ≡ Err Syntax) → (r >>= next) ≡ Err Syntax
-then-only_syntax (Ok a) next h k = k a
-then-only_syntax (Err fault) next h k = ap Err h
-
-then-ok : {A B : Type 0} (r : Result A LineFault) (f : A → B) → OnlySyntax r → OnlySyntax (r >>= λ a. Ok (f a))
-then-ok (Ok a) f h = tt
-then-ok (Err fault) f h = h
-
-name_in-only_syntax : (words : List (List ℕ)) → OnlySyntax (name_in words)
-name_in-only_syntax [] = refl
-name_in-only_syntax (word ∷ words) = then-ok (name_of word) _ (name_of-only_syntax word)
-
 -- no first word begins with the mark of a comment
-command_by-mark : (word : List ℕ) (words : List (List ℕ)) → command_by (35 ∷ word) words ≡ Err Syntax
-unfolding command_by set_of act_of change_of
-command_by-mark word words = then-only_syntax (name_in words) _ (name_in-only_syntax words) (λ view. refl)
-
 command_in-mark : (word rest : List ℕ) → command_in (35 ∷ word) rest ≡ Err Syntax
-unfolding command_in
-command_in-mark word rest = command_by-mark word (words rest)
+unfolding command_in verb_named act_named change_named
+command_in-mark word rest = refl
 
 comment : (bs : List ℕ) → command_of (35 ∷ bs) ≡ Err Syntax
 unfolding command_of

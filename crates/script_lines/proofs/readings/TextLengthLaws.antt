@@ -4,14 +4,14 @@ use Rattle.std.specs.Prelude.{ℤ, pos, nat_lt, codes, if◌then◌else◌, IfOk
 use Rattle.std.specs.List.{prefix_len}
 use Rattle.std.specs.Str.{bytes_eq, is_utf8}
 use Rattle.std.proofs.lemmas.Bool.{cases_lt}
-use Rattle.script_lines.specs.reading.Changes.{act_of}
-use Rattle.script_lines.specs.reading.Commands.{add_of, bounds_of, class_of, command_by, command_in, command_of, digest_of, dpi_of, disallow_of, frame_of, inflate_of, into_of, keep_by, remove_of, set_of, set_text_of, touch_by, hook_of}
+use Rattle.script_lines.specs.reading.Changes.{act_by}
+use Rattle.script_lines.specs.reading.Commands.{add_of, bounds_of, class_of, command_by, command_in, command_of, digest_of, dpi_of, disallow_of, frame_of, inflate_of, into_of, remove_of, set_of, set_text_of, hook_of}
 use Rattle.script_lines.specs.words.Dimensions.{extents_of}
 use Rattle.script_lines.specs.words.Escapes.{escaped_text_of, has_escapes, rest_of}
 use Rattle.script_lines.specs.words.FileNames.{file_name_in}
 use Rattle.script_lines.specs.reading.Hooks.{edits_of}
 use Rattle.script_lines.specs.cutting.Lines.{is_space}
-use Rattle.script_lines.specs.words.Names.{id_in, name_in, parent_in}
+use Rattle.script_lines.specs.words.Names.{id_in, known, name_in, parent_in}
 use Rattle.script_lines.specs.words.Numbers.{integer_in, natural_within, pair_of, within_of}
 use Rattle.script_lines.specs.commands.PlainCommands.{PlainCommand, PlainGiven, Window, Dpi, Inflate, Act, SetText, Hook, Down, Move, Up, Text, Color, given_text_length, text_length}
 use Rattle.script_lines.specs.words.Colors.{last_color}
@@ -19,11 +19,15 @@ use Rattle.script_lines.specs.reading.Pixels.{is_small, part_of, pixels_of}
 use Rattle.script_lines.specs.reading.Resources.{dimen_given, given_by, given_of, res_of, resource_id, unit_of}
 use Rattle.script_lines.specs.reading.States.{is_state_text, restore_of, save_of, state_text_of}
 use Rattle.script_lines.specs.reading.Touches.{cancel_of, pointer_of, touch_of, up_of}
+use Rattle.script_lines.specs.reading.Verbs.{verb_named}
 use Rattle.script_lines.specs.words.Words.{after_spaces, after_word, end_of, first_word, in_word, on_of, text_of, word_in, words}
 use Rattle.script_lines.specs.declared.commands.Asked.{Asked}
 use Rattle.script_lines.specs.Numbers.{max_dpi, max_mantissa, max_point, max_window, min_dpi, min_mantissa}
 use Rattle.script_lines.specs.declared.fault.LineFault.TheVariants.{Syntax}
 use Rattle.script_lines.specs.declared.reading.touches.Touch.{Touch}
+use Rattle.script_lines.specs.declared.verbs.ActVerb.{ActVerb}
+use Rattle.script_lines.specs.declared.verbs.Verb.{Verb}
+use Rattle.script_lines.specs.declared.verbs.Verb.TheVariants as verb
 use Rattle.script_lines.proofs.readings.OkLaws.{if_either, if_map, if_map_with, if_ok_more, if_then, if_then_with}
 use Rattle.script_lines.proofs.texts.WordLaws.{words_none, words_some}
 
@@ -96,9 +100,9 @@ unfolding bounds_of
 bounds_of-short n [] = none_short n
 bounds_of-short n (word ∷ words) = if_then (Short n) (name_in (word ∷ words)) _ (λ view. if_then (Short n) (end_of view.1) _ (λ _. none_short n))
 
-set_of-short : (n : ℕ) (head : List ℕ) (words : List (List ℕ)) → IfOk (set_of head words) (Short n)
+set_of-short : (n : ℕ) (verb : ActVerb) (words : List (List ℕ)) → IfOk (set_of verb words) (Short n)
 unfolding set_of
-set_of-short n head words = if_then (Short n) (name_in words) _ (λ view. if_map (Short n) (Act view.0) (act_of head view.1) (λ _. none_short n))
+set_of-short n verb words = if_then (Short n) (name_in words) _ (λ view. if_map (Short n) (Act view.0) (act_by verb view.1) (λ _. none_short n))
 
 pixels_of-short : (n : ℕ) (words : List (List ℕ)) → IfOk (pixels_of words) (Short n)
 unfolding pixels_of part_of
@@ -117,50 +121,47 @@ restore_of-short n (word ∷ words) first =
     if_then_with Q (Short n) (if is_state_text word then Ok word else Err Syntax) _ (if_either Q (is_state_text word) _ _ first tt)
     (λ text short. if_then (Short n) (end_of words) _ (λ _. short))
 
-keep_by-short : (n : ℕ) (head : List ℕ) (words : List (List ℕ)) → FirstShort n words → IfOk (keep_by head words) (Short n)
-unfolding hook_of save_of
-keep_by-short n head words first =
-    let P = Short n in
-    if_either P (bytes_eq head (codes "hook")) _ _ (if_then P (name_in words) _ (λ view. if_map P (λ (edits : List Asked × Bool). Hook view.0 edits.0 edits.1) (edits_of view.1) (λ _. none_short n)))
-    (if_either P (bytes_eq head (codes "save")) _ _ (if_then P (end_of words) _ (λ _. none_short n))
-    (if_either P (bytes_eq head (codes "restore")) _ _ (restore_of-short n words first) (set_of-short n head words)))
-
-touch_by-short : (n : ℕ) (head : List ℕ) (words : List (List ℕ)) → FirstShort n words → IfOk (touch_by head words) (Short n)
-unfolding up_of cancel_of disallow_of
-touch_by-short n head words first =
-    let P = Short n in
-    if_either P (bytes_eq head (codes "down")) _ _ (if_map P (λ (touch : Touch). Down touch.pointer touch.x touch.y) (touch_of words) (λ _. none_short n))
-    (if_either P (bytes_eq head (codes "move")) _ _ (if_map P (λ (touch : Touch). Move touch.pointer touch.x touch.y) (touch_of words) (λ _. none_short n))
-    (if_either P (bytes_eq head (codes "up")) _ _ (if_then P (integer_in words) _ (λ p. if_then P (end_of p.1) _ (λ _. if_map P Up (pointer_of p.0) (λ _. none_short n))))
-    (if_either P (bytes_eq head (codes "cancel")) _ _ (if_then P (end_of words) _ (λ _. none_short n))
-    (if_either P (bytes_eq head (codes "disallow")) _ _
-    (if_then P (name_in words) _ (λ view. if_then P (word_in view.1) _ (λ b. if_then P (on_of b.0) _ (λ on. if_then P (end_of b.1) _ (λ _. none_short n)))))
-    (keep_by-short n head words first)))))
-
-command_by-short : (n : ℕ) (head : List ℕ) (words : List (List ℕ)) → FirstShort n words → IfOk (command_by head words) (Short n)
-unfolding command_by dpi_of inflate_of add_of remove_of frame_of digest_of
-command_by-short n head words first =
-    let P = Short n in
-    if_either P (bytes_eq head (codes "window")) _ _ (if_map P (λ (pair : ℤ × ℤ). Window pair.0 pair.1) (pair_of (pos 1) max_window words) (λ _. none_short n))
-    (if_either P (bytes_eq head (codes "dpi")) _ _ (if_then P (integer_in words) _ (λ dpi. if_then P (end_of dpi.1) _ (λ _. if_map P Dpi (natural_within min_dpi max_dpi dpi.0) (λ _. none_short n))))
-    (if_either P (bytes_eq head (codes "inflate")) _ _ (if_then P (file_name_in words) _ (λ name. if_map P (Inflate name.0) (into_of name.1) (λ _. none_short n)))
-    (if_either P (bytes_eq head (codes "add")) _ _
-    (if_then P (parent_in words) _ (λ parent. if_then P (word_in parent.1) _ (λ c. if_then P (class_of c.0) _ (λ class. if_map P _ (extents_of c.1) (λ _. none_short n)))))
-    (if_either P (bytes_eq head (codes "remove")) _ _ (if_then P (name_in words) _ (λ view. if_then P (end_of view.1) _ (λ _. none_short n)))
-    (if_either P (bytes_eq head (codes "frame")) _ _ (if_then P (end_of words) _ (λ _. none_short n))
-    (if_either P (bytes_eq head (codes "bounds")) _ _ (bounds_of-short n words)
-    (if_either P (bytes_eq head (codes "pixels")) _ _ (pixels_of-short n words)
-    (if_either P (bytes_eq head (codes "digest")) _ _ (if_then P (end_of words) _ (λ _. none_short n)) (touch_by-short n head words first)))))))))
+command_by-short : (verb : Verb) (rest : List ℕ) → IfOk (command_by verb rest) (Short (length rest))
+unfolding command_by dpi_of inflate_of add_of remove_of frame_of digest_of hook_of save_of up_of cancel_of disallow_of
+command_by-short verb.Window rest = if_map (Short (length rest)) (λ (pair : ℤ × ℤ). Window pair.0 pair.1) (pair_of (pos 1) max_window (words rest)) (λ _. none_short (length rest))
+command_by-short verb.Dpi rest =
+    let P = Short (length rest) in
+    if_then P (integer_in (words rest)) _ (λ dpi. if_then P (end_of dpi.1) _ (λ _. if_map P Dpi (natural_within min_dpi max_dpi dpi.0) (λ _. none_short (length rest))))
+command_by-short verb.Res rest = res_of-short rest
+command_by-short verb.Inflate rest =
+    let P = Short (length rest) in
+    if_then P (file_name_in (words rest)) _ (λ name. if_map P (Inflate name.0) (into_of name.1) (λ _. none_short (length rest)))
+command_by-short verb.Add rest =
+    let P = Short (length rest) in
+    if_then P (parent_in (words rest)) _ (λ parent. if_then P (word_in parent.1) _ (λ c. if_then P (class_of c.0) _ (λ class. if_map P _ (extents_of c.1) (λ _. none_short (length rest)))))
+command_by-short verb.Remove rest =
+    let P = Short (length rest) in
+    if_then P (name_in (words rest)) _ (λ view. if_then P (end_of view.1) _ (λ _. none_short (length rest)))
+command_by-short (verb.Act act) rest = set_of-short (length rest) act (words rest)
+command_by-short verb.Text rest = set_text_of-short rest
+command_by-short verb.Disallow rest =
+    let P = Short (length rest) in
+    if_then P (name_in (words rest)) _ (λ view. if_then P (word_in view.1) _ (λ b. if_then P (on_of b.0) _ (λ on. if_then P (end_of b.1) _ (λ _. none_short (length rest)))))
+command_by-short verb.Hook rest =
+    let P = Short (length rest) in
+    if_then P (name_in (words rest)) _ (λ view. if_map P (λ (edits : List Asked × Bool). Hook view.0 edits.0 edits.1) (edits_of view.1) (λ _. none_short (length rest)))
+command_by-short verb.Down rest = if_map (Short (length rest)) (λ (touch : Touch). Down touch.pointer touch.x touch.y) (touch_of (words rest)) (λ _. none_short (length rest))
+command_by-short verb.Move rest = if_map (Short (length rest)) (λ (touch : Touch). Move touch.pointer touch.x touch.y) (touch_of (words rest)) (λ _. none_short (length rest))
+command_by-short verb.Up rest =
+    let P = Short (length rest) in
+    if_then P (integer_in (words rest)) _ (λ p. if_then P (end_of p.1) _ (λ _. if_map P Up (pointer_of p.0) (λ _. none_short (length rest))))
+command_by-short verb.Cancel rest = if_then (Short (length rest)) (end_of (words rest)) _ (λ _. none_short (length rest))
+command_by-short verb.Frame rest = if_then (Short (length rest)) (end_of (words rest)) _ (λ _. none_short (length rest))
+command_by-short verb.Bounds rest = bounds_of-short (length rest) (words rest)
+command_by-short verb.Pixels rest = pixels_of-short (length rest) (words rest)
+command_by-short verb.Digest rest = if_then (Short (length rest)) (end_of (words rest)) _ (λ _. none_short (length rest))
+command_by-short verb.Save rest = if_then (Short (length rest)) (end_of (words rest)) _ (λ _. none_short (length rest))
+command_by-short verb.Restore rest = restore_of-short (length rest) (words rest) (words-first_short rest)
 
 pub command_of-short : (line : List ℕ) → IfOk (command_of line) (Short (length line))
 unfolding command_of command_in
 command_of-short line =
     let P = Short (length line) in
-    let res : IfOk (res_of (after_word line)) P = if_ok_more (Short (length (after_word line))) P (res_of (after_word line)) (res_of-short (after_word line)) (λ c h. omega (arith, h, after_word-short line)) in
-    let text : IfOk (set_text_of (after_word line)) P = if_ok_more (Short (length (after_word line))) P (set_text_of (after_word line)) (set_text_of-short (after_word line)) (λ c h. omega (arith, h, after_word-short line)) in
-    let first : FirstShort (length line) (words (after_word line)) =
-    if_ok_more (λ (r : List ℕ × List (List ℕ)). length r.0 ≤ length (after_word line)) (λ r. length r.0 ≤ length line) (word_in (words (after_word line)))
-    (words-first_short (after_word line)) (λ r h. omega (arith, h, after_word-short line)) in
-    if_either P (is_utf8 line) _ _ (if_then P (word_in (words line)) _ (λ head.
-    if_either P (bytes_eq head.0 (codes "res")) _ _ res
-    (if_either P (bytes_eq head.0 (codes "text")) _ _ text (command_by-short (length line) head.0 (words (after_word line)) first)))) tt
+    let rest = after_word line in
+    if_either P (is_utf8 line) _ _ (if_then P (word_in (words line)) _ (λ head. if_then P (known (verb_named head.0)) _ (λ verb.
+    if_ok_more (Short (length rest)) P (command_by verb rest) (command_by-short verb rest) (λ c h. omega (arith, h, after_word-short line))))) tt

@@ -14,11 +14,11 @@ use Rattle.view_model.specs.declared.placing.Across.TheVariants as across
 use Rattle.view_model.specs.declared.placing.Down.{Down}
 use Rattle.view_model.specs.declared.placing.Down.TheVariants as down
 use Rattle.view_model.specs.declared.placing.Gravity.{Gravity}
-use Rattle.script_lines.specs.reading.Changes.{AreWithin, IsChangeInBounds, change_of, gravity_change_of, insets_of, kids_of, sides_of}
+use Rattle.script_lines.specs.reading.Changes.{AreWithin, IsChangeInBounds, change_by, gravity_change_of, insets_of, kids_of, sides_of}
 use Rattle.script_lines.specs.words.Dimensions.{IsExtent, dimension_of, extent_of, extents_of}
 use Rattle.script_lines.specs.words.Gravities.{across_of, down_of, gravity_of, is_set_across, is_set_down, one_across, one_down, with_word, with_words}
 use Rattle.script_lines.specs.words.Numbers.{IsWithin}
-use Rattle.script_lines.specs.commands.Spelled.{ChangeHasLine, HasWord, change_head, change_words, extent_text, gravity_text, insets_words, weight_words}
+use Rattle.script_lines.specs.commands.Spelled.{ChangeHasLine, HasWord, change_head, change_verb_of, change_words, extent_text, gravity_text, insets_words, weight_words}
 use Rattle.script_lines.specs.words.Weights.{last_number, weight_of}
 use Rattle.script_lines.specs.Numbers.{max_parts, max_whole}
 use Rattle.script_lines.specs.declared.reading.changes.Sides.{Sides}
@@ -182,10 +182,10 @@ kids_of-text false = refl
 pub record ChangeReads (c : Change) : Type 0 where
   pub head : IsWord (change_head c)
   pub words : AreWords (change_words c)
-  pub value : change_of (change_head c) (change_words c) ≡ Ok c
+  pub value : change_by (change_verb_of c) (change_words c) ≡ Ok c
 
 pub change_reads : (c : Change) → IsChangeInBounds c → ChangeHasLine c → ChangeReads c
-unfolding change_of gravity_change_of
+unfolding gravity_change_of
 change_reads (change.Size width height) b l = record {
   head = word_by (codes "size") refl;
   words = (extent_word width b.0, (extent_word height b.1, tt));

@@ -1,13 +1,11 @@
 -- Commands, read from their texts.
-use Rattle.std.proofs.Common.{◌≡◌, ℕ, ◌<◌, ◌≤◌, ◌^◌, Bool, true, false, refl, ◌∙◌, List, [], ◌∷◌, arith}
+use Rattle.std.proofs.Common.{◌≡◌, ℕ, ◌<◌, ◌≤◌, ◌^◌, Bool, true, false, refl, ◌∙◌, [], ◌∷◌, arith}
 use Rattle.std.specs.Prelude.{if◌then◌else◌, ℤ, pos, codes, Some, None, Ok, ◌*ℤ◌, ◌≤ℤ◌}
 use Rattle.std.specs.Fmt.{decimal, signed_decimal}
 use Rattle.std.proofs.lemmas.Int.{ints}
 use Rattle.view_model.specs.Numbers.{max_size}
 use Rattle.view_model.specs.declared.changes.Act.{Act}
 use Rattle.view_model.specs.declared.changes.Act.TheVariants as act
-use Rattle.view_model.specs.declared.changes.Change.{Change}
-use Rattle.view_model.specs.declared.changes.Change.TheVariants as change
 use Rattle.view_model.specs.declared.changes.Flag.{Flag}
 use Rattle.view_model.specs.declared.changes.Flag.TheVariants as flag
 use Rattle.view_model.specs.declared.answer.Answer.{Answer}
@@ -18,19 +16,20 @@ use Rattle.view_model.specs.declared.visibility.Visibility.{Visibility}
 use Rattle.view_model.specs.declared.visibility.Visibility.TheVariants as visibility
 use Rattle.view_model.specs.declared.placing.Direction.{Direction}
 use Rattle.view_model.specs.declared.placing.Direction.TheVariants.{Inherit, Ltr, Rtl}
-use Rattle.script_lines.specs.reading.Changes.{IsActInBounds, act_of, answer_named, answer_of, change_of, direction_named, direction_of, flag_named, flag_of, new_id_of, orient_of, scroll_of, vertical_of, visibility_of, visible_of}
+use Rattle.script_lines.specs.reading.Changes.{IsActInBounds, act_by, answer_named, answer_of, direction_named, direction_of, flag_named, flag_of, new_id_of, orient_of, scroll_of, vertical_of, visibility_of, visible_of}
 use Rattle.script_lines.specs.reading.Commands.{IsInBounds, add_of, bounds_of, class_of, command_by, command_of, digest_of, disallow_of, dpi_of, frame_of, inflate_of, into_of, remove_of, set_of, hook_of}
 use Rattle.script_lines.specs.words.Numbers.{IsWithin}
 use Rattle.script_lines.specs.reading.Pixels.{IsPart, is_small, part_of, pixels_of}
 use Rattle.script_lines.specs.reading.Rules.{rule_of}
-use Rattle.script_lines.specs.commands.Spelled.{ActHasLine, HasLine, act_head, act_words, change_head, change_words, class_text, edits_words, event_answer_text, extent_text, flag_text, hook_edits, name_text, on_text, parent_text, spelled, touch_words, visibility_text, direction_text}
+use Rattle.script_lines.specs.commands.Spelled.{ActHasLine, HasLine, act_head, act_verb_of, act_words, class_text, edits_words, event_answer_text, extent_text, flag_text, hook_edits, name_text, on_text, parent_text, spelled, touch_words, visibility_text, direction_text}
 use Rattle.script_lines.specs.reading.States.{restore_of, save_of}
 use Rattle.script_lines.specs.reading.Touches.{cancel_of, up_of}
-use Rattle.script_lines.specs.words.Words.{map_ok, on_of}
+use Rattle.script_lines.specs.words.Words.{on_of}
 use Rattle.script_lines.specs.Numbers.{max_dpi, max_pixels, max_point, max_window, min_dpi}
 use Rattle.script_lines.specs.commands.PlainCommands.{PlainCommand}
 use Rattle.script_lines.specs.commands.PlainCommands as plain
 use Rattle.script_lines.specs.declared.words.naming.Name.TheVariants.{Id}
+use Rattle.script_lines.specs.declared.verbs.Verb.TheVariants as verb
 use Rattle.script_lines.proofs.texts.FileNameLaws.{file_name_word}
 use Rattle.script_lines.proofs.spelled.SpelledActions.{actions_of-words, intercept_reads_words}
 use Rattle.script_lines.proofs.spelled.SpelledColors.{color_word, last_color-text}
@@ -43,7 +42,7 @@ use Rattle.script_lines.proofs.spelled.SpelledTouches.{pointer_of-id, pointer_sh
 use Rattle.script_lines.proofs.spelled.SpelledNames.{id_of-text, name_of-text, name_word, parent_of-text, parent_word}
 use Rattle.script_lines.proofs.spelled.SpelledNumbers.{IsShort, decimal_word, integer_of-signed, natural_within-within, pair_of-signed, short_within, signed_word, within_of-within}
 use Rattle.script_lines.proofs.readings.StateLaws.{state_text_of-text, state_word}
-use Rattle.script_lines.proofs.spelled.SpelledWords.{AreWords, IsWord, command_of-joined, ends_in_text, word_by}
+use Rattle.script_lines.proofs.spelled.SpelledWords.{AreWords, IsWord, command_of-joined, word_by}
 
 -- classes
 pub class_of-text : (class : Class) → class_of (class_text class) ≡ Ok class
@@ -129,25 +128,14 @@ event_answer_word answer.Off = word_by (codes "off") refl
 event_answer_word answer.Yes = word_by (codes "yes") refl
 event_answer_word answer.Click = word_by (codes "click") refl
 
--- the line that makes a change
-pub act_of-change : (c : Change) (ws : List (List ℕ)) → act_of (change_head c) ws ≡ map_ok act.Change (change_of (change_head c) ws)
-unfolding act_of
-act_of-change (change.Size width height) ws = refl
-act_of-change (change.Min size) ws = refl
-act_of-change (change.Margins sides) ws = refl
-act_of-change (change.Padding sides) ws = refl
-act_of-change (change.Weight weight) ws = refl
-act_of-change (change.Gravity kids gravity) ws = refl
-act_of-change (change.Background color) ws = refl
-
 pub record ActReads (a : Act) : Type 0 where
   pub head : IsWord (act_head a)
   pub words : AreWords (act_words a)
-  pub value : act_of (act_head a) (act_words a) ≡ Ok a
+  pub value : act_by (act_verb_of a) (act_words a) ≡ Ok a
 
 pub act_reads : (a : Act) → IsActInBounds a → ActHasLine a → ActReads a
-unfolding act_of visible_of new_id_of orient_of direction_of flag_of answer_of scroll_of rule_of
-act_reads (act.Change change) b l = let r = change_reads change b l in record { head = r.head; words = r.words; value = act_of-change change (change_words change) ∙ rw r.value refl }
+unfolding visible_of new_id_of orient_of direction_of flag_of answer_of scroll_of rule_of
+act_reads (act.Change change) b l = let r = change_reads change b l in record { head = r.head; words = r.words; value = rw r.value refl }
 act_reads (act.Visible visibility) b l = record {
   head = word_by (codes "visible") refl;
   words = (visibility_word visibility, tt);
@@ -206,55 +194,6 @@ act_reads (act.Scroll offset) b l =
       value = rw (integer_of-signed offset short, within_of-within (pos 0) max_size offset b) refl;
     }
 
--- the first words of the lines that set something are none of the others
-pub command_by-change : (c : Change) (ws : List (List ℕ)) → command_by (change_head c) ws ≡ set_of (change_head c) ws
-unfolding command_by
-command_by-change (change.Size width height) ws = refl
-command_by-change (change.Min size) ws = refl
-command_by-change (change.Margins sides) ws = refl
-command_by-change (change.Padding sides) ws = refl
-command_by-change (change.Weight weight) ws = refl
-command_by-change (change.Gravity kids gravity) ws = refl
-command_by-change (change.Background color) ws = refl
-
-pub command_by-act : (a : Act) (ws : List (List ℕ)) → command_by (act_head a) ws ≡ set_of (act_head a) ws
-unfolding command_by
-command_by-act (act.Change change) ws = command_by-change change ws
-command_by-act (act.Visible visibility) ws = refl
-command_by-act (act.Id id) ws = refl
-command_by-act (act.WeightSum sum) ws = refl
-command_by-act (act.Orient vertical) ws = refl
-command_by-act (act.Flag flag on) ws = refl
-command_by-act (act.Ink color) ws = refl
-command_by-act (act.Rule verb value) ws = refl
-command_by-act (act.Answer answer) ws = refl
-command_by-act (act.Intercept actions) ws = refl
-command_by-act (act.Scroll offset) ws = refl
-command_by-act (act.Direction direction) ws = refl
-
-pub change_no_text : (c : Change) → ends_in_text (change_head c) ≡ false
-change_no_text (change.Size width height) = refl
-change_no_text (change.Min size) = refl
-change_no_text (change.Margins sides) = refl
-change_no_text (change.Padding sides) = refl
-change_no_text (change.Weight weight) = refl
-change_no_text (change.Gravity kids gravity) = refl
-change_no_text (change.Background color) = refl
-
-pub act_no_text : (a : Act) → ends_in_text (act_head a) ≡ false
-act_no_text (act.Change change) = change_no_text change
-act_no_text (act.Visible visibility) = refl
-act_no_text (act.Id id) = refl
-act_no_text (act.WeightSum sum) = refl
-act_no_text (act.Orient vertical) = refl
-act_no_text (act.Flag flag on) = refl
-act_no_text (act.Ink color) = refl
-act_no_text (act.Rule verb value) = refl
-act_no_text (act.Answer answer) = refl
-act_no_text (act.Intercept actions) = refl
-act_no_text (act.Scroll offset) = refl
-act_no_text (act.Direction direction) = refl
-
 pub side_of_window : (z : ℤ) → IsWithin (pos 1) max_window z → IsShort z
 side_of_window z h = short_within 0 4096 z (omega (arith, ints, h.0)) h.1 (omega arith) (omega arith)
 
@@ -292,60 +231,72 @@ pixels_of-text x y w h b =
 pub command_of-spelled : (c : PlainCommand) → IsInBounds c → HasLine c → command_of (spelled c) ≡ Ok c
 unfolding command_by dpi_of inflate_of into_of add_of remove_of disallow_of up_of cancel_of frame_of bounds_of digest_of hook_of save_of restore_of set_of
 command_of-spelled (plain.Window w h) b l =
-    command_of-joined (codes "window") (signed_decimal w ∷ signed_decimal h ∷ []) refl (word_by (codes "window") refl, (signed_word w (side_of_window w b.0), (signed_word h (side_of_window h b.1), tt)))
-    ∙ rw (pair_of-signed (pos 1) max_window w h (side_of_window w b.0) (side_of_window h b.1) b.0 b.1) refl
+    let j = command_of-joined verb.Window (signed_decimal w ∷ signed_decimal h ∷ []) (word_by (codes "window") refl, (signed_word w (side_of_window w b.0), (signed_word h (side_of_window h b.1), tt))) in
+    j.command ∙ rw (j.words, pair_of-signed (pos 1) max_window w h (side_of_window w b.0) (side_of_window h b.1) b.0 b.1) refl
 command_of-spelled (plain.Dpi dpi) b l =
     let short = dpi_short dpi b.1 in
-    command_of-joined (codes "dpi") (decimal dpi ∷ []) refl (word_by (codes "dpi") refl, (decimal_word dpi short, tt))
-    ∙ rw (integer_of-signed (pos dpi) short, natural_within-within min_dpi max_dpi dpi b.0 b.1) refl
+    let j = command_of-joined verb.Dpi (decimal dpi ∷ []) (word_by (codes "dpi") refl, (decimal_word dpi short, tt)) in
+    j.command ∙ rw (j.words, integer_of-signed (pos dpi) short, natural_within-within min_dpi max_dpi dpi b.0 b.1) refl
 command_of-spelled (plain.Res id value) b l = command_of-resource id value b.0 l.0 b.1 l.1
 command_of-spelled (plain.Inflate name None) b l =
-    command_of-joined (codes "inflate") (name ∷ []) refl (word_by (codes "inflate") refl, (file_name_word name b, tt))
-    ∙ rw b refl
+    let j = command_of-joined verb.Inflate (name ∷ []) (word_by (codes "inflate") refl, (file_name_word name b, tt)) in
+    j.command ∙ rw (j.words, b) refl
 command_of-spelled (plain.Inflate name (Some view)) b l =
-    command_of-joined (codes "inflate") (name ∷ codes "into" ∷ name_text view ∷ []) refl (word_by (codes "inflate") refl, (file_name_word name b, (word_by (codes "into") refl, (name_word view l, tt))))
-    ∙ rw (b, name_of-text view l) refl
+    let j = command_of-joined verb.Inflate (name ∷ codes "into" ∷ name_text view ∷ []) (word_by (codes "inflate") refl, (file_name_word name b, (word_by (codes "into") refl, (name_word view l, tt)))) in
+    j.command ∙ rw (j.words, b, name_of-text view l) refl
 command_of-spelled (plain.Add parent class width height) b l =
-    command_of-joined (codes "add") (parent_text parent ∷ class_text class ∷ extent_text width ∷ extent_text height ∷ []) refl (word_by (codes "add") refl, (parent_word parent l, (class_word class, (extent_word width b.0, (extent_word height b.1, tt)))))
-    ∙ rw (parent_of-text parent l, class_of-text class, extents_of-text width height b.0 b.1) refl
+    let j = command_of-joined verb.Add (parent_text parent ∷ class_text class ∷ extent_text width ∷ extent_text height ∷ []) (word_by (codes "add") refl, (parent_word parent l, (class_word class, (extent_word width b.0, (extent_word height b.1, tt))))) in
+    j.command ∙ rw (j.words, parent_of-text parent l, class_of-text class, extents_of-text width height b.0 b.1) refl
 command_of-spelled (plain.Remove view) b l =
-    command_of-joined (codes "remove") (name_text view ∷ []) refl (word_by (codes "remove") refl, (name_word view l, tt))
-    ∙ rw (name_of-text view l) refl
+    let j = command_of-joined verb.Remove (name_text view ∷ []) (word_by (codes "remove") refl, (name_word view l, tt)) in
+    j.command ∙ rw (j.words, name_of-text view l) refl
 command_of-spelled (plain.Act view act) b l =
     let r = act_reads act b l.1 in
-    command_of-joined (act_head act) (name_text view ∷ act_words act) (act_no_text act) (r.head, (name_word view l.0, r.words))
-    ∙ command_by-act act (name_text view ∷ act_words act)
-    ∙ rw (name_of-text view l.0, r.value) refl
+    let j = command_of-joined (verb.Act (act_verb_of act)) (name_text view ∷ act_words act) (r.head, (name_word view l.0, r.words)) in
+    j.command ∙ rw (j.words, name_of-text view l.0, r.value) refl
 command_of-spelled (plain.SetText view text) b l = command_of-text view text b l.0 l.1
 command_of-spelled (plain.Disallow view on) b l =
-    command_of-joined (codes "disallow") (name_text view ∷ on_text on ∷ []) refl (word_by (codes "disallow") refl, (name_word view l, (on_word on, tt)))
-    ∙ rw (name_of-text view l, on_of-text on) refl
+    let j = command_of-joined verb.Disallow (name_text view ∷ on_text on ∷ []) (word_by (codes "disallow") refl, (name_word view l, (on_word on, tt))) in
+    j.command ∙ rw (j.words, name_of-text view l, on_of-text on) refl
 command_of-spelled (plain.Hook view edits bad) b l =
     let reads = hook_reads edits bad b.0 b.1 l.1 l.2 in
-    command_of-joined (codes "hook") (name_text view ∷ edits_words (hook_edits edits bad)) refl (word_by (codes "hook") refl, (name_word view l.0, reads.words))
-    ∙ rw (name_of-text view l.0, reads.value) refl
+    let j = command_of-joined verb.Hook (name_text view ∷ edits_words (hook_edits edits bad)) (word_by (codes "hook") refl, (name_word view l.0, reads.words)) in
+    j.command ∙ rw (j.words, name_of-text view l.0, reads.value) refl
 command_of-spelled (plain.Down p x y) b l =
-    command_of-joined (codes "down") (touch_words p x y) refl (word_by (codes "down") refl, touch_reads_words p x y b)
-    ∙ rw (touch_of-words p x y b) refl
+    let j = command_of-joined verb.Down (touch_words p x y) (word_by (codes "down") refl, touch_reads_words p x y b) in
+    j.command ∙ rw (j.words, touch_of-words p x y b) refl
 command_of-spelled (plain.Move p x y) b l =
-    command_of-joined (codes "move") (touch_words p x y) refl (word_by (codes "move") refl, touch_reads_words p x y b)
-    ∙ rw (touch_of-words p x y b) refl
+    let j = command_of-joined verb.Move (touch_words p x y) (word_by (codes "move") refl, touch_reads_words p x y b) in
+    j.command ∙ rw (j.words, touch_of-words p x y b) refl
 command_of-spelled (plain.Up p) b l =
-    command_of-joined (codes "up") (decimal p ∷ []) refl (word_by (codes "up") refl, (decimal_word p (pointer_short p b), tt))
-    ∙ rw (integer_of-signed (pos p) (pointer_short p b), pointer_of-id p b) refl
-command_of-spelled plain.Cancel b l = command_of-joined (codes "cancel") [] refl (word_by (codes "cancel") refl, tt)
-command_of-spelled plain.Frame b l = command_of-joined (codes "frame") [] refl (word_by (codes "frame") refl, tt)
-command_of-spelled (plain.Bounds None) b l = command_of-joined (codes "bounds") [] refl (word_by (codes "bounds") refl, tt)
+    let j = command_of-joined verb.Up (decimal p ∷ []) (word_by (codes "up") refl, (decimal_word p (pointer_short p b), tt)) in
+    j.command ∙ rw (j.words, integer_of-signed (pos p) (pointer_short p b), pointer_of-id p b) refl
+command_of-spelled plain.Cancel b l =
+    let j = command_of-joined verb.Cancel [] (word_by (codes "cancel") refl, tt) in
+    j.command ∙ rw j.words refl
+command_of-spelled plain.Frame b l =
+    let j = command_of-joined verb.Frame [] (word_by (codes "frame") refl, tt) in
+    j.command ∙ rw j.words refl
+command_of-spelled (plain.Bounds None) b l =
+    let j = command_of-joined verb.Bounds [] (word_by (codes "bounds") refl, tt) in
+    j.command ∙ rw j.words refl
 command_of-spelled (plain.Bounds (Some view)) b l =
-    command_of-joined (codes "bounds") (name_text view ∷ []) refl (word_by (codes "bounds") refl, (name_word view l, tt))
-    ∙ rw (name_of-text view l) refl
+    let j = command_of-joined verb.Bounds (name_text view ∷ []) (word_by (codes "bounds") refl, (name_word view l, tt)) in
+    j.command ∙ rw (j.words, name_of-text view l) refl
 command_of-spelled (plain.Pixels x y w h) b l =
     let short = part_short x y w h b in
-    command_of-joined (codes "pixels") (signed_decimal x ∷ signed_decimal y ∷ signed_decimal w ∷ signed_decimal h ∷ []) refl
-    (word_by (codes "pixels") refl, (signed_word x short.left, (signed_word y short.top, (signed_word w short.right, (signed_word h short.bottom, tt)))))
-    ∙ pixels_of-text x y w h b
-command_of-spelled plain.Digest b l = command_of-joined (codes "digest") [] refl (word_by (codes "digest") refl, tt)
-command_of-spelled plain.Save b l = command_of-joined (codes "save") [] refl (word_by (codes "save") refl, tt)
-command_of-spelled (plain.Restore None) b l = command_of-joined (codes "restore") [] refl (word_by (codes "restore") refl, tt)
+    let j = command_of-joined verb.Pixels (signed_decimal x ∷ signed_decimal y ∷ signed_decimal w ∷ signed_decimal h ∷ [])
+    (word_by (codes "pixels") refl, (signed_word x short.left, (signed_word y short.top, (signed_word w short.right, (signed_word h short.bottom, tt))))) in
+    j.command ∙ rw j.words (pixels_of-text x y w h b)
+command_of-spelled plain.Digest b l =
+    let j = command_of-joined verb.Digest [] (word_by (codes "digest") refl, tt) in
+    j.command ∙ rw j.words refl
+command_of-spelled plain.Save b l =
+    let j = command_of-joined verb.Save [] (word_by (codes "save") refl, tt) in
+    j.command ∙ rw j.words refl
+command_of-spelled (plain.Restore None) b l =
+    let j = command_of-joined verb.Restore [] (word_by (codes "restore") refl, tt) in
+    j.command ∙ rw j.words refl
 command_of-spelled (plain.Restore (Some text)) b l =
-    command_of-joined (codes "restore") (text ∷ []) refl (word_by (codes "restore") refl, (state_word text b, tt)) ∙ rw (state_text_of-text text b) refl
+    let j = command_of-joined verb.Restore (text ∷ []) (word_by (codes "restore") refl, (state_word text b, tt)) in
+    j.command ∙ rw (j.words, state_text_of-text text b) refl

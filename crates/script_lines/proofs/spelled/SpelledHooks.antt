@@ -18,15 +18,17 @@ use Rattle.script_lines.specs.reading.Changes.{IsChangeInBounds}
 use Rattle.script_lines.specs.words.Dimensions.{IsExtent, dimension_of}
 use Rattle.script_lines.specs.reading.Gathered.{joined_after, reading_of}
 use Rattle.script_lines.specs.words.Gravities.{across_of, down_of, gravity_of, with_word, with_words}
-use Rattle.script_lines.specs.reading.Hooks.{asked_of, begins_edit, begins_line, edit_of, edits_of, joined, parts_edits, readings_of, unmade_of}
+use Rattle.script_lines.specs.reading.Hooks.{asked_of, edit_of, edits_of, joined, parts_edits, readings_of, unmade_of}
+use Rattle.script_lines.specs.reading.Verbs.{act_named, change_named, verb_named}
 use Rattle.script_lines.specs.words.Names.{id_of, name_of}
 use Rattle.script_lines.specs.words.Numbers.{integer_of, natural_of}
-use Rattle.script_lines.specs.commands.Spelled.{AskedHasLine, ChangeHasLine, HasText, HasWord, change_head, change_words, edit_words, edits_words, extent_text, gravity_text, hook_edits, insets_words, name_text, unmade_edits}
+use Rattle.script_lines.specs.commands.Spelled.{AskedHasLine, ChangeHasLine, HasText, HasWord, change_head, change_verb_of, change_words, edit_words, edits_words, extent_text, gravity_text, hook_edits, insets_words, name_text, unmade_edits}
 use Rattle.script_lines.specs.declared.commands.Asked.{Asked}
 use Rattle.script_lines.specs.declared.fault.LineFault.{LineFault}
 use Rattle.script_lines.specs.declared.fault.LineFault.TheVariants.{Syntax}
 use Rattle.script_lines.specs.declared.words.naming.Name.{Name}
 use Rattle.script_lines.proofs.readings.HookLaws.{edits_asked, edits_end, edits_start, edits_unmade}
+use Rattle.script_lines.proofs.readings.VerbLaws.{change_named-word}
 use Rattle.script_lines.proofs.spelled.SpelledChanges.{AreShort, change_reads, digits_short, dimension_of-text, gravity_back, padding_short, sides_short, size_short, whole_short}
 use Rattle.script_lines.proofs.spelled.SpelledNames.{name_of-text, name_word}
 use Rattle.script_lines.proofs.spelled.SpelledNumbers.{IsShort, integer_of-signed}
@@ -38,23 +40,13 @@ record EditReads (asked : Asked) : Type 0 where
   value : edit_of (edit_words asked) ≡ Ok (Some asked)
   whole : All (λ word. parts_edits word ≡ false) (edit_words asked)
 
-pub change_begins : (c : Change) → begins_edit (change_head c) ≡ true
-unfolding begins_edit
-change_begins (change.Size width height) = refl
-change_begins (change.Min size) = refl
-change_begins (change.Margins sides) = refl
-change_begins (change.Padding sides) = refl
-change_begins (change.Weight weight) = refl
-change_begins (change.Gravity kids gravity) = refl
-change_begins (change.Background color) = refl
-
-asked_of-words : (asked : Asked) → IsChangeInBounds asked.change → AskedHasLine asked → asked_of (change_head asked.change) (name_text asked.view ∷ change_words asked.change) ≡ Ok asked
+asked_of-words : (asked : Asked) → IsChangeInBounds asked.change → AskedHasLine asked → asked_of (change_verb_of asked.change) (name_text asked.view ∷ change_words asked.change) ≡ Ok asked
 unfolding asked_of
 asked_of-words asked b l = rw (name_of-text asked.view l.0, (change_reads asked.change b l.1).value) refl
 
 edit_of-words : (asked : Asked) → IsChangeInBounds asked.change → AskedHasLine asked → edit_of (edit_words asked) ≡ Ok (Some asked)
 unfolding edit_of
-edit_of-words asked b l = rw (change_begins asked.change, asked_of-words asked b l) refl
+edit_of-words asked b l = rw (change_named-word (change_verb_of asked.change), asked_of-words asked b l) refl
 
 -- words none of which separates edits
 abbrev AreApart : List (List ℕ) → Type 0
@@ -148,7 +140,7 @@ edits_words-words (edit ∷ next ∷ edits) h =
 
 -- an edit that no hook can make
 unmade : (left : ℕ) → reading_of left (codes "frame" ∷ []) ≡ Ok None
-unfolding reading_of edit_of unmade_of begins_edit begins_line
+unfolding reading_of edit_of unmade_of change_named act_named verb_named
 unmade zero = refl
 unmade (suc left) = let some : nat_lt 0 (suc left) ≡ true = grind (arith, nat_tests) in rw some refl
 

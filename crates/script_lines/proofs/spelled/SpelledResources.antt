@@ -8,7 +8,8 @@ use Rattle.std.proofs.lemmas.Bool.Decides.{nat_tests}
 use Rattle.std.proofs.lemmas.Int.{ints}
 use Rattle.std.proofs.lemmas.Str.{IsUtf8-from_is_utf8, is_utf8-from_IsUtf8}
 use Rattle.view_model.specs.Dimensions.{mantissa}
-use Rattle.script_lines.specs.reading.Commands.{command_in, command_of}
+use Rattle.script_lines.specs.reading.Commands.{command_by, command_in, command_of}
+use Rattle.script_lines.specs.declared.verbs.Verb.TheVariants as verb
 use Rattle.script_lines.specs.words.Escapes.{escaped_text_of, rest_of}
 use Rattle.script_lines.specs.words.Numbers.{IsWithin}
 use Rattle.script_lines.specs.commands.PlainCommands.{PlainGiven, Color, Dimen, Text, Res}
@@ -20,6 +21,7 @@ use Rattle.script_lines.specs.declared.words.naming.Name.TheVariants.{Id}
 use Rattle.script_lines.specs.declared.reading.resources.LengthUnit.{LengthUnit}
 use Rattle.script_lines.specs.declared.reading.resources.LengthUnit.TheVariants.{Px, Dp, Sp, Pt, In, Mm}
 use Rattle.script_lines.specs.Numbers.{max_mantissa, min_mantissa}
+use Rattle.script_lines.proofs.readings.VerbLaws.{verb_named-word}
 use Rattle.script_lines.proofs.spelled.SpelledColors.{color_of-text, color_word}
 use Rattle.script_lines.proofs.spelled.SpelledNames.{id_of-text, name_word}
 use Rattle.script_lines.proofs.spelled.SpelledNumbers.{differs, integer_of-signed, short_within, signed_word, within_of-within}
@@ -89,12 +91,12 @@ res_word = word_by (codes "res") refl
 -- the command of a line that gives a resource a value
 joined_resource : (id : ℕ) (kind rest : List ℕ) (value : PlainGiven) → 0 < id → id < 2 ^ 32 → IsWord kind → is_utf8 rest ≡ true → given_by kind (32 ∷ rest) ≡ Ok value
     → command_of (codes "res" ++ 32 ∷ (name_text (Id id) ++ 32 ∷ (kind ++ 32 ∷ rest))) ≡ Ok (Res id value)
-unfolding command_of command_in
+unfolding command_of command_in command_by
 joined_resource id kind rest value some below word utf8 given =
     let more : List ℕ = name_text (Id id) ++ 32 ∷ (kind ++ 32 ∷ rest) in
     let text : is_utf8 (codes "res" ++ 32 ∷ more) ≡ true =
     is_utf8-from_IsUtf8 _ (utf8_before (codes "res") more res_word (utf8_before (name_text (Id id)) _ (name_word (Id id) below) (utf8_before kind rest word (IsUtf8-from_is_utf8 rest utf8)))) in
-    rw (text, words-before (codes "res") more res_word, after_word-before (codes "res") more res_word)
+    rw (text, words-before (codes "res") more res_word, after_word-before (codes "res") more res_word, verb_named-word verb.Res)
     (res_before id (kind ++ 32 ∷ rest) value some below (given_before kind rest word ∙ given))
 
 dimen_back : (id : ℕ) (n : ℤ) (unit : LengthUnit) → 0 < id → id < 2 ^ 32 → IsWithin min_mantissa max_mantissa n

@@ -1,9 +1,9 @@
 -- The words of a text that was made of words.
-use Rattle.std.proofs.Common.{◌≡◌, ℕ, ◌+◌, ◌<◌, Bool, true, false, refl, ap, ◌∙◌, inl, inr, List, [], ◌∷◌, ◌++◌, length, drop, arith}
-use Rattle.std.specs.Prelude.{◌&&◌, ◌||◌, codes, filter, nat_lt}
+use Rattle.std.proofs.Common.{◌≡◌, ℕ, ◌+◌, ◌<◌, true, false, refl, ap, ◌∙◌, inl, inr, List, [], ◌∷◌, ◌++◌, length, drop, arith}
+use Rattle.std.specs.Prelude.{◌&&◌, filter, nat_lt}
 use Rattle.std.specs.Char.{is_ascii_graphic}
 use Rattle.std.specs.List.{All, join_with_byte, list_all, prefix_len, slice_split}
-use Rattle.std.specs.Str.{IsAscii, IsUtf8, bytes_eq, is_utf8}
+use Rattle.std.specs.Str.{IsAscii, IsUtf8, is_utf8}
 use Rattle.std.proofs.Math.Seq.{take-append_seam, drop-append_seam}
 use Rattle.std.proofs.lemmas.Bool.{cases_lt}
 use Rattle.std.proofs.lemmas.Bool.Decides.{nat_tests}
@@ -12,9 +12,12 @@ use Rattle.std.proofs.lemmas.List.Sums.{AllPass-from_list_all}
 use Rattle.std.proofs.lemmas.Str.{IsAscii-append, IsUtf8-append, IsUtf8-from_ascii, is_utf8-from_IsUtf8}
 use Rattle.std.proofs.lemmas.Str.Ascii.{IsAscii-cons, IsAscii-nil}
 use Rattle.script_lines.specs.reading.Commands.{command_by, command_in, command_of}
+use Rattle.script_lines.specs.reading.Verbs.{line_word}
 use Rattle.script_lines.specs.cutting.Lines.{is_space}
 use Rattle.script_lines.specs.words.Words.{after_spaces, after_word, first_word, in_word, is_word, words}
+use Rattle.script_lines.specs.declared.verbs.Verb.{Verb}
 use Rattle.script_lines.proofs.readings.CommandLaws.{and-left, and-right}
+use Rattle.script_lines.proofs.readings.VerbLaws.{verb_named-word}
 use Rattle.script_lines.proofs.texts.WordLaws.{filter_some, one_add, spaces_done, spaces_more, word_space, words_none, words_some}
 
 -- a word of printable ASCII bytes
@@ -73,20 +76,21 @@ after_word-joined head ws h = elim (cases_lt 0 (length (first_word (join_with_by
   | inr none ↦ absurd (cc (words-joined (head ∷ ws) h, words_none (join_with_byte 32 (head ∷ ws)) (omega (arith, none))))
 ]
 
--- the first words of lines in which spaces count
-abbrev pub ends_in_text : List ℕ → Bool
-ends_in_text head = bytes_eq head (codes "res") || bytes_eq head (codes "text")
+-- a text that was made of words: what is read of it
+pub record ReadsWords (line : List ℕ) (verb : Verb) (ws : List (List ℕ)) : Type 0 where
+  pub rest : List ℕ
+  pub words : words rest ≡ ws
+  pub command : command_of line ≡ command_by verb rest
 
-pub neither : (a b : Bool) → (a || b) ≡ false → (a ≡ false) × (b ≡ false)
-neither false b h = (refl, h)
-neither true b h = absurd (cc)
-
--- the command of a text that was made of words, except one in which spaces count
-pub command_of-joined : (head : List ℕ) (ws : List (List ℕ)) → ends_in_text head ≡ false → AreWords (head ∷ ws) → command_of (join_with_byte 32 (head ∷ ws)) ≡ command_by head ws
+pub command_of-joined : (verb : Verb) (ws : List (List ℕ)) → AreWords (line_word verb ∷ ws) → ReadsWords (join_with_byte 32 (line_word verb ∷ ws)) verb ws
 unfolding command_of command_in
-command_of-joined head ws e h =
-    let no = neither (bytes_eq head (codes "res")) (bytes_eq head (codes "text")) e in
-    rw (joined_text (head ∷ ws) h, words-joined (head ∷ ws) h, no.0, no.1, after_word-joined head ws h) refl
+command_of-joined verb ws h =
+    let line = join_with_byte 32 (line_word verb ∷ ws) in
+    record {
+      rest = after_word line;
+      words = after_word-joined (line_word verb) ws h;
+      command = rw (joined_text (line_word verb ∷ ws) h, words-joined (line_word verb ∷ ws) h, verb_named-word verb) refl;
+    }
 
 -- a word before a space
 in_word_first : (word rest : List ℕ) → list_all is_ascii_graphic word ≡ true → prefix_len in_word (word ++ 32 ∷ rest) ≡ length word

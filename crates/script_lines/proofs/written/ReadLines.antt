@@ -1,31 +1,31 @@
 -- The lines of a command, read as that command.
-use Rattle.std.proofs.Common.{◌≡◌, ◌≢◌, ℕ, suc, zero, ◌-◌, ◌<◌, Bool, true, false, refl, ap, sym, ◌∙◌, inl, inr, List, [], ◌∷◌, length, arith}
-use Rattle.std.specs.Prelude.{◌==◌, nat_lt, if◌then◌else◌, ℤ, pos, codes, slice_get, Option, Some, None, Result, Ok, Err}
+use Rattle.std.proofs.Common.{◌≡◌, ℕ, suc, zero, ◌-◌, ◌<◌, Bool, true, false, refl, ap, sym, ◌∙◌, inl, inr, List, [], ◌∷◌, length, arith}
+use Rattle.std.specs.Prelude.{◌==◌, nat_lt, if◌then◌else◌, ℤ, pos, codes, Option, Some, None, Result, Ok, Err}
 use Rattle.std.specs.Fmt.{signed_decimal}
 use Rattle.std.specs.List.{All, filter_map, list_any, slice_split}
-use Rattle.std.specs.Str.{bytes_eq, is_utf8}
+use Rattle.std.specs.Str.{is_utf8}
 use Rattle.std.proofs.lemmas.Bool.{cases_Bool}
 use Rattle.std.proofs.lemmas.Bool.Decides.{nat_tests}
 use Rattle.std.proofs.lemmas.List.Elements.{All-head, All-tail}
-use Rattle.std.proofs.lemmas.Slice.Eq.{bytes_eq-Decides}
 use Rattle.view_model.specs.declared.changes.Act.{Act}
 use Rattle.view_model.specs.declared.changes.Act.TheVariants as act
 use Rattle.view_model.specs.declared.changes.Change.{Change}
 use Rattle.view_model.specs.declared.changes.Change.TheVariants as change
 use Rattle.view_model.specs.Numbers.{max_edits}
-use Rattle.script_lines.specs.reading.Changes.{IsActInBounds, IsChangeInBounds, act_of, change_of, gravity_change_of, new_id_of}
+use Rattle.script_lines.specs.reading.Changes.{IsActInBounds, IsChangeInBounds, act_by, change_by, gravity_change_of, new_id_of}
 use Rattle.script_lines.specs.reading.Commands.{IsInBounds, add_of, bounds_of, command_by, command_in, command_of, digest_of, disallow_of, dpi_of, frame_of, inflate_of, into_of, remove_of, set_of, set_text_of, hook_of}
 use Rattle.script_lines.specs.words.Escapes.{escaped_text_of, has_escapes, rest_of}
-use Rattle.script_lines.specs.reading.Hooks.{asked_in, asked_of, begins_edit, begins_line, edit_of, edit_words, edits_of, is_range, is_syntax, is_unmade, joined, line_words, parts_edits, readings_of, unmade_of}
+use Rattle.script_lines.specs.reading.Hooks.{asked_in, asked_of, edit_of, edits_of, is_range, is_syntax, is_unmade, joined, parts_edits, readings_of, unmade_of}
 use Rattle.script_lines.specs.words.Names.{id_in}
 use Rattle.script_lines.specs.words.Numbers.{IsWithin}
 use Rattle.script_lines.specs.commands.PlainCommands.{PlainCommand, PlainGiven}
 use Rattle.script_lines.specs.commands.PlainCommands as plain
 use Rattle.script_lines.specs.reading.Resources.{IsGivenInBounds, dimen_given, dimen_word, given_by, given_of, res_of, resource_id, unit_number}
 use Rattle.script_lines.specs.reading.Rules.{answer_in, names_sibling, rule_of, rule_value_in}
-use Rattle.script_lines.specs.commands.Spelled.{act_head, change_head, unit_text}
+use Rattle.script_lines.specs.commands.Spelled.{act_head, act_verb_of, change_verb_of, unit_text}
 use Rattle.script_lines.specs.reading.States.{restore_of, save_of}
 use Rattle.script_lines.specs.reading.Touches.{cancel_of, up_of}
+use Rattle.script_lines.specs.reading.Verbs.{change_named, line_word}
 use Rattle.script_lines.specs.words.Words.{after_word, first_word, text_of, words}
 use Rattle.script_lines.specs.commands.Written.{AreActWords, AreChangeWords, AreEditWords, AreEdits, AreUnmadeWords, IsGivenBy, IsHexWord, IsNameWord, IsRuleWord, IsWritten}
 use Rattle.script_lines.specs.declared.commands.Asked.{Asked}
@@ -34,96 +34,74 @@ use Rattle.script_lines.specs.declared.fault.LineFault.{LineFault}
 use Rattle.script_lines.specs.declared.fault.LineFault.TheVariants.{Syntax, Range}
 use Rattle.script_lines.specs.declared.words.naming.Name.{Name}
 use Rattle.script_lines.specs.declared.words.naming.Name.TheVariants.{Number, Id}
+use Rattle.script_lines.specs.declared.verbs.Verb.{Verb}
+use Rattle.script_lines.specs.declared.verbs.Verb.TheVariants as verb
 use Rattle.script_lines.specs.declared.reading.resources.LengthUnit.{LengthUnit}
 use Rattle.script_lines.proofs.written.ReadWords.{actions_of-read, answer_in-read, gravity_of-read, id_of-read, last_color-read, name_of-read, parent_of-read, weight_of-read}
 use Rattle.script_lines.proofs.spelled.SpelledChanges.{change_reads, extents_of-text, kids_of-text}
-use Rattle.script_lines.proofs.spelled.SpelledCommands.{act_no_text, act_of-change, act_reads, class_of-text, command_by-act, dpi_short, on_of-text, pixels_of-text, side_of_window}
-use Rattle.script_lines.proofs.spelled.SpelledHooks.{change_begins}
+use Rattle.script_lines.proofs.spelled.SpelledCommands.{act_reads, class_of-text, dpi_short, on_of-text, pixels_of-text, side_of_window}
 use Rattle.script_lines.proofs.spelled.SpelledNumbers.{differs, integer_of-signed, natural_within-within, pair_of-signed, short_within, within_of-within}
 use Rattle.script_lines.proofs.spelled.SpelledResources.{dimen_word-unit, mantissa-dimen, unit_of-number}
 use Rattle.script_lines.proofs.spelled.SpelledRules.{verb_of-text}
 use Rattle.script_lines.proofs.spelled.SpelledTouches.{pointer_of-id, pointer_short, touch_of-words}
-use Rattle.script_lines.proofs.spelled.SpelledWords.{ends_in_text, neither}
 use Rattle.script_lines.proofs.readings.StateLaws.{state_text_of-text}
+use Rattle.script_lines.proofs.readings.VerbLaws.{change_named-word, no_change, verb_named-word}
 use Rattle.script_lines.proofs.texts.WordLaws.{words_some}
 use Rattle.script_lines.proofs.written.WrittenCommands.{line_begins}
-use Rattle.script_lines.proofs.written.WrittenHooks.{any_place}
 
 -- what a line sets
-change_of-read : (c : Change) (ws : List (List ℕ)) → IsChangeInBounds c → AreChangeWords c ws → change_of (change_head c) ws ≡ Ok c
-unfolding change_of gravity_change_of
-change_of-read (change.Size width height) ws b are = rw are (change_reads (change.Size width height) b tt).value
-change_of-read (change.Min size) ws b are = rw are (change_reads (change.Min size) b tt).value
-change_of-read (change.Margins sides) ws b are = rw are (change_reads (change.Margins sides) b tt).value
-change_of-read (change.Padding sides) ws b are = rw are (change_reads (change.Padding sides) b tt).value
-change_of-read (change.Weight weight) ws b h = rw (weight_of-read weight ws b h) refl
-change_of-read (change.Gravity kids gravity) ws b (word, are, h) = rw (are, kids_of-text kids, gravity_of-read gravity word h) refl
-change_of-read (change.Background color) ws b (word, are, h) = rw (are, last_color-read color word h) refl
+change_by-read : (c : Change) (ws : List (List ℕ)) → IsChangeInBounds c → AreChangeWords c ws → change_by (change_verb_of c) ws ≡ Ok c
+unfolding gravity_change_of
+change_by-read (change.Size width height) ws b are = rw are (change_reads (change.Size width height) b tt).value
+change_by-read (change.Min size) ws b are = rw are (change_reads (change.Min size) b tt).value
+change_by-read (change.Margins sides) ws b are = rw are (change_reads (change.Margins sides) b tt).value
+change_by-read (change.Padding sides) ws b are = rw are (change_reads (change.Padding sides) b tt).value
+change_by-read (change.Weight weight) ws b h = rw (weight_of-read weight ws b h) refl
+change_by-read (change.Gravity kids gravity) ws b (word, are, h) = rw (are, kids_of-text kids, gravity_of-read gravity word h) refl
+change_by-read (change.Background color) ws b (word, are, h) = rw (are, last_color-read color word h) refl
 
 rule_value-read : (sibling : Bool) (value : ℕ) (word : List ℕ) → IsRuleWord sibling value word → (if sibling then id_in (word ∷ []) else answer_in (word ∷ [])) ≡ Ok (value, [])
 rule_value-read true value word h = rw (id_of-read value word h) refl
 rule_value-read false value word (is, below) = rw is (answer_in-read value below)
 
-act_of-read : (a : Act) (ws : List (List ℕ)) → IsActInBounds a → AreActWords a ws → act_of (act_head a) ws ≡ Ok a
-unfolding act_of new_id_of rule_of rule_value_in
-act_of-read (act.Change change) ws b h = act_of-change change ws ∙ rw (change_of-read change ws b h) refl
-act_of-read (act.WeightSum sum) ws b h = rw (weight_of-read sum ws b h) refl
-act_of-read (act.Ink color) ws b (word, are, h) = rw (are, last_color-read color word h) refl
-act_of-read (act.Id id) ws b (word, are, h) = rw (are, id_of-read id word h) refl
-act_of-read (act.Rule verb value) ws b (word, are, h) = rw (are, verb_of-text verb b, rule_value-read (names_sibling verb) value word h) refl
-act_of-read (act.Intercept actions) ws b h = rw (actions_of-read actions ws h) refl
-act_of-read (act.Orient vertical) ws b are = rw are (act_reads (act.Orient vertical) b tt).value
-act_of-read (act.Flag flag on) ws b are = rw are (act_reads (act.Flag flag on) b tt).value
-act_of-read (act.Visible visibility) ws b are = rw are (act_reads (act.Visible visibility) b tt).value
-act_of-read (act.Answer answer) ws b are = rw are (act_reads (act.Answer answer) b tt).value
-act_of-read (act.Scroll offset) ws b are = rw are (act_reads (act.Scroll offset) b tt).value
-act_of-read (act.Direction direction) ws b are = rw are (act_reads (act.Direction direction) b tt).value
+act_by-read : (a : Act) (ws : List (List ℕ)) → IsActInBounds a → AreActWords a ws → act_by (act_verb_of a) ws ≡ Ok a
+unfolding new_id_of rule_of rule_value_in
+act_by-read (act.Change change) ws b h = rw (change_by-read change ws b h) refl
+act_by-read (act.WeightSum sum) ws b h = rw (weight_of-read sum ws b h) refl
+act_by-read (act.Ink color) ws b (word, are, h) = rw (are, last_color-read color word h) refl
+act_by-read (act.Id id) ws b (word, are, h) = rw (are, id_of-read id word h) refl
+act_by-read (act.Rule verb value) ws b (word, are, h) = rw (are, verb_of-text verb b, rule_value-read (names_sibling verb) value word h) refl
+act_by-read (act.Intercept actions) ws b h = rw (actions_of-read actions ws h) refl
+act_by-read (act.Orient vertical) ws b are = rw are (act_reads (act.Orient vertical) b tt).value
+act_by-read (act.Flag flag on) ws b are = rw are (act_reads (act.Flag flag on) b tt).value
+act_by-read (act.Visible visibility) ws b are = rw are (act_reads (act.Visible visibility) b tt).value
+act_by-read (act.Answer answer) ws b are = rw are (act_reads (act.Answer answer) b tt).value
+act_by-read (act.Scroll offset) ws b are = rw are (act_reads (act.Scroll offset) b tt).value
+act_by-read (act.Direction direction) ws b are = rw are (act_reads (act.Direction direction) b tt).value
 
 -- edits of hooks
-place_any : (names : List (List ℕ)) (k : ℕ) (word : List ℕ) → slice_get names k ≡ Some word → list_any (λ name. bytes_eq name word) names ≡ true
-place_any [] zero word h = absurd (cc)
-place_any [] (suc k) word h = absurd (cc)
-place_any (name ∷ names) zero word h =
-    let same : name ≡ word = cc in
-    let t : bytes_eq name word ≡ true = (bytes_eq-Decides name word).1 same in
-    rw t refl
-place_any (name ∷ names) (suc k) word h = elim (cases_Bool (bytes_eq name word)) [
-  | inl same ↦ rw same refl
-  | inr other ↦ rw other (place_any names k word h)
-]
-
-begins_line-place : (k : ℕ) (word : List ℕ) → slice_get line_words k ≡ Some word → begins_line word ≡ true
-unfolding begins_line
-begins_line-place k word h = place_any line_words k word h
-
-begins_edit-none : (word : List ℕ) → ((k : ℕ) → slice_get edit_words k ≢ Some word) → begins_edit word ≡ false
-unfolding begins_edit
-begins_edit-none word h = elim (cases_Bool (list_any (λ name. bytes_eq name word) edit_words)) [
-  | inl is ↦ absurd (let place = any_place edit_words word is in h place.0 place.1)
-  | inr none ↦ none
-]
-
 unmade_of-read : (left : ℕ) (part : List (List ℕ)) → AreUnmadeWords left part → unmade_of part ≡ Ok None
 unfolding unmade_of
-unmade_of-read left part h = rw (h.are, begins_line-place h.place h.head h.known) refl
+unmade_of-read left part h = rw (h.are, verb_named-word h.verb) refl
 
-edit_of-unmade : (head : List ℕ) (rest : List (List ℕ)) → begins_edit head ≡ false → unmade_of (head ∷ rest) ≡ Ok None → edit_of (head ∷ rest) ≡ Ok None
+edit_of-unmade : (head : List ℕ) (rest : List (List ℕ)) → change_named head ≡ None → unmade_of (head ∷ rest) ≡ Ok None → edit_of (head ∷ rest) ≡ Ok None
 unfolding edit_of
 edit_of-unmade head rest none h = rw none h
 
 edit_of-none : (left : ℕ) (part : List (List ℕ)) → AreUnmadeWords (suc left) part → edit_of part ≡ Ok None
 edit_of-none left part h =
-    let none : begins_edit h.head ≡ false = elim h.unmade [ inl full ↦ absurd (omega (arith, full)) | inr others ↦ begins_edit-none h.head others ] in
-    ap edit_of h.are ∙ edit_of-unmade h.head h.rest none (ap unmade_of (sym h.are) ∙ unmade_of-read (suc left) part h)
+    let head = line_word h.verb in
+    let none : change_named head ≡ None = elim h.unmade [ inl full ↦ absurd (omega (arith, full)) | inr others ↦ no_change head others (change_named head) refl ] in
+    ap edit_of h.are ∙ edit_of-unmade head h.rest none (ap unmade_of (sym h.are) ∙ unmade_of-read (suc left) part h)
 
 asked_of-read : (asked : Asked) (view : List ℕ) (rest : List (List ℕ)) → IsChangeInBounds asked.change → IsNameWord asked.view view → AreChangeWords asked.change rest
-    → asked_of (change_head asked.change) (view ∷ rest) ≡ Ok asked
+    → asked_of (change_verb_of asked.change) (view ∷ rest) ≡ Ok asked
 unfolding asked_of
-asked_of-read asked view rest b name h = rw (name_of-read asked.view view name, change_of-read asked.change rest b h) refl
+asked_of-read asked view rest b name h = rw (name_of-read asked.view view name, change_by-read asked.change rest b h) refl
 
 edit_of-read : (asked : Asked) (part : List (List ℕ)) → IsChangeInBounds asked.change → AreEditWords asked part → edit_of part ≡ Ok (Some asked)
 unfolding edit_of
-edit_of-read asked part b h = rw (h.are, change_begins asked.change, asked_of-read asked h.view h.rest b h.name h.change) refl
+edit_of-read asked part b h = rw (h.are, change_named-word (change_verb_of asked.change), asked_of-read asked h.view h.rest b h.name h.change) refl
 
 module _ (rest : List (Result (Option Asked) LineFault)) (more : List Asked) (bad : Bool) where
   record AreJoined : Type 0 where
@@ -239,51 +217,39 @@ res_of-read rest id value some b name h =
     let other : (id == 0) ≡ false = differs id 0 (λ e. omega (arith, e, some)) in
     rw (begins_with-word rest (first_word rest) refl (name_some (Id id) (first_word rest) name), id_of-read id (first_word rest) name, given_of-read value (after_word rest) b h, other) refl
 
--- a line whose words are read one by one
-read_line : (line head : List ℕ) (ws : List (List ℕ)) → is_utf8 line ≡ true → ends_in_text head ≡ false → words line ≡ head ∷ ws → command_of line ≡ command_by head ws
+-- a line by its first word
+read_line : (line : List ℕ) (verb : Verb) (ws : List (List ℕ)) → is_utf8 line ≡ true → words line ≡ line_word verb ∷ ws → command_of line ≡ command_by verb (after_word line)
 unfolding command_of command_in
-read_line line head ws utf8 e all =
-    let rest = words_after line head ws all in
-    let none = neither (bytes_eq head (codes "res")) (bytes_eq head (codes "text")) e in
-    rw (utf8, all, none.0, none.1, rest) refl
-
--- and one that ends in a text
-text_line : (line : List ℕ) → is_utf8 line ≡ true → first_word line ≡ codes "text" → command_of line ≡ set_text_of (after_word line)
-unfolding command_of command_in
-text_line line utf8 first = rw (utf8, begins_with-word line (codes "text") first (omega arith)) refl
-
-res_line : (line : List ℕ) → is_utf8 line ≡ true → first_word line ≡ codes "res" → command_of line ≡ res_of (after_word line)
-unfolding command_of command_in
-res_line line utf8 first = rw (utf8, begins_with-word line (codes "res") first (omega arith)) refl
+read_line line verb ws utf8 all = rw (utf8, all, verb_named-word verb) refl
 
 -- Each line that gives a command is read as it.
 pub command_of-given : (c : PlainCommand) (line : List ℕ) → is_utf8 line ≡ true → IsInBounds c → IsWritten c line → command_of line ≡ Ok c
 unfolding command_by dpi_of inflate_of into_of add_of remove_of disallow_of up_of cancel_of frame_of bounds_of digest_of hook_of save_of restore_of set_of
 command_of-given (plain.Window w h) line utf8 b (ws, all, are) =
-    read_line line (codes "window") ws utf8 refl all ∙ rw (are, pair_of-signed (pos 1) max_window w h (side_of_window w b.0) (side_of_window h b.1) b.0 b.1) refl
+    read_line line verb.Window ws utf8 all ∙ rw (words_after line (codes "window") ws all, are, pair_of-signed (pos 1) max_window w h (side_of_window w b.0) (side_of_window h b.1) b.0 b.1) refl
 command_of-given (plain.Dpi dpi) line utf8 b (ws, all, are) =
-    read_line line (codes "dpi") ws utf8 refl all ∙ rw (are, integer_of-signed (pos dpi) (dpi_short dpi b.1), natural_within-within min_dpi max_dpi dpi b.0 b.1) refl
-command_of-given (plain.Res id value) line utf8 b (first, name, given) = res_line line utf8 first ∙ res_of-read (after_word line) id value b.0 b.1 name given
-command_of-given (plain.Inflate name None) line utf8 b (ws, all, are) = read_line line (codes "inflate") ws utf8 refl all ∙ rw (are, b) refl
-command_of-given (plain.Inflate name (Some view)) line utf8 b (ws, all, (word, are, h)) = read_line line (codes "inflate") ws utf8 refl all ∙ rw (are, b, name_of-read view word h) refl
+    read_line line verb.Dpi ws utf8 all ∙ rw (words_after line (codes "dpi") ws all, are, integer_of-signed (pos dpi) (dpi_short dpi b.1), natural_within-within min_dpi max_dpi dpi b.0 b.1) refl
+command_of-given (plain.Res id value) line utf8 b (first, name, given) = read_line line verb.Res (words (after_word line)) utf8 (begins_with-word line (codes "res") first (omega arith)) ∙ res_of-read (after_word line) id value b.0 b.1 name given
+command_of-given (plain.Inflate name None) line utf8 b (ws, all, are) = read_line line verb.Inflate ws utf8 all ∙ rw (words_after line (codes "inflate") ws all, are, b) refl
+command_of-given (plain.Inflate name (Some view)) line utf8 b (ws, all, (word, are, h)) = read_line line verb.Inflate ws utf8 all ∙ rw (words_after line (codes "inflate") ws all, are, b, name_of-read view word h) refl
 command_of-given (plain.Add parent class width height) line utf8 b (ws, all, (word, are, h)) =
-    read_line line (codes "add") ws utf8 refl all ∙ rw (are, parent_of-read parent word h, class_of-text class, extents_of-text width height b.0 b.1) refl
-command_of-given (plain.Remove view) line utf8 b (ws, all, (word, are, h)) = read_line line (codes "remove") ws utf8 refl all ∙ rw (are, name_of-read view word h) refl
+    read_line line verb.Add ws utf8 all ∙ rw (words_after line (codes "add") ws all, are, parent_of-read parent word h, class_of-text class, extents_of-text width height b.0 b.1) refl
+command_of-given (plain.Remove view) line utf8 b (ws, all, (word, are, h)) = read_line line verb.Remove ws utf8 all ∙ rw (words_after line (codes "remove") ws all, are, name_of-read view word h) refl
 command_of-given (plain.Act view act) line utf8 b (ws, all, (word, rest, are, h, acts)) =
-    read_line line (act_head act) ws utf8 (act_no_text act) all ∙ command_by-act act ws ∙ rw (are, name_of-read view word h, act_of-read act rest b acts) refl
-command_of-given (plain.SetText view text) line utf8 b (first, name, are, valid) = text_line line utf8 first ∙ set_text-read (after_word line) view text name are b valid
-command_of-given (plain.Disallow view on) line utf8 b (ws, all, (word, are, h)) = read_line line (codes "disallow") ws utf8 refl all ∙ rw (are, name_of-read view word h, on_of-text on) refl
+    read_line line (verb.Act (act_verb_of act)) ws utf8 all ∙ rw (words_after line (act_head act) ws all, are, name_of-read view word h, act_by-read act rest b acts) refl
+command_of-given (plain.SetText view text) line utf8 b (first, name, are, valid) = read_line line verb.Text (words (after_word line)) utf8 (begins_with-word line (codes "text") first (omega arith)) ∙ set_text-read (after_word line) view text name are b valid
+command_of-given (plain.Disallow view on) line utf8 b (ws, all, (word, are, h)) = read_line line verb.Disallow ws utf8 all ∙ rw (words_after line (codes "disallow") ws all, are, name_of-read view word h, on_of-text on) refl
 command_of-given (plain.Hook view edits bad) line utf8 b (ws, all, (word, rest, are, h, e)) =
-    read_line line (codes "hook") ws utf8 refl all ∙ rw (are, name_of-read view word h, edits_of-read rest edits bad b.1 e) refl
-command_of-given (plain.Down p x y) line utf8 b (ws, all, are) = read_line line (codes "down") ws utf8 refl all ∙ rw (are, touch_of-words p x y b) refl
-command_of-given (plain.Move p x y) line utf8 b (ws, all, are) = read_line line (codes "move") ws utf8 refl all ∙ rw (are, touch_of-words p x y b) refl
-command_of-given (plain.Up p) line utf8 b (ws, all, are) = read_line line (codes "up") ws utf8 refl all ∙ rw (are, integer_of-signed (pos p) (pointer_short p b), pointer_of-id p b) refl
-command_of-given plain.Cancel line utf8 b (ws, all, are) = read_line line (codes "cancel") ws utf8 refl all ∙ rw are refl
-command_of-given plain.Frame line utf8 b (ws, all, are) = read_line line (codes "frame") ws utf8 refl all ∙ rw are refl
-command_of-given (plain.Bounds None) line utf8 b (ws, all, are) = read_line line (codes "bounds") ws utf8 refl all ∙ rw are refl
-command_of-given (plain.Bounds (Some view)) line utf8 b (ws, all, (word, are, h)) = read_line line (codes "bounds") ws utf8 refl all ∙ rw (are, name_of-read view word h) refl
-command_of-given (plain.Pixels x y w h) line utf8 b (ws, all, are) = read_line line (codes "pixels") ws utf8 refl all ∙ rw are (pixels_of-text x y w h b)
-command_of-given plain.Digest line utf8 b (ws, all, are) = read_line line (codes "digest") ws utf8 refl all ∙ rw are refl
-command_of-given plain.Save line utf8 b (ws, all, are) = read_line line (codes "save") ws utf8 refl all ∙ rw are refl
-command_of-given (plain.Restore None) line utf8 b (ws, all, are) = read_line line (codes "restore") ws utf8 refl all ∙ rw are refl
-command_of-given (plain.Restore (Some text)) line utf8 b (ws, all, are) = read_line line (codes "restore") ws utf8 refl all ∙ rw (are, state_text_of-text text b) refl
+    read_line line verb.Hook ws utf8 all ∙ rw (words_after line (codes "hook") ws all, are, name_of-read view word h, edits_of-read rest edits bad b.1 e) refl
+command_of-given (plain.Down p x y) line utf8 b (ws, all, are) = read_line line verb.Down ws utf8 all ∙ rw (words_after line (codes "down") ws all, are, touch_of-words p x y b) refl
+command_of-given (plain.Move p x y) line utf8 b (ws, all, are) = read_line line verb.Move ws utf8 all ∙ rw (words_after line (codes "move") ws all, are, touch_of-words p x y b) refl
+command_of-given (plain.Up p) line utf8 b (ws, all, are) = read_line line verb.Up ws utf8 all ∙ rw (words_after line (codes "up") ws all, are, integer_of-signed (pos p) (pointer_short p b), pointer_of-id p b) refl
+command_of-given plain.Cancel line utf8 b (ws, all, are) = read_line line verb.Cancel ws utf8 all ∙ rw (words_after line (codes "cancel") ws all, are) refl
+command_of-given plain.Frame line utf8 b (ws, all, are) = read_line line verb.Frame ws utf8 all ∙ rw (words_after line (codes "frame") ws all, are) refl
+command_of-given (plain.Bounds None) line utf8 b (ws, all, are) = read_line line verb.Bounds ws utf8 all ∙ rw (words_after line (codes "bounds") ws all, are) refl
+command_of-given (plain.Bounds (Some view)) line utf8 b (ws, all, (word, are, h)) = read_line line verb.Bounds ws utf8 all ∙ rw (words_after line (codes "bounds") ws all, are, name_of-read view word h) refl
+command_of-given (plain.Pixels x y w h) line utf8 b (ws, all, are) = read_line line verb.Pixels ws utf8 all ∙ rw (words_after line (codes "pixels") ws all, are) (pixels_of-text x y w h b)
+command_of-given plain.Digest line utf8 b (ws, all, are) = read_line line verb.Digest ws utf8 all ∙ rw (words_after line (codes "digest") ws all, are) refl
+command_of-given plain.Save line utf8 b (ws, all, are) = read_line line verb.Save ws utf8 all ∙ rw (words_after line (codes "save") ws all, are) refl
+command_of-given (plain.Restore None) line utf8 b (ws, all, are) = read_line line verb.Restore ws utf8 all ∙ rw (words_after line (codes "restore") ws all, are) refl
+command_of-given (plain.Restore (Some text)) line utf8 b (ws, all, are) = read_line line verb.Restore ws utf8 all ∙ rw (words_after line (codes "restore") ws all, are, state_text_of-text text b) refl

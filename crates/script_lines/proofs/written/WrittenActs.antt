@@ -20,20 +20,25 @@ use Rattle.view_model.specs.declared.placing.Across.{Across}
 use Rattle.view_model.specs.declared.placing.Down.{Down}
 use Rattle.view_model.specs.declared.placing.Gravity.{Gravity}
 use Rattle.script_lines.specs.reading.Actions.{action_of, actions_of, with_actions}
-use Rattle.script_lines.specs.reading.Changes.{act_of, answer_named, answer_of, change_of, direction_named, direction_of, flag_named, flag_of, gravity_change_of, insets_of, kids_of, new_id_of, orient_of, scroll_of, sides_of, vertical_of, visibility_of, visible_of}
+use Rattle.script_lines.specs.reading.Changes.{act_by, answer_named, answer_of, change_by, direction_named, direction_of, flag_named, flag_of, gravity_change_of, insets_of, kids_of, new_id_of, orient_of, scroll_of, sides_of, vertical_of, visibility_of, visible_of}
 use Rattle.script_lines.specs.words.Colors.{last_color}
 use Rattle.script_lines.specs.words.Dimensions.{dimension_in, dimension_of, extent_of, extents_of}
 use Rattle.script_lines.specs.words.Gravities.{across_of, bare_gravity, down_of, gravity_of, is_bar, is_place, is_set_across, is_set_down, one_across, one_down, with_word, with_words, word_step}
 use Rattle.script_lines.specs.words.Names.{id_in}
 use Rattle.script_lines.specs.words.Numbers.{IsWithin, integer_in, integer_of, natural_within, pair_of, within_of}
 use Rattle.script_lines.specs.reading.Rules.{answer_in, names_sibling, rule_of, rule_value_in, verb_of}
+use Rattle.script_lines.specs.reading.Verbs.{act_word, change_word}
 use Rattle.script_lines.specs.commands.Spelled.{act_head, action_words, change_head, direction_text, event_answer_text, extent_text, flag_text, insets_words, on_text, verb_text, visibility_text}
 use Rattle.script_lines.specs.words.Weights.{last_number, weight_of}
-use Rattle.script_lines.specs.words.Words.{◌>>=◌, end_of, on_of, word_in}
+use Rattle.script_lines.specs.words.Words.{◌>>=◌, end_of, map_ok, on_of, word_in}
 use Rattle.script_lines.specs.commands.Written.{AreActWords, AreActions, AreChangeWords, AreInterceptWords, AreWeightWords, IsColorWord, IsGravityWord, IsHexWord, IsPlaceWord, IsRuleWord, PlaceWord, place_word, place_words}
 use Rattle.script_lines.specs.declared.reading.changes.Sides.{Sides}
 use Rattle.script_lines.specs.declared.words.dimension.Dimension.{Dimension}
 use Rattle.script_lines.specs.declared.words.dimension.Dimension.TheVariants.{Pixels}
+use Rattle.script_lines.specs.declared.verbs.ActVerb.{ActVerb}
+use Rattle.script_lines.specs.declared.verbs.ActVerb.TheVariants as act_verb
+use Rattle.script_lines.specs.declared.verbs.ChangeVerb.{ChangeVerb}
+use Rattle.script_lines.specs.declared.verbs.ChangeVerb.TheVariants as change_verb
 use Rattle.script_lines.specs.declared.fault.LineFault.{LineFault}
 use Rattle.script_lines.specs.Numbers.{max_parts, max_whole}
 use Rattle.script_lines.proofs.texts.BarLaws.{after_fault}
@@ -353,20 +358,22 @@ gravity_change_of-written ws =
     if_then_with (λ (gravity : Gravity). IsGravityWord gravity g.0) P (gravity_of g.0) _ (gravity_of-written g.0) (λ gravity h.
     if_then_with (λ _. g.1 ≡ []) P (end_of g.1) _ (end_of-written g.1) (λ _ end. (refl, (g.0, are ∙ rw (is, more, end) refl, h)))))))
 
-pub change_of-written : (head : List ℕ) (ws : List (List ℕ)) → IfOk (change_of head ws) (AreChange head ws)
-unfolding change_of
-change_of-written head ws =
-    let P = AreChange head ws in
-    let sides = λ (low : ℤ) (make : Insets → Change) (each : (insets : Insets) → ws ≡ insets_words insets → P (make insets)).
+sides-written : (ws : List (List ℕ)) (low : ℤ) (P : Change → Type 0) (make : Insets → Change) → ((insets : Insets) → ws ≡ insets_words insets → P (make insets)) → IfOk (sides_of ws >>= λ sides. map_ok make (insets_of low sides)) P
+sides-written ws low P make each =
     if_then_with (λ (sides : Sides). ws ≡ signed_decimal sides.left ∷ signed_decimal sides.top ∷ signed_decimal sides.right ∷ signed_decimal sides.bottom ∷ []) P (sides_of ws) _ (sides_of-written ws)
-    (λ sides are. if_map_with (λ insets. ws ≡ insets_words insets) P make (insets_of low sides) (insets_words-written low ws sides are) each) in
-    if_word P head (codes "size") _ _ (λ e. if_map_with (λ (extents : ℤ × ℤ). ws ≡ extent_text extents.0 ∷ extent_text extents.1 ∷ []) P _ (extents_of ws) (extents_of-written ws) (λ extents h. (e, h)))
-    (if_word P head (codes "min") _ _ (λ e. if_map_with (λ (pair : ℤ × ℤ). ws ≡ signed_decimal pair.0 ∷ signed_decimal pair.1 ∷ []) P _ (pair_of (pos 0) max_size ws) (pair_of-written (pos 0) max_size ws) (λ pair h. (e, h)))
-    (if_word P head (codes "margins") _ _ (λ e. sides min_margin change.Margins (λ insets h. (e, h)))
-    (if_word P head (codes "padding") _ _ (λ e. sides (pos 0) change.Padding (λ insets h. (e, h)))
-    (if_word P head (codes "weight") _ _ (λ e. if_map_with (λ weight. AreWeightWords weight ws) P change.Weight (weight_of ws) (weight_of-written ws) (λ weight h. (e, h)))
-    (if_word P head (codes "gravity") _ _ (λ e. if_ok_more (AreChange (codes "gravity") ws) P (gravity_change_of ws) (gravity_change_of-written ws) (λ change h. (e ∙ h.0, h.1)))
-    (if_word P head (codes "bg") _ _ (λ e. if_map_with (λ color. FirstWord (IsColorWord color) ws []) P change.Background (last_color ws) (last_color-written ws) (λ color h. (e, (h.word, h.are, h.fits)))) tt))))))
+    (λ sides are. if_map_with (λ insets. ws ≡ insets_words insets) P make (insets_of low sides) (insets_words-written low ws sides are) each)
+
+pub change_by-written : (verb : ChangeVerb) (ws : List (List ℕ)) → IfOk (change_by verb ws) (AreChange (change_word verb) ws)
+change_by-written change_verb.Size ws =
+    if_map_with (λ (extents : ℤ × ℤ). ws ≡ extent_text extents.0 ∷ extent_text extents.1 ∷ []) (AreChange (codes "size") ws) _ (extents_of ws) (extents_of-written ws) (λ extents h. (refl, h))
+change_by-written change_verb.Min ws =
+    if_map_with (λ (pair : ℤ × ℤ). ws ≡ signed_decimal pair.0 ∷ signed_decimal pair.1 ∷ []) (AreChange (codes "min") ws) _ (pair_of (pos 0) max_size ws) (pair_of-written (pos 0) max_size ws) (λ pair h. (refl, h))
+change_by-written change_verb.Margins ws = sides-written ws min_margin (AreChange (codes "margins") ws) change.Margins (λ insets h. (refl, h))
+change_by-written change_verb.Padding ws = sides-written ws (pos 0) (AreChange (codes "padding") ws) change.Padding (λ insets h. (refl, h))
+change_by-written change_verb.Weight ws = if_map_with (λ weight. AreWeightWords weight ws) (AreChange (codes "weight") ws) change.Weight (weight_of ws) (weight_of-written ws) (λ weight h. (refl, h))
+change_by-written change_verb.Gravity ws = gravity_change_of-written ws
+change_by-written change_verb.Background ws =
+    if_map_with (λ color. FirstWord (IsColorWord color) ws []) (AreChange (codes "bg") ws) change.Background (last_color ws) (last_color-written ws) (λ color h. (refl, (h.word, h.are, h.fits)))
 
 -- one word of a table
 last_word : {A : Type 0} (Q : A → List ℕ → Type 0) (P : Act → Type 0) (read : List ℕ → Result A LineFault) (make : A → Act) (ws : List (List ℕ)) → ((word : List ℕ) → IfOk (read word) (λ a. Q a word))
@@ -402,20 +409,18 @@ new_id_of-written ws =
     if_then_with (λ (r : ℕ × List (List ℕ)). FirstWord (IsHexWord 64 r.0) ws r.1) P (id_in ws) _ (id_in-written ws) (λ id h.
     if_then_with (λ _. id.1 ≡ []) P (end_of id.1) _ (end_of-written id.1) (λ _ end. (refl, (h.word, h.are ∙ ap (λ more. h.word ∷ more) end, h.fits))))
 
-pub act_of-written : (head : List ℕ) (ws : List (List ℕ)) → IfOk (act_of head ws) (AreAct head ws)
-unfolding act_of visible_of orient_of direction_of answer_of
-act_of-written head ws =
-    let P = AreAct head ws in
-    let under = λ (name : List ℕ) (r : Result Act LineFault) (h : IfOk r (AreAct name ws)) (e : head ≡ name). if_ok_more (AreAct name ws) P r h (λ act h. (e ∙ h.0, h.1)) in
-    if_word P head (codes "visible") _ _ (λ e. last_word (λ a word. word ≡ visibility_text a) P visibility_of act.Visible ws visibility_of-written (λ a word is are. (e, are ∙ ap (λ word. word ∷ []) is)))
-    (if_word P head (codes "id") _ _ (under (codes "id") (new_id_of ws) (new_id_of-written ws))
-    (if_word P head (codes "weightsum") _ _ (λ e. if_map_with (λ weight. AreWeightWords weight ws) P act.WeightSum (weight_of ws) (weight_of-written ws) (λ weight h. (e, h)))
-    (if_word P head (codes "orient") _ _ (λ e. last_word (λ a word. word ≡ (if a then codes "vertical" else codes "horizontal")) P vertical_of act.Orient ws vertical_of-written (λ a word is are. (e, are ∙ ap (λ word. word ∷ []) is)))
-    (if_word P head (codes "flag") _ _ (under (codes "flag") (flag_of ws) (flag_of-written ws))
-    (if_word P head (codes "direction") _ _ (λ e. last_word (λ a word. word ≡ direction_text a) P direction_named act.Direction ws direction_named-written (λ a word is are. (e, are ∙ ap (λ word. word ∷ []) is)))
-    (if_word P head (codes "scroll") _ _ (under (codes "scroll") (scroll_of ws) (scroll_of-written ws))
-    (if_word P head (codes "rule") _ _ (under (codes "rule") (rule_of ws) (rule_of-written ws))
-    (if_word P head (codes "ink") _ _ (λ e. if_map_with (λ color. FirstWord (IsColorWord color) ws []) P act.Ink (last_color ws) (last_color-written ws) (λ color h. (e, (h.word, h.are, h.fits))))
-    (if_word P head (codes "answer") _ _ (λ e. last_word (λ a word. word ≡ event_answer_text a) P answer_named act.Answer ws answer_named-written (λ a word is are. (e, are ∙ ap (λ word. word ∷ []) is)))
-    (if_word P head (codes "intercept") _ _ (λ e. if_map_with (λ actions. AreInterceptWords actions ws) P act.Intercept (actions_of ws) (actions_of-written ws) (λ actions h. (e, h)))
-    (if_map_with (AreChange head ws) P act.Change (change_of head ws) (change_of-written head ws) (λ change h. (h.0, h.1)))))))))))))
+pub act_by-written : (verb : ActVerb) (ws : List (List ℕ)) → IfOk (act_by verb ws) (AreAct (act_word verb) ws)
+unfolding visible_of orient_of direction_of answer_of
+act_by-written (act_verb.Change verb) ws = if_map_with (AreChange (change_word verb) ws) (AreAct (change_word verb) ws) act.Change (change_by verb ws) (change_by-written verb ws) (λ change h. (h.0, h.1))
+act_by-written act_verb.WeightSum ws = if_map_with (λ weight. AreWeightWords weight ws) (AreAct (codes "weightsum") ws) act.WeightSum (weight_of ws) (weight_of-written ws) (λ weight h. (refl, h))
+act_by-written act_verb.Orient ws =
+    last_word (λ a word. word ≡ (if a then codes "vertical" else codes "horizontal")) (AreAct (codes "orient") ws) vertical_of act.Orient ws vertical_of-written (λ a word is are. (refl, are ∙ ap (λ word. word ∷ []) is))
+act_by-written act_verb.Direction ws = last_word (λ a word. word ≡ direction_text a) (AreAct (codes "direction") ws) direction_named act.Direction ws direction_named-written (λ a word is are. (refl, are ∙ ap (λ word. word ∷ []) is))
+act_by-written act_verb.Flag ws = flag_of-written ws
+act_by-written act_verb.Visible ws = last_word (λ a word. word ≡ visibility_text a) (AreAct (codes "visible") ws) visibility_of act.Visible ws visibility_of-written (λ a word is are. (refl, are ∙ ap (λ word. word ∷ []) is))
+act_by-written act_verb.Ink ws = if_map_with (λ color. FirstWord (IsColorWord color) ws []) (AreAct (codes "ink") ws) act.Ink (last_color ws) (last_color-written ws) (λ color h. (refl, (h.word, h.are, h.fits)))
+act_by-written act_verb.Id ws = new_id_of-written ws
+act_by-written act_verb.Rule ws = rule_of-written ws
+act_by-written act_verb.Answer ws = last_word (λ a word. word ≡ event_answer_text a) (AreAct (codes "answer") ws) answer_named act.Answer ws answer_named-written (λ a word is are. (refl, are ∙ ap (λ word. word ∷ []) is))
+act_by-written act_verb.Intercept ws = if_map_with (λ actions. AreInterceptWords actions ws) (AreAct (codes "intercept") ws) act.Intercept (actions_of ws) (actions_of-written ws) (λ actions h. (refl, h))
+act_by-written act_verb.Scroll ws = scroll_of-written ws

@@ -8,14 +8,14 @@ use Rattle.std.proofs.lemmas.Bool.{cases_Bool, cases_lt}
 use Rattle.std.proofs.lemmas.Bool.Decides.{nat_tests}
 use Rattle.view_model.specs.declared.changes.Act.{Act}
 use Rattle.view_model.specs.Numbers.{max_edits}
-use Rattle.script_lines.specs.reading.Changes.{act_of}
+use Rattle.script_lines.specs.reading.Changes.{act_by}
 use Rattle.script_lines.specs.words.Colors.{last_color}
-use Rattle.script_lines.specs.reading.Commands.{add_of, bounds_of, class_of, command_by, command_in, command_of, digest_of, disallow_of, dpi_of, frame_of, inflate_of, into_of, keep_by, remove_of, set_of, set_text_of, touch_by, hook_of}
+use Rattle.script_lines.specs.reading.Commands.{add_of, bounds_of, class_of, command_by, command_in, command_of, digest_of, disallow_of, dpi_of, frame_of, inflate_of, into_of, remove_of, set_of, set_text_of, hook_of}
 use Rattle.script_lines.specs.words.Dimensions.{extents_of}
 use Rattle.script_lines.specs.words.Escapes.{escaped_text_of, has_escapes, rest_of}
 use Rattle.script_lines.specs.words.FileNames.{file_name_in}
 use Rattle.script_lines.specs.reading.Hooks.{edits_of, parts_edits}
-use Rattle.script_lines.specs.words.Names.{id_in, name_in, parent_in}
+use Rattle.script_lines.specs.words.Names.{id_in, known, name_in, parent_in}
 use Rattle.script_lines.specs.words.Numbers.{IsWithin, integer_in, natural_within, pair_of, within_of}
 use Rattle.script_lines.specs.reading.Pixels.{is_small, part_of, pixels_of}
 use Rattle.script_lines.specs.commands.PlainCommands.{PlainCommand, PlainGiven}
@@ -24,6 +24,7 @@ use Rattle.script_lines.specs.reading.Resources.{dimen_given, given_by, given_of
 use Rattle.script_lines.specs.commands.Spelled.{class_text, extent_text, on_text, touch_words, unit_text}
 use Rattle.script_lines.specs.reading.States.{is_state_text, restore_of, save_of, state_text_of}
 use Rattle.script_lines.specs.reading.Touches.{cancel_of, pointer_of, touch_of, up_of}
+use Rattle.script_lines.specs.reading.Verbs.{act_word, line_word, verb_named}
 use Rattle.script_lines.specs.words.Words.{◌>>=◌, after_spaces, after_word, end_of, first_word, in_word, literal_in, on_of, text_of, word_in, words}
 use Rattle.script_lines.specs.commands.Written.{AreEdits, IsColorWord, IsGivenBy, IsHexWord, IsNameWord, IsParentWord, IsWritten}
 use Rattle.script_lines.specs.declared.commands.Asked.{Asked}
@@ -31,10 +32,14 @@ use Rattle.script_lines.specs.Numbers.{max_dpi, max_mantissa, max_point, max_poi
 use Rattle.script_lines.specs.declared.fault.LineFault.{LineFault}
 use Rattle.script_lines.specs.declared.words.naming.Name.{Name}
 use Rattle.script_lines.specs.declared.reading.touches.Touch.{Touch}
+use Rattle.script_lines.specs.declared.verbs.ActVerb.{ActVerb}
+use Rattle.script_lines.specs.declared.verbs.Verb.{Verb}
+use Rattle.script_lines.specs.declared.verbs.Verb.TheVariants as verb
 use Rattle.script_lines.proofs.readings.OkLaws.{if_either, if_map_with, if_test, if_then_with, if_word}
+use Rattle.script_lines.proofs.readings.VerbLaws.{verb_named-written}
 use Rattle.script_lines.proofs.spelled.SpelledResources.{dimen_word-unit, mantissa-dimen}
 use Rattle.script_lines.proofs.texts.WordLaws.{one_add, words_none, words_some}
-use Rattle.script_lines.proofs.written.WrittenActs.{AreAct, act_of-written, extents_of-written, natural_within-written, pair_of-written, within_of-written}
+use Rattle.script_lines.proofs.written.WrittenActs.{AreAct, act_by-written, extents_of-written, natural_within-written, pair_of-written, within_of-written}
 use Rattle.script_lines.proofs.written.WrittenHooks.{edits_of-written}
 use Rattle.script_lines.proofs.written.WrittenWords.{FirstWord, class_of-written, end_of-written, file_name_in-written, id_in-written, integer_in-written, last_color-written, literal_in-written, name_in-written, on_of-written, parent_in-written, unit_of-written, word_in-written}
 
@@ -133,8 +138,8 @@ Line line head ws = words line ≡ head ∷ ws
 abbrev Gives : List ℕ → Result PlainCommand LineFault → Type 0
 Gives line r = IfOk r (λ command. IsWritten command line)
 
-no_words : (line head : List ℕ) (ws : List (List ℕ)) (command : PlainCommand) → (ws ≡ [] → IsWritten command line) → Gives line (end_of ws >>= λ _. Ok command)
-no_words line head ws command h = if_then_with (λ _. ws ≡ []) (λ command. IsWritten command line) (end_of ws) _ (end_of-written ws) (λ _ end. h end)
+no_words : (line : List ℕ) (ws : List (List ℕ)) (command : PlainCommand) → (ws ≡ [] → IsWritten command line) → Gives line (end_of ws >>= λ _. Ok command)
+no_words line ws command h = if_then_with (λ _. ws ≡ []) (λ command. IsWritten command line) (end_of ws) _ (end_of-written ws) (λ _ end. h end)
 
 dpi_of-written : (line : List ℕ) (ws : List (List ℕ)) → Line line (codes "dpi") ws → Gives line (dpi_of ws)
 unfolding dpi_of
@@ -202,12 +207,12 @@ disallow_of-written line ws all =
     if_then_with (λ on. b.0 ≡ on_text on) P (on_of b.0) _ (on_of-written b.0) (λ on is.
     if_then_with (λ _. b.1 ≡ []) P (end_of b.1) _ (end_of-written b.1) (λ _ end. (ws, all, (h.word, h.are ∙ rw (more, is, end) refl, h.fits))))))
 
-set_of-written : (line head : List ℕ) (ws : List (List ℕ)) → Line line head ws → Gives line (set_of head ws)
+set_of-written : (line : List ℕ) (verb : ActVerb) (ws : List (List ℕ)) → Line line (act_word verb) ws → Gives line (set_of verb ws)
 unfolding set_of
-set_of-written line head ws all =
+set_of-written line verb ws all =
     let P = λ (command : PlainCommand). IsWritten command line in
     if_then_with (λ (r : Name × List (List ℕ)). FirstWord (IsNameWord r.0) ws r.1) P (name_in ws) _ (name_in-written ws) (λ view h.
-    if_map_with (AreAct head view.1) P (λ (act : Act). plain.Act view.0 act) (act_of head view.1) (act_of-written head view.1) (λ act a.
+    if_map_with (AreAct (act_word verb) view.1) P (λ (act : Act). plain.Act view.0 act) (act_by verb view.1) (act_by-written verb view.1) (λ act a.
     (ws, all ∙ ap (λ head. head ∷ ws) a.0, (h.word, view.1, h.are, h.fits, a.1))))
 
 hook_of-written : (line : List ℕ) (ws : List (List ℕ)) → Line line (codes "hook") ws → Gives line (hook_of ws)
@@ -267,52 +272,44 @@ pixels_of-written line ws all =
     if_then_with (W (pos 1) max_window h.0) P (within_of (pos 1) max_window h.0) _ (within_of-written (pos 1) max_window h.0) (λ height m.
     if_either P (is_small width height) _ _ (ws, all, a ∙ rw (b, c, d, end, i.0, j.0, k.0, m.0) refl) tt)))))))))
 
--- a line with a name for its first word
-named : (line head name : List ℕ) (ws : List (List ℕ)) → Line line head ws → head ≡ name → Line line name ws
-named line head name ws all e = all ∙ ap (λ head. head ∷ ws) e
-
-keep_by-written : (line head : List ℕ) (ws : List (List ℕ)) → Line line head ws → Gives line (keep_by head ws)
-unfolding save_of
-keep_by-written line head ws all =
-    let P = λ (command : PlainCommand). IsWritten command line in
-    if_word P head (codes "hook") _ _ (λ e. hook_of-written line ws (named line head _ ws all e))
-    (if_word P head (codes "save") _ _ (λ e. no_words line head ws plain.Save (λ end. (ws, named line head _ ws all e, end)))
-    (if_word P head (codes "restore") _ _ (λ e. restore_of-written line ws (named line head _ ws all e)) (set_of-written line head ws all)))
-
-touch_by-written : (line head : List ℕ) (ws : List (List ℕ)) → Line line head ws → Gives line (touch_by head ws)
-unfolding cancel_of
-touch_by-written line head ws all =
-    let P = λ (command : PlainCommand). IsWritten command line in
-    let Q = λ (touch : Touch). ws ≡ touch_words touch.pointer touch.x touch.y in
-    if_word P head (codes "down") _ _ (λ e. if_map_with Q P (λ (touch : Touch). plain.Down touch.pointer touch.x touch.y) (touch_of ws) (touch_of-written ws) (λ touch h. (ws, named line head _ ws all e, h)))
-    (if_word P head (codes "move") _ _ (λ e. if_map_with Q P (λ (touch : Touch). plain.Move touch.pointer touch.x touch.y) (touch_of ws) (touch_of-written ws) (λ touch h. (ws, named line head _ ws all e, h)))
-    (if_word P head (codes "up") _ _ (λ e. up_of-written line ws (named line head _ ws all e))
-    (if_word P head (codes "cancel") _ _ (λ e. no_words line head ws plain.Cancel (λ end. (ws, named line head _ ws all e, end)))
-    (if_word P head (codes "disallow") _ _ (λ e. disallow_of-written line ws (named line head _ ws all e)) (keep_by-written line head ws all)))))
-
-command_by-written : (line head : List ℕ) (ws : List (List ℕ)) → Line line head ws → Gives line (command_by head ws)
-unfolding command_by remove_of frame_of digest_of
-command_by-written line head ws all =
-    let P = λ (command : PlainCommand). IsWritten command line in
-    if_word P head (codes "window") _ _
-    (λ e. if_map_with (λ (pair : ℤ × ℤ). ws ≡ signed_decimal pair.0 ∷ signed_decimal pair.1 ∷ []) P (λ (pair : ℤ × ℤ). plain.Window pair.0 pair.1) (pair_of (pos 1) max_window ws)
-    (pair_of-written (pos 1) max_window ws) (λ pair h. (ws, named line head _ ws all e, h)))
-    (if_word P head (codes "dpi") _ _ (λ e. dpi_of-written line ws (named line head _ ws all e))
-    (if_word P head (codes "inflate") _ _ (λ e. inflate_of-written line ws (named line head _ ws all e))
-    (if_word P head (codes "add") _ _ (λ e. add_of-written line ws (named line head _ ws all e))
-    (if_word P head (codes "remove") _ _ (λ e. view_of-written line ws plain.Remove (λ view word are fits. (ws, named line head _ ws all e, (word, are, fits))))
-    (if_word P head (codes "frame") _ _ (λ e. no_words line head ws plain.Frame (λ end. (ws, named line head _ ws all e, end)))
-    (if_word P head (codes "bounds") _ _ (λ e. bounds_of-written line ws (named line head _ ws all e))
-    (if_word P head (codes "pixels") _ _ (λ e. pixels_of-written line ws (named line head _ ws all e))
-    (if_word P head (codes "digest") _ _ (λ e. no_words line head ws plain.Digest (λ end. (ws, named line head _ ws all e, end)))
-    (touch_by-written line head ws all)))))))))
+command_by-written : (line : List ℕ) (verb : Verb) → LineBegins line (line_word verb) → Gives line (command_by verb (after_word line))
+unfolding command_by remove_of frame_of digest_of cancel_of save_of
+command_by-written line verb.Window h =
+    let ws = words (after_word line) in
+    if_map_with (λ (pair : ℤ × ℤ). ws ≡ signed_decimal pair.0 ∷ signed_decimal pair.1 ∷ []) (λ (command : PlainCommand). IsWritten command line) (λ (pair : ℤ × ℤ). plain.Window pair.0 pair.1)
+    (pair_of (pos 1) max_window ws) (pair_of-written (pos 1) max_window ws) (λ pair are. (ws, h.all, are))
+command_by-written line verb.Dpi h = dpi_of-written line (words (after_word line)) h.all
+command_by-written line verb.Res h = res_of-written line h.first
+command_by-written line verb.Inflate h = inflate_of-written line (words (after_word line)) h.all
+command_by-written line verb.Add h = add_of-written line (words (after_word line)) h.all
+command_by-written line verb.Remove h = let ws = words (after_word line) in view_of-written line ws plain.Remove (λ view word are fits. (ws, h.all, (word, are, fits)))
+command_by-written line (verb.Act act) h = set_of-written line act (words (after_word line)) h.all
+command_by-written line verb.Text h = set_text_of-written line h.first
+command_by-written line verb.Disallow h = disallow_of-written line (words (after_word line)) h.all
+command_by-written line verb.Hook h = hook_of-written line (words (after_word line)) h.all
+command_by-written line verb.Down h =
+    let ws = words (after_word line) in
+    if_map_with (λ (touch : Touch). ws ≡ touch_words touch.pointer touch.x touch.y) (λ (command : PlainCommand). IsWritten command line) (λ (touch : Touch). plain.Down touch.pointer touch.x touch.y)
+    (touch_of ws) (touch_of-written ws) (λ touch are. (ws, h.all, are))
+command_by-written line verb.Move h =
+    let ws = words (after_word line) in
+    if_map_with (λ (touch : Touch). ws ≡ touch_words touch.pointer touch.x touch.y) (λ (command : PlainCommand). IsWritten command line) (λ (touch : Touch). plain.Move touch.pointer touch.x touch.y)
+    (touch_of ws) (touch_of-written ws) (λ touch are. (ws, h.all, are))
+command_by-written line verb.Up h = up_of-written line (words (after_word line)) h.all
+command_by-written line verb.Cancel h = no_words line (words (after_word line)) plain.Cancel (λ end. (words (after_word line), h.all, end))
+command_by-written line verb.Frame h = no_words line (words (after_word line)) plain.Frame (λ end. (words (after_word line), h.all, end))
+command_by-written line verb.Bounds h = bounds_of-written line (words (after_word line)) h.all
+command_by-written line verb.Pixels h = pixels_of-written line (words (after_word line)) h.all
+command_by-written line verb.Digest h = no_words line (words (after_word line)) plain.Digest (λ end. (words (after_word line), h.all, end))
+command_by-written line verb.Save h = no_words line (words (after_word line)) plain.Save (λ end. (words (after_word line), h.all, end))
+command_by-written line verb.Restore h = restore_of-written line (words (after_word line)) h.all
 
 command_in-written : (line head : List ℕ) → LineBegins line head → Gives line (command_in head (after_word line))
 unfolding command_in
 command_in-written line head h =
     let P = λ (command : PlainCommand). IsWritten command line in
-    if_word P head (codes "res") _ _ (λ e. res_of-written line (h.first ∙ e))
-    (if_word P head (codes "text") _ _ (λ e. set_text_of-written line (h.first ∙ e)) (command_by-written line head (words (after_word line)) h.all))
+    if_then_with (λ verb. head ≡ line_word verb) P (known (verb_named head)) _ (verb_named-written head)
+    (λ verb is. command_by-written line verb (record { first = h.first ∙ is; all = h.all ∙ ap (λ head. head ∷ words (after_word line)) is }))
 
 -- Whatever line a command is read from is one of those that give it.
 pub command_of-written : (line : List ℕ) → IfOk (command_of line) (λ command. IsWritten command line)

@@ -1,68 +1,48 @@
 -- The words from which the edits of a hook are read.
-use Rattle.std.proofs.Common.{◌≡◌, ◌≢◌, ℕ, suc, zero, ◌-◌, ◌<◌, Bool, true, false, refl, ap, inl, inr, List, [], ◌∷◌, arith}
-use Rattle.std.specs.Prelude.{◌⊎◌, slice_get, IfOk, Option, Some, None, Result, Ok, Err}
+use Rattle.std.proofs.Common.{◌≡◌, ℕ, suc, zero, ◌-◌, ◌<◌, Bool, true, refl, ap, ◌∙◌, inl, inr, List, [], ◌∷◌, arith}
+use Rattle.std.specs.Prelude.{◌⊎◌, IfOk, Option, Some, None, Result, Ok, Err}
 use Rattle.std.specs.List.{filter_map, list_any, slice_split}
-use Rattle.std.specs.Str.{bytes_eq}
 use Rattle.std.proofs.lemmas.Bool.{cases_Bool}
-use Rattle.std.proofs.lemmas.Slice.Eq.{bytes_eq-Decides}
 use Rattle.view_model.specs.Numbers.{max_edits}
-use Rattle.script_lines.specs.reading.Changes.{change_of}
-use Rattle.script_lines.specs.reading.Hooks.{asked_in, asked_of, begins_edit, begins_line, edit_of, edit_words, edits_of, is_range, is_syntax, is_unmade, joined, line_words, parts_edits, readings_of, unmade_of}
-use Rattle.script_lines.specs.words.Names.{name_in}
+use Rattle.script_lines.specs.reading.Changes.{change_by}
+use Rattle.script_lines.specs.reading.Hooks.{asked_in, asked_of, edit_by, edit_of, edits_of, is_range, is_syntax, is_unmade, joined, parts_edits, readings_of, unmade_of}
+use Rattle.script_lines.specs.reading.Verbs.{change_named, change_word, line_word, verb_named}
+use Rattle.script_lines.specs.words.Names.{known, name_in}
 use Rattle.script_lines.specs.words.Words.{word_in}
 use Rattle.script_lines.specs.commands.Written.{AreEditWords, AreEdits, AreUnmadeWords, IsNameWord}
 use Rattle.script_lines.specs.declared.commands.Asked.{Asked}
 use Rattle.script_lines.specs.declared.fault.LineFault.{LineFault}
 use Rattle.script_lines.specs.declared.fault.LineFault.TheVariants.{Syntax, Range}
+use Rattle.script_lines.specs.declared.verbs.ChangeVerb.{ChangeVerb}
 use Rattle.script_lines.specs.declared.words.naming.Name.{Name}
-use Rattle.script_lines.proofs.readings.OkLaws.{if_map_with, if_ok_more, if_test, if_then_with}
-use Rattle.script_lines.proofs.written.WrittenActs.{AreChange, change_of-written}
+use Rattle.script_lines.proofs.readings.OkLaws.{if_map_with, if_ok_more, if_then_with}
+use Rattle.script_lines.proofs.readings.VerbLaws.{change_named-is, other_word, verb_named-written}
+use Rattle.script_lines.proofs.written.WrittenActs.{AreChange, change_by-written}
 use Rattle.script_lines.proofs.written.WrittenWords.{FirstWord, name_in-written, word_in-written}
-
--- a word is in a list, or it is not
-pub any_place : (names : List (List ℕ)) (word : List ℕ) → list_any (λ name. bytes_eq name word) names ≡ true → (k : ℕ) × (slice_get names k ≡ Some word)
-any_place [] word h = absurd (cc)
-any_place (name ∷ names) word h = elim (cases_Bool (bytes_eq name word)) [
-  | inl same ↦ (0, ap Some ((bytes_eq-Decides name word).0 same))
-  | inr other ↦ (let more : list_any (λ name. bytes_eq name word) names ≡ true = rw other at h in let rest = any_place names word more in (suc rest.0, rest.1))
-]
-
-no_place : (names : List (List ℕ)) (word : List ℕ) → list_any (λ name. bytes_eq name word) names ≡ false → (k : ℕ) → slice_get names k ≢ Some word
-no_place [] word h k = λ is. cc
-no_place (name ∷ names) word h zero = λ is.
-    let same : name ≡ word = cc in
-    let t : bytes_eq name word ≡ true = (bytes_eq-Decides name word).1 same in
-    let never : true ≡ false = rw t at h in cc
-no_place (name ∷ names) word h (suc k) = elim (cases_Bool (bytes_eq name word)) [
-  | inl same ↦ absurd (let never : true ≡ false = rw same at h in cc)
-  | inr other ↦ (let more : list_any (λ name. bytes_eq name word) names ≡ false = rw other at h in no_place names word more k)
-]
 
 -- an edit, with how many a hook may still have
 abbrev EditIs : ℕ → List (List ℕ) → Option Asked → Type 0
 EditIs left part None = AreUnmadeWords left part
 EditIs left part (Some asked) = (0 < left) × AreEditWords asked part
 
-unmade_of-written : (left : ℕ) (part : List (List ℕ)) → (left ≡ 0) ⊎ ((head : List ℕ) → (rest : List (List ℕ)) → part ≡ head ∷ rest → begins_edit head ≡ false) → IfOk (unmade_of part) (EditIs left part)
-unfolding unmade_of begins_line begins_edit
+unmade_of-written : (left : ℕ) (part : List (List ℕ)) → (left ≡ 0) ⊎ ((head : List ℕ) → (rest : List (List ℕ)) → part ≡ head ∷ rest → change_named head ≡ None) → IfOk (unmade_of part) (EditIs left part)
+unfolding unmade_of
 unmade_of-written left part why =
     let P = EditIs left part in
     if_then_with (λ (r : List ℕ × List (List ℕ)). part ≡ r.0 ∷ r.1) P (word_in part) _ (word_in-written part) (λ head are.
-    if_test P (begins_line head.0) _ _ (λ is. let place = any_place line_words head.0 is in record {
-      place = place.0;
-      head = head.0;
+    if_map_with (λ verb. head.0 ≡ line_word verb) P (λ _. None) (known (verb_named head.0)) (verb_named-written head.0) (λ verb is. record {
+      verb = verb;
       rest = head.1;
-      are = are;
-      known = place.1;
-      unmade = elim why [ inl full ↦ inl full | inr others ↦ inr (no_place edit_words head.0 (others head.0 head.1 are)) ];
-    }) tt)
+      are = are ∙ ap (λ word. word ∷ head.1) is;
+      unmade = elim why [ inl full ↦ inl full | inr others ↦ inr (λ change same. other_word head.0 (others head.0 head.1 are) change (is ∙ same)) ];
+    }))
 
-asked_of-written : (head : List ℕ) (ws : List (List ℕ)) → IfOk (asked_of head ws) (λ asked. AreEditWords asked (head ∷ ws))
+asked_of-written : (verb : ChangeVerb) (ws : List (List ℕ)) → IfOk (asked_of verb ws) (λ asked. AreEditWords asked (change_word verb ∷ ws))
 unfolding asked_of
-asked_of-written head ws =
-    let P = λ (asked : Asked). AreEditWords asked (head ∷ ws) in
+asked_of-written verb ws =
+    let P = λ (asked : Asked). AreEditWords asked (change_word verb ∷ ws) in
     if_then_with (λ (r : Name × List (List ℕ)). FirstWord (IsNameWord r.0) ws r.1) P (name_in ws) _ (name_in-written ws) (λ view h.
-    if_map_with (AreChange head view.1) P _ (change_of head view.1) (change_of-written head view.1) (λ change c. record {
+    if_map_with (AreChange (change_word verb) view.1) P _ (change_by verb view.1) (change_by-written verb view.1) (λ change c. record {
       view = h.word;
       rest = view.1;
       are = rw (c.0, h.are) refl;
@@ -70,15 +50,17 @@ asked_of-written head ws =
       change = c.1;
     }))
 
+edit_by-written : (left : ℕ) (part ws : List (List ℕ)) (head : List ℕ) (made : Option ChangeVerb) → 0 < left → part ≡ head ∷ ws → change_named head ≡ made → IfOk (edit_by part made ws) (EditIs left part)
+edit_by-written left part ws head (Some verb) some are h =
+    let whole : part ≡ change_word verb ∷ ws = are ∙ ap (λ head. head ∷ ws) (change_named-is head verb h) in
+    if_map_with (λ (asked : Asked). AreEditWords asked (change_word verb ∷ ws)) (EditIs left part) Some (asked_of verb ws) (asked_of-written verb ws) (λ asked h. (some, rw whole h))
+edit_by-written left part ws head None some are h = unmade_of-written left part (inr (λ other rest same. let e : other ≡ head = cc in rw e h))
+
 edit_of-written : (left : ℕ) (part : List (List ℕ)) → 0 < left → IfOk (edit_of part) (EditIs left part)
 unfolding edit_of
 edit_of-written left part some =
-    let P = EditIs left part in
-    if_then_with (λ (r : List ℕ × List (List ℕ)). part ≡ r.0 ∷ r.1) P (word_in part) _ (word_in-written part) (λ head are.
-    elim (cases_Bool (begins_edit head.0)) [
-      | inl is ↦ rw is (if_map_with (λ (asked : Asked). AreEditWords asked (head.0 ∷ head.1)) P Some (asked_of head.0 head.1) (asked_of-written head.0 head.1) (λ asked h. (some, rw are h)))
-      | inr none ↦ rw none (unmade_of-written left part (inr (λ other rest same. let e : other ≡ head.0 = cc in rw e none)))
-    ])
+    if_then_with (λ (r : List ℕ × List (List ℕ)). part ≡ r.0 ∷ r.1) (EditIs left part) (word_in part) _ (word_in-written part)
+    (λ head are. edit_by-written left part head.1 head.0 (change_named head.0) some are refl)
 
 -- what is made of a reading and of those after it
 abbrev Joined : (Option Asked → Type 0) → (List Asked × Bool → Type 0) → List Asked × Bool → Type 0

@@ -32,7 +32,13 @@ use Rattle.script_lines.specs.words.Gravities.{is_set_across, is_set_down}
 use Rattle.script_lines.specs.commands.PlainCommands.{PlainCommand, PlainGiven}
 use Rattle.script_lines.specs.commands.PlainCommands as plain
 use Rattle.script_lines.specs.reading.Rules.{names_sibling, verbs}
+use Rattle.script_lines.specs.reading.Verbs.{act_word, change_word, line_word}
 use Rattle.script_lines.specs.declared.commands.Asked.{Asked}
+use Rattle.script_lines.specs.declared.verbs.ActVerb.{ActVerb}
+use Rattle.script_lines.specs.declared.verbs.ActVerb.TheVariants as act_verb
+use Rattle.script_lines.specs.declared.verbs.ChangeVerb.{ChangeVerb}
+use Rattle.script_lines.specs.declared.verbs.ChangeVerb.TheVariants as change_verb
+use Rattle.script_lines.specs.declared.verbs.Verb.TheVariants as verb
 use Rattle.script_lines.specs.declared.words.naming.Name.{Name}
 use Rattle.script_lines.specs.declared.words.naming.Name.TheVariants.{Number, Id}
 
@@ -103,15 +109,19 @@ hex_places (suc places) n = hex_places places (n / 16) ++ digit_glyph false (n %
 abbrev pub color_text : Argb → List ℕ
 color_text color = codes "#" ++ hex_places 8 color.0
 
--- the first word of the line that makes a change
+-- what the first word of the line asks for that makes a change
+abbrev pub change_verb_of : Change → ChangeVerb
+change_verb_of (change.Size width height) = change_verb.Size
+change_verb_of (change.Min size) = change_verb.Min
+change_verb_of (change.Margins sides) = change_verb.Margins
+change_verb_of (change.Padding sides) = change_verb.Padding
+change_verb_of (change.Weight weight) = change_verb.Weight
+change_verb_of (change.Gravity kids gravity) = change_verb.Gravity
+change_verb_of (change.Background color) = change_verb.Background
+
+-- that word
 abbrev pub change_head : Change → List ℕ
-change_head (change.Size width height) = codes "size"
-change_head (change.Min size) = codes "min"
-change_head (change.Margins sides) = codes "margins"
-change_head (change.Padding sides) = codes "padding"
-change_head (change.Weight weight) = codes "weight"
-change_head (change.Gravity kids gravity) = codes "gravity"
-change_head (change.Background color) = codes "bg"
+change_head change = change_word (change_verb_of change)
 
 -- the words after the view
 abbrev pub change_words : Change → List (List ℕ)
@@ -165,20 +175,24 @@ direction_text Inherit = codes "inherit"
 direction_text Ltr = codes "ltr"
 direction_text Rtl = codes "rtl"
 
--- the first word of the line that sets this
+-- what the first word of the line asks for that sets this
+abbrev pub act_verb_of : Act → ActVerb
+act_verb_of (act.Change change) = act_verb.Change (change_verb_of change)
+act_verb_of (act.WeightSum sum) = act_verb.WeightSum
+act_verb_of (act.Orient vertical) = act_verb.Orient
+act_verb_of (act.Flag flag on) = act_verb.Flag
+act_verb_of (act.Visible visibility) = act_verb.Visible
+act_verb_of (act.Ink color) = act_verb.Ink
+act_verb_of (act.Id id) = act_verb.Id
+act_verb_of (act.Rule verb value) = act_verb.Rule
+act_verb_of (act.Answer answer) = act_verb.Answer
+act_verb_of (act.Intercept actions) = act_verb.Intercept
+act_verb_of (act.Scroll offset) = act_verb.Scroll
+act_verb_of (act.Direction direction) = act_verb.Direction
+
+-- that word
 abbrev pub act_head : Act → List ℕ
-act_head (act.Change change) = change_head change
-act_head (act.WeightSum sum) = codes "weightsum"
-act_head (act.Orient vertical) = codes "orient"
-act_head (act.Flag flag on) = codes "flag"
-act_head (act.Visible visibility) = codes "visible"
-act_head (act.Ink color) = codes "ink"
-act_head (act.Id id) = codes "id"
-act_head (act.Rule verb value) = codes "rule"
-act_head (act.Answer answer) = codes "answer"
-act_head (act.Intercept actions) = codes "intercept"
-act_head (act.Scroll offset) = codes "scroll"
-act_head (act.Direction direction) = codes "direction"
+act_head act = act_word (act_verb_of act)
 
 -- the words after the view
 abbrev pub act_words : Act → List (List ℕ)
@@ -221,7 +235,7 @@ edit_words asked = change_head asked.change ∷ name_text asked.view ∷ change_
 
 -- an edit that no hook can make, if there is to be one
 abbrev pub unmade_edits : Bool → List (List (List ℕ))
-unmade_edits bad = if bad then (codes "frame" ∷ []) ∷ [] else []
+unmade_edits bad = if bad then (line_word verb.Frame ∷ []) ∷ [] else []
 
 abbrev pub hook_edits : List Asked → Bool → List (List (List ℕ))
 hook_edits edits bad = map edit_words edits ++ unmade_edits bad
@@ -234,31 +248,31 @@ edits_words (edit ∷ next ∷ edits) = edit ++ codes ";" ∷ edits_words (next 
 
 -- the words of a command
 abbrev pub command_words : PlainCommand → List (List ℕ)
-command_words (plain.Window w h) = codes "window" ∷ signed_decimal w ∷ signed_decimal h ∷ []
-command_words (plain.Dpi dpi) = codes "dpi" ∷ decimal dpi ∷ []
-command_words (plain.Res id value) = codes "res" ∷ name_text (Id id) ∷ given_words value
-command_words (plain.Inflate name None) = codes "inflate" ∷ name ∷ []
-command_words (plain.Inflate name (Some view)) = codes "inflate" ∷ name ∷ codes "into" ∷ name_text view ∷ []
+command_words (plain.Window w h) = line_word verb.Window ∷ signed_decimal w ∷ signed_decimal h ∷ []
+command_words (plain.Dpi dpi) = line_word verb.Dpi ∷ decimal dpi ∷ []
+command_words (plain.Res id value) = line_word verb.Res ∷ name_text (Id id) ∷ given_words value
+command_words (plain.Inflate name None) = line_word verb.Inflate ∷ name ∷ []
+command_words (plain.Inflate name (Some view)) = line_word verb.Inflate ∷ name ∷ codes "into" ∷ name_text view ∷ []
 command_words (plain.Add parent class width height) =
     codes "add" ∷ parent_text parent ∷ class_text class ∷ extent_text width ∷ extent_text height ∷ []
-command_words (plain.Remove view) = codes "remove" ∷ name_text view ∷ []
+command_words (plain.Remove view) = line_word verb.Remove ∷ name_text view ∷ []
 command_words (plain.Act view act) = act_head act ∷ name_text view ∷ act_words act
-command_words (plain.SetText view text) = codes "text" ∷ name_text view ∷ text ∷ []
-command_words (plain.Disallow view on) = codes "disallow" ∷ name_text view ∷ on_text on ∷ []
-command_words (plain.Hook view edits bad) = codes "hook" ∷ name_text view ∷ edits_words (hook_edits edits bad)
-command_words (plain.Down p x y) = codes "down" ∷ touch_words p x y
-command_words (plain.Move p x y) = codes "move" ∷ touch_words p x y
-command_words (plain.Up p) = codes "up" ∷ decimal p ∷ []
-command_words plain.Cancel = codes "cancel" ∷ []
-command_words plain.Frame = codes "frame" ∷ []
-command_words (plain.Bounds None) = codes "bounds" ∷ []
-command_words (plain.Bounds (Some view)) = codes "bounds" ∷ name_text view ∷ []
+command_words (plain.SetText view text) = line_word verb.Text ∷ name_text view ∷ text ∷ []
+command_words (plain.Disallow view on) = line_word verb.Disallow ∷ name_text view ∷ on_text on ∷ []
+command_words (plain.Hook view edits bad) = line_word verb.Hook ∷ name_text view ∷ edits_words (hook_edits edits bad)
+command_words (plain.Down p x y) = line_word verb.Down ∷ touch_words p x y
+command_words (plain.Move p x y) = line_word verb.Move ∷ touch_words p x y
+command_words (plain.Up p) = line_word verb.Up ∷ decimal p ∷ []
+command_words plain.Cancel = line_word verb.Cancel ∷ []
+command_words plain.Frame = line_word verb.Frame ∷ []
+command_words (plain.Bounds None) = line_word verb.Bounds ∷ []
+command_words (plain.Bounds (Some view)) = line_word verb.Bounds ∷ name_text view ∷ []
 command_words (plain.Pixels x y w h) =
-    codes "pixels" ∷ signed_decimal x ∷ signed_decimal y ∷ signed_decimal w ∷ signed_decimal h ∷ []
-command_words plain.Digest = codes "digest" ∷ []
-command_words plain.Save = codes "save" ∷ []
-command_words (plain.Restore None) = codes "restore" ∷ []
-command_words (plain.Restore (Some text)) = codes "restore" ∷ text ∷ []
+    line_word verb.Pixels ∷ signed_decimal x ∷ signed_decimal y ∷ signed_decimal w ∷ signed_decimal h ∷ []
+command_words plain.Digest = line_word verb.Digest ∷ []
+command_words plain.Save = line_word verb.Save ∷ []
+command_words (plain.Restore None) = line_word verb.Restore ∷ []
+command_words (plain.Restore (Some text)) = line_word verb.Restore ∷ text ∷ []
 
 -- the text of a command, with single spaces between its words
 abbrev pub spelled : PlainCommand → List ℕ

@@ -20,7 +20,8 @@ use Rattle.view_model.specs.declared.placing.Down.{Down}
 use Rattle.view_model.specs.declared.placing.Down.TheVariants as down
 use Rattle.view_model.specs.declared.placing.Gravity.{Gravity}
 use Rattle.script_lines.specs.words.Gravities.{is_bar, is_set_across, is_set_down}
-use Rattle.script_lines.specs.reading.Hooks.{edit_words, line_words, parts_edits}
+use Rattle.script_lines.specs.reading.Hooks.{parts_edits}
+use Rattle.script_lines.specs.reading.Verbs.{change_word, line_word}
 use Rattle.script_lines.specs.words.Names.{hex_value}
 use Rattle.script_lines.specs.commands.PlainCommands.{PlainCommand, PlainGiven}
 use Rattle.script_lines.specs.commands.PlainCommands as plain
@@ -30,6 +31,9 @@ use Rattle.script_lines.specs.commands.Spelled.{class_text, command_words, exten
 use Rattle.script_lines.specs.commands.Spelled.{verb_text, weight_words}
 use Rattle.script_lines.specs.words.Words.{after_word, first_word, words}
 use Rattle.script_lines.specs.declared.commands.Asked.{Asked}
+use Rattle.script_lines.specs.declared.verbs.ChangeVerb.{ChangeVerb}
+use Rattle.script_lines.specs.declared.verbs.Verb.{Verb}
+use Rattle.script_lines.specs.declared.verbs.Verb.TheVariants as verb
 use Rattle.script_lines.specs.declared.words.naming.Name.{Name}
 use Rattle.script_lines.specs.declared.words.naming.Name.TheVariants.{Number, Id}
 
@@ -149,12 +153,10 @@ pub record AreEditWords (asked : Asked) (ws : List (List ℕ)) : Type 0 where
 -- words that begin with that of a line, of which no hook makes an edit: with another word than that of an edit, or
 -- after the greatest number of edits
 pub record AreUnmadeWords (left : ℕ) (ws : List (List ℕ)) : Type 0 where
-  pub place : ℕ
-  pub head : List ℕ
+  pub verb : Verb
   pub rest : List (List ℕ)
-  pub are : ws ≡ head ∷ rest
-  pub known : slice_get line_words place ≡ Some head
-  pub unmade : (left ≡ 0) ⊎ ((k : ℕ) → slice_get edit_words k ≢ Some head)
+  pub are : ws ≡ line_word verb ∷ rest
+  pub unmade : (left ≡ 0) ⊎ ((change : ChangeVerb) → line_word verb ≢ change_word change)
 
 -- edits in a row, with how many a hook may still have: those that it makes, and whether there is one that it can't make
 abbrev pub AreEdits : ℕ → List Asked → Bool → List (List (List ℕ)) → Type 0
@@ -193,10 +195,10 @@ IsGivenBy (plain.Text text) bytes =
 -- a line that gives this command
 abbrev pub IsWritten : PlainCommand → List ℕ → Type 0
 IsWritten (plain.Res id value) line =
-    (first_word line ≡ codes "res") × IsHexWord 64 id (first_word (after_word line))
+    (first_word line ≡ line_word verb.Res) × IsHexWord 64 id (first_word (after_word line))
     × IsGivenBy value (after_word (after_word line))
 IsWritten (plain.SetText view text) line =
-    (first_word line ≡ codes "text") × IsNameWord view (first_word (after_word line))
+    (first_word line ≡ line_word verb.Text) × IsNameWord view (first_word (after_word line))
     × (after_word (after_word line) ≡ 32 ∷ text)
     × (is_utf8 text ≡ true)
 IsWritten command line =

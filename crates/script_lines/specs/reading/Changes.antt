@@ -1,7 +1,5 @@
 -- What a line sets of a view, after the view's name.
-use Rattle.std.specs.Prelude.{ℕ, ◌≤◌, ◌<◌, if◌then◌else◌, Bool, true, false, ℤ, pos, List, [], ◌∷◌, codes, Result, Ok}
-use Rattle.std.specs.Prelude.{Err}
-use Rattle.std.specs.List.{list_any}
+use Rattle.std.specs.Prelude.{ℕ, ◌≤◌, ◌<◌, if◌then◌else◌, Bool, true, false, ℤ, pos, List, codes, Result, Ok, Err}
 use Rattle.std.specs.Str.{bytes_eq}
 use Rattle.geom_core.specs.declared.geometry.Insets.{Insets}
 use Rattle.view_model.specs.Numbers.{max_inset, max_size, max_weight, min_margin}
@@ -29,6 +27,10 @@ use Rattle.script_lines.specs.words.Words.{◌>>=◌, map_ok, on_of, word_in, en
 use Rattle.script_lines.specs.declared.reading.changes.Sides.{Sides}
 use Rattle.script_lines.specs.declared.fault.LineFault.{LineFault}
 use Rattle.script_lines.specs.declared.fault.LineFault.TheVariants.{Syntax}
+use Rattle.script_lines.specs.declared.verbs.ActVerb.{ActVerb}
+use Rattle.script_lines.specs.declared.verbs.ActVerb.TheVariants as act_verb
+use Rattle.script_lines.specs.declared.verbs.ChangeVerb.{ChangeVerb}
+use Rattle.script_lines.specs.declared.verbs.ChangeVerb.TheVariants as change_verb
 
 -- `l t r b`, the sides of a view, not yet within their bounds
 unfoldable pub sides_of : List (List ℕ) → Result Sides LineFault
@@ -94,17 +96,15 @@ gravity_change_of words = do
 abbrev pub background_of : List (List ℕ) → Result Change LineFault
 background_of words = map_ok change.Background (last_color words)
 
--- a change by the first word of its line and the words after the view
-unfoldable pub change_of : List ℕ → List (List ℕ) → Result Change LineFault
-change_of head words =
-    if bytes_eq head (codes "size") then size_of words else (
-    if bytes_eq head (codes "min") then min_of words else (
-    if bytes_eq head (codes "margins") then margins_of words else (
-    if bytes_eq head (codes "padding") then padding_of words else (
-    if bytes_eq head (codes "weight") then weight_change_of words else (
-    if bytes_eq head (codes "gravity") then gravity_change_of words else (
-    if bytes_eq head (codes "bg") then background_of words else
-    Err Syntax))))))
+-- what is changed of a view, by the first word of the line and the words after the view
+abbrev pub change_by : ChangeVerb → List (List ℕ) → Result Change LineFault
+change_by change_verb.Size words = size_of words
+change_by change_verb.Min words = min_of words
+change_by change_verb.Margins words = margins_of words
+change_by change_verb.Padding words = padding_of words
+change_by change_verb.Weight words = weight_change_of words
+change_by change_verb.Gravity words = gravity_change_of words
+change_by change_verb.Background words = background_of words
 
 unfoldable pub visibility_of : List ℕ → Result Visibility LineFault
 visibility_of word =
@@ -208,32 +208,20 @@ answer_of words = do
 abbrev pub intercept_of : List (List ℕ) → Result Act LineFault
 intercept_of words = map_ok act.Intercept (actions_of words)
 
--- the words with which lines begin that set something of a view which no hook can set
-abbrev pub act_words : List (List ℕ)
-act_words =
-    codes "visible" ∷ codes "id" ∷ codes "weightsum" ∷ codes "orient" ∷ codes "flag" ∷ codes "direction"
-    ∷ codes "scroll"
-    ∷ codes "rule" ∷ codes "ink" ∷ codes "answer" ∷ codes "intercept" ∷ []
-
--- whether such a line begins with this word
-unfoldable pub begins_act : List ℕ → Bool
-begins_act word = list_any (λ name. bytes_eq name word) act_words
-
--- what a line sets, by its first word and the words after the view
-unfoldable pub act_of : List ℕ → List (List ℕ) → Result Act LineFault
-act_of head words =
-    if bytes_eq head (codes "visible") then visible_of words else (
-    if bytes_eq head (codes "id") then new_id_of words else (
-    if bytes_eq head (codes "weightsum") then weight_sum_of words else (
-    if bytes_eq head (codes "orient") then orient_of words else (
-    if bytes_eq head (codes "flag") then flag_of words else (
-    if bytes_eq head (codes "direction") then direction_of words else (
-    if bytes_eq head (codes "scroll") then scroll_of words else (
-    if bytes_eq head (codes "rule") then rule_of words else (
-    if bytes_eq head (codes "ink") then ink_of words else (
-    if bytes_eq head (codes "answer") then answer_of words else (
-    if bytes_eq head (codes "intercept") then intercept_of words else
-    map_ok act.Change (change_of head words)))))))))))
+-- what is set of a view, by the first word of the line and the words after the view
+abbrev pub act_by : ActVerb → List (List ℕ) → Result Act LineFault
+act_by (act_verb.Change verb) words = map_ok act.Change (change_by verb words)
+act_by act_verb.WeightSum words = weight_sum_of words
+act_by act_verb.Orient words = orient_of words
+act_by act_verb.Direction words = direction_of words
+act_by act_verb.Flag words = flag_of words
+act_by act_verb.Visible words = visible_of words
+act_by act_verb.Ink words = ink_of words
+act_by act_verb.Id words = new_id_of words
+act_by act_verb.Rule words = rule_of words
+act_by act_verb.Answer words = answer_of words
+act_by act_verb.Intercept words = intercept_of words
+act_by act_verb.Scroll words = scroll_of words
 
 abbrev pub AreWithin : ℤ → ℤ → Insets → Type 0
 AreWithin low high sides =

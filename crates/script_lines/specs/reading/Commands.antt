@@ -6,12 +6,12 @@ use Rattle.std.specs.Str.{bytes_eq, is_utf8}
 use Rattle.view_model.specs.declared.class.Class.{Class}
 use Rattle.view_model.specs.declared.class.Class.TheVariants as class
 use Rattle.view_model.specs.Numbers.{max_edits}
-use Rattle.script_lines.specs.reading.Changes.{IsActInBounds, IsChangeInBounds, act_of}
+use Rattle.script_lines.specs.reading.Changes.{IsActInBounds, IsChangeInBounds, act_by}
 use Rattle.script_lines.specs.words.Dimensions.{IsExtent, extents_of}
 use Rattle.script_lines.specs.words.Escapes.{has_escapes, rest_of}
 use Rattle.script_lines.specs.words.FileNames.{file_name_in, is_file_name}
 use Rattle.script_lines.specs.reading.Hooks.{edits_of}
-use Rattle.script_lines.specs.words.Names.{name_in, parent_in}
+use Rattle.script_lines.specs.words.Names.{known, name_in, parent_in}
 use Rattle.script_lines.specs.declared.words.naming.Name.{Name}
 use Rattle.script_lines.specs.words.Numbers.{IsWithin, integer_in, natural_within, pair_of}
 use Rattle.script_lines.specs.reading.Pixels.{IsPart, pixels_of}
@@ -21,10 +21,14 @@ use Rattle.script_lines.specs.commands.PlainCommands.{Pixels, Digest, Save, Rest
 use Rattle.script_lines.specs.reading.Resources.{IsGivenInBounds, res_of}
 use Rattle.script_lines.specs.reading.States.{is_state_text, restore_of, save_of}
 use Rattle.script_lines.specs.reading.Touches.{IsTouchInBounds, cancel_of, down_of, move_of, up_of}
+use Rattle.script_lines.specs.reading.Verbs.{verb_named}
 use Rattle.script_lines.specs.words.Words.{after_word, ◌>>=◌, map_ok, literal_in, on_of, word_in, end_of, words}
 use Rattle.script_lines.specs.Numbers.{max_dpi, max_pointer, max_window, min_dpi}
 use Rattle.script_lines.specs.declared.fault.LineFault.{LineFault}
 use Rattle.script_lines.specs.declared.fault.LineFault.TheVariants.{Syntax}
+use Rattle.script_lines.specs.declared.verbs.ActVerb.{ActVerb}
+use Rattle.script_lines.specs.declared.verbs.Verb.{Verb}
+use Rattle.script_lines.specs.declared.verbs.Verb.TheVariants as verb
 
 -- `W H`, the sides of a window
 abbrev pub window_of : List (List ℕ) → Result PlainCommand LineFault
@@ -104,10 +108,10 @@ disallow_of words = do
   Ok (Disallow view.0 on)
 
 -- `V`, and what is set of that view
-unfoldable pub set_of : List ℕ → List (List ℕ) → Result PlainCommand LineFault
-set_of head words = do
+unfoldable pub set_of : ActVerb → List (List ℕ) → Result PlainCommand LineFault
+set_of verb words = do
   view ← name_in words
-  map_ok (λ act. Act view.0 act) (act_of head view.1)
+  map_ok (λ act. Act view.0 act) (act_by verb view.1)
 
 -- `V T`, and the text of that view: all that comes after one space
 unfoldable pub set_text_of : List ℕ → Result PlainCommand LineFault
@@ -121,44 +125,32 @@ hook_of words = do
   view ← name_in words
   map_ok (λ edits. Hook view.0 edits.0 edits.1) (edits_of view.1)
 
--- a line that saves, restores, arms a hook or sets something of a view, by its first word and the words after it
-abbrev pub keep_by : List ℕ → List (List ℕ) → Result PlainCommand LineFault
-keep_by head words =
-    if bytes_eq head (codes "hook") then hook_of words else (
-    if bytes_eq head (codes "save") then save_of words else (
-    if bytes_eq head (codes "restore") then restore_of words else
-    set_of head words))
+-- a command by what its first word asks for and the bytes after that word: the spaces in a text count
+unfoldable pub command_by : Verb → List ℕ → Result PlainCommand LineFault
+command_by verb.Window rest = window_of (words rest)
+command_by verb.Dpi rest = dpi_of (words rest)
+command_by verb.Res rest = res_of rest
+command_by verb.Inflate rest = inflate_of (words rest)
+command_by verb.Add rest = add_of (words rest)
+command_by verb.Remove rest = remove_of (words rest)
+command_by (verb.Act act) rest = set_of act (words rest)
+command_by verb.Text rest = set_text_of rest
+command_by verb.Disallow rest = disallow_of (words rest)
+command_by verb.Hook rest = hook_of (words rest)
+command_by verb.Down rest = down_of (words rest)
+command_by verb.Move rest = move_of (words rest)
+command_by verb.Up rest = up_of (words rest)
+command_by verb.Cancel rest = cancel_of (words rest)
+command_by verb.Frame rest = frame_of (words rest)
+command_by verb.Bounds rest = bounds_of (words rest)
+command_by verb.Pixels rest = pixels_of (words rest)
+command_by verb.Digest rest = digest_of (words rest)
+command_by verb.Save rest = save_of (words rest)
+command_by verb.Restore rest = restore_of (words rest)
 
--- the same or a line of touch, by its first word and the words after it
-abbrev pub touch_by : List ℕ → List (List ℕ) → Result PlainCommand LineFault
-touch_by head words =
-    if bytes_eq head (codes "down") then down_of words else (
-    if bytes_eq head (codes "move") then move_of words else (
-    if bytes_eq head (codes "up") then up_of words else (
-    if bytes_eq head (codes "cancel") then cancel_of words else (
-    if bytes_eq head (codes "disallow") then disallow_of words else
-    keep_by head words))))
-
--- a command by the first word of its line and the words after it
-unfoldable pub command_by : List ℕ → List (List ℕ) → Result PlainCommand LineFault
-command_by head words =
-    if bytes_eq head (codes "window") then window_of words else (
-    if bytes_eq head (codes "dpi") then dpi_of words else (
-    if bytes_eq head (codes "inflate") then inflate_of words else (
-    if bytes_eq head (codes "add") then add_of words else (
-    if bytes_eq head (codes "remove") then remove_of words else (
-    if bytes_eq head (codes "frame") then frame_of words else (
-    if bytes_eq head (codes "bounds") then bounds_of words else (
-    if bytes_eq head (codes "pixels") then pixels_of words else (
-    if bytes_eq head (codes "digest") then digest_of words else
-    touch_by head words))))))))
-
--- a command by the first word of its line and the bytes after it: the spaces in a text count
+-- a command by the first word of its line and the bytes after it
 unfoldable pub command_in : List ℕ → List ℕ → Result PlainCommand LineFault
-command_in head rest =
-    if bytes_eq head (codes "res") then res_of rest else (
-    if bytes_eq head (codes "text") then set_text_of rest else
-    command_by head (words rest))
+command_in head rest = known (verb_named head) >>= λ verb. command_by verb rest
 
 -- the command of a line; bytes that are not valid UTF-8 give none
 unfoldable pub command_of : List ℕ → Result PlainCommand LineFault

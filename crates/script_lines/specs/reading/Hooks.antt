@@ -1,60 +1,44 @@
 -- The hook of a view: edits that are made once the view has another size.
-use Rattle.std.specs.Prelude.{ℕ, Bool, true, false, if◌then◌else◌, List, [], ◌∷◌, ◌++◌, map, take, drop, codes, Option}
+use Rattle.std.specs.Prelude.{ℕ, Bool, true, false, if◌then◌else◌, List, [], ◌++◌, map, take, drop, codes, Option}
 use Rattle.std.specs.Prelude.{Some, None, Result, Ok, Err}
 use Rattle.std.specs.List.{filter_map, list_any, slice_split}
 use Rattle.std.specs.Str.{bytes_eq}
 use Rattle.view_model.specs.Numbers.{max_edits}
-use Rattle.script_lines.specs.reading.Changes.{change_of}
-use Rattle.script_lines.specs.words.Names.{name_in}
+use Rattle.script_lines.specs.reading.Changes.{change_by}
+use Rattle.script_lines.specs.reading.Verbs.{change_named, verb_named}
+use Rattle.script_lines.specs.words.Names.{known, name_in}
 use Rattle.script_lines.specs.words.Words.{◌>>=◌, map_ok, word_in, words}
 use Rattle.script_lines.specs.declared.commands.Asked.{Asked}
 use Rattle.script_lines.specs.declared.fault.LineFault.{LineFault}
 use Rattle.script_lines.specs.declared.fault.LineFault.TheVariants.{Syntax, Range}
+use Rattle.script_lines.specs.declared.verbs.ChangeVerb.{ChangeVerb}
 
 -- `;`, which separates two edits
 abbrev pub parts_edits : List ℕ → Bool
 parts_edits word = bytes_eq word (codes ";")
 
--- the words with which lines of a script begin
-abbrev pub line_words : List (List ℕ)
-line_words =
-    codes "window" ∷ codes "dpi" ∷ codes "res" ∷ codes "inflate" ∷ codes "add" ∷ codes "remove"
-    ∷ codes "size" ∷ codes "min" ∷ codes "margins" ∷ codes "padding" ∷ codes "weight" ∷ codes "weightsum"
-    ∷ codes "gravity" ∷ codes "orient" ∷ codes "direction" ∷ codes "flag" ∷ codes "visible" ∷ codes "bg" ∷ codes "ink"
-    ∷ codes "text" ∷ codes "id" ∷ codes "rule" ∷ codes "answer" ∷ codes "intercept" ∷ codes "disallow"
-    ∷ codes "hook" ∷ codes "scroll" ∷ codes "down" ∷ codes "move" ∷ codes "up" ∷ codes "cancel"
-    ∷ codes "frame" ∷ codes "bounds" ∷ codes "pixels" ∷ codes "digest" ∷ codes "save" ∷ codes "restore" ∷ []
-
--- the words with which edits begin that a hook can make
-abbrev pub edit_words : List (List ℕ)
-edit_words =
-    codes "size" ∷ codes "min" ∷ codes "margins" ∷ codes "padding" ∷ codes "weight" ∷ codes "gravity" ∷ codes "bg" ∷ []
-
--- whether a line of the script begins with this word
-unfoldable pub begins_line : List ℕ → Bool
-begins_line word = list_any (λ name. bytes_eq name word) line_words
-
--- whether an edit that a hook can make begins with this word
-unfoldable pub begins_edit : List ℕ → Bool
-begins_edit word = list_any (λ name. bytes_eq name word) edit_words
-
 -- what an edit asks for, by its first word and the words after that: `V`, and what is changed of that view
-unfoldable pub asked_of : List ℕ → List (List ℕ) → Result Asked LineFault
-asked_of head words = do
+unfoldable pub asked_of : ChangeVerb → List (List ℕ) → Result Asked LineFault
+asked_of verb words = do
   view ← name_in words
-  map_ok (λ change. record { view = view.0; change = change }) (change_of head view.1)
+  map_ok (λ change. record { view = view.0; change = change }) (change_by verb view.1)
 
 -- an edit of which only the first word is read, that of some line: no hook can make it, so it asks for nothing
 unfoldable pub unmade_of : List (List ℕ) → Result (Option Asked) LineFault
 unmade_of edit = do
   head ← word_in edit
-  if begins_line head.0 then Ok None else Err Syntax
+  map_ok (λ _. None) (known (verb_named head.0))
+
+-- an edit, by what its first word changes and the words after that, if a hook can make it
+abbrev pub edit_by : List (List ℕ) → Option ChangeVerb → List (List ℕ) → Result (Option Asked) LineFault
+edit_by edit (Some verb) words = map_ok Some (asked_of verb words)
+edit_by edit None words = unmade_of edit
 
 -- an edit that is read to its end, if a hook can make it
 unfoldable pub edit_of : List (List ℕ) → Result (Option Asked) LineFault
 edit_of edit = do
   head ← word_in edit
-  if begins_edit head.0 then map_ok Some (asked_of head.0 head.1) else unmade_of edit
+  edit_by edit (change_named head.0) head.1
 
 -- edits one by one: n of them are read to their ends, if a hook can make them
 abbrev pub readings_of : ℕ → List (List (List ℕ)) → List (Result (Option Asked) LineFault)

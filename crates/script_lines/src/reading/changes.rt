@@ -1,13 +1,14 @@
 //! What a line sets of a view.
 
 ghost use Rattle.std.specs.Prelude.{◌≡◌, negsuc, ◌≤ℤ◌, IfOk};
-ghost use Rattle.script_lines.specs.reading.Changes.{IsActInBounds, IsChangeInBounds, act_of, answer_named, answer_of, background_of, begins_act, change_of, direction_named, direction_of, flag_named, flag_of, gravity_change_of, ink_of, insets_of, intercept_of, kids_of, margins_of, min_of, new_id_of, orient_of, padding_of, scroll_of, sides_of, size_of, vertical_of, visibility_of, visible_of, weight_change_of, weight_sum_of};
+ghost use Rattle.script_lines.specs.reading.Changes.{IsActInBounds, IsChangeInBounds, act_by, answer_named, answer_of, background_of, change_by, direction_named, direction_of, flag_named, flag_of, gravity_change_of, ink_of, insets_of, intercept_of, kids_of, margins_of, min_of, new_id_of, orient_of, padding_of, scroll_of, sides_of, size_of, vertical_of, visibility_of, visible_of, weight_change_of, weight_sum_of};
 ghost use Rattle.script_lines.specs.words.Numbers.{IsWithin};
 ghost use Rattle.script_lines.specs.words.Words.{words};
 
 use crate::fault::LineFault;
 use crate::reading::actions::read_actions;
 use crate::reading::rules::rule;
+use crate::verbs::{ActVerb, ChangeVerb};
 use crate::words::colors::last_color;
 use crate::words::dimension::extents;
 use crate::words::gravity::read_gravity;
@@ -143,34 +144,20 @@ fn background(bytes: &[u8]) -> Result<Change, LineFault>
     Ok(Change::Background(color))
 }
 
-/// A change by the first word of its line and what comes after the view.
-#[tactic(auto, unfolding(crate::specs::reading::Changes::change_of))]
-pub fn read_change(head: &[u8], bytes: &[u8]) -> Result<Change, LineFault>
-    ensures value { result ≡ change_of head.now (words bytes.now) }
+/// What is changed of a view, by what the first word of the line asks for and what comes after the view.
+pub fn read_change(verb: ChangeVerb, bytes: &[u8]) -> Result<Change, LineFault>
+    ensures value { result ≡ change_by verb (words bytes.now) }
     ensures bounds { IfOk result IsChangeInBounds }
 {
-    if is(head, b"size") {
-        return size(bytes);
+    match verb {
+        ChangeVerb::Size => size(bytes),
+        ChangeVerb::Min => min(bytes),
+        ChangeVerb::Margins => margins(bytes),
+        ChangeVerb::Padding => padding(bytes),
+        ChangeVerb::Weight => weight(bytes),
+        ChangeVerb::Gravity => gravity(bytes),
+        ChangeVerb::Background => background(bytes),
     }
-    if is(head, b"min") {
-        return min(bytes);
-    }
-    if is(head, b"margins") {
-        return margins(bytes);
-    }
-    if is(head, b"padding") {
-        return padding(bytes);
-    }
-    if is(head, b"weight") {
-        return weight(bytes);
-    }
-    if is(head, b"gravity") {
-        return gravity(bytes);
-    }
-    if is(head, b"bg") {
-        return background(bytes);
-    }
-    Err(LineFault::Syntax)
 }
 
 #[tactic(auto, unfolding(crate::specs::reading::Changes::visibility_of))]
@@ -354,64 +341,23 @@ fn direction(bytes: &[u8]) -> Result<Act, LineFault>
     Ok(Act::Direction(direction))
 }
 
-/// Whether a line begins with this word that sets something of a view which no hook can set.
-#[tactic(auto, unfolding(crate::specs::reading::Changes::begins_act))]
-#[inline]
-pub fn begins_act(word: &[u8]) -> bool
-    ensures { result ≡ begins_act word.now }
-{
-    is(b"visible", word)
-        || is(b"id", word)
-        || is(b"weightsum", word)
-        || is(b"orient", word)
-        || is(b"flag", word)
-        || is(b"direction", word)
-        || is(b"scroll", word)
-        || is(b"rule", word)
-        || is(b"ink", word)
-        || is(b"answer", word)
-        || is(b"intercept", word)
-}
-
-/// What a line sets, by its first word and what comes after the view.
-#[tactic(auto, unfolding(crate::specs::reading::Changes::act_of))]
-pub fn read_act(head: &[u8], bytes: &[u8]) -> Result<Act, LineFault>
-    ensures value { result ≡ act_of head.now (words bytes.now) }
+/// What is set of a view, by what the first word of the line asks for and what comes after the view.
+pub fn read_act(verb: ActVerb, bytes: &[u8]) -> Result<Act, LineFault>
+    ensures value { result ≡ act_by verb (words bytes.now) }
     ensures bounds { IfOk result IsActInBounds }
 {
-    if is(head, b"visible") {
-        return visible(bytes);
+    match verb {
+        ActVerb::Change(change) => Ok(Act::Change(read_change(change, bytes)?)),
+        ActVerb::WeightSum => weight_sum(bytes),
+        ActVerb::Orient => orient(bytes),
+        ActVerb::Direction => direction(bytes),
+        ActVerb::Flag => flag(bytes),
+        ActVerb::Visible => visible(bytes),
+        ActVerb::Ink => ink(bytes),
+        ActVerb::Id => new_id(bytes),
+        ActVerb::Rule => rule(bytes),
+        ActVerb::Answer => answer(bytes),
+        ActVerb::Intercept => intercept(bytes),
+        ActVerb::Scroll => scroll(bytes),
     }
-    if is(head, b"id") {
-        return new_id(bytes);
-    }
-    if is(head, b"weightsum") {
-        return weight_sum(bytes);
-    }
-    if is(head, b"orient") {
-        return orient(bytes);
-    }
-    if is(head, b"flag") {
-        return flag(bytes);
-    }
-    if is(head, b"direction") {
-        return direction(bytes);
-    }
-    if is(head, b"scroll") {
-        return scroll(bytes);
-    }
-    if is(head, b"rule") {
-        return rule(bytes);
-    }
-    if is(head, b"ink") {
-        return ink(bytes);
-    }
-    if is(head, b"answer") {
-        return answer(bytes);
-    }
-    if is(head, b"intercept") {
-        return intercept(bytes);
-    }
-    let change = read_change(head, bytes)?;
-    Ok(Act::Change(change))
 }

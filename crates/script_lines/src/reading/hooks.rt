@@ -1,13 +1,12 @@
 //! The hook of a view: edits that are made once the view has another size.
 
 ghost use Rattle.std.specs.Prelude.{◌≡◌, ◌≤◌, ◌+◌, ◌∷◌, [], ℕ, List, false, IfOk, IfSome, None};
-ghost use Rattle.std.specs.List.{All, list_any};
-ghost use Rattle.std.specs.Str.{bytes_eq};
+ghost use Rattle.std.specs.List.{All};
 ghost use Rattle.arrayvec.specs.ArrayVec.{array_vec_len};
 ghost use Rattle.script_lines.specs.reading.Changes.{IsChangeInBounds};
 ghost use Rattle.script_lines.specs.reading.Commands.{IsInBounds, hook_of};
 ghost use Rattle.script_lines.specs.reading.Gathered.{following, edits_after, edits_in, reading_of};
-ghost use Rattle.script_lines.specs.reading.Hooks.{asked_of, begins_edit, begins_line, edit_of, edits_of, edits_written, unmade_of};
+ghost use Rattle.script_lines.specs.reading.Hooks.{asked_of, edit_of, edits_of, edits_written, unmade_of};
 ghost use Rattle.script_lines.specs.commands.PlainCommands.{plain_command};
 ghost use Rattle.script_lines.specs.words.Words.{map_ok, words};
 ghost use Rattle.view_model.specs.Numbers.{max_edits};
@@ -16,90 +15,20 @@ use crate::commands::{Asked, Command};
 use crate::fault::LineFault;
 use crate::reading::changes::read_change;
 use crate::reading::parting::first_edit;
+use crate::verbs::{ChangeVerb, named_change, named_verb};
 use crate::words::naming::name_word;
-use crate::words::{is, word};
+use crate::words::word;
 use arrayvec::ArrayVec;
 use view_model::limits::MAX_EDITS;
 
-/// The words with which lines of the script begin.
-pub const LINE_WORDS: [&str; 37] = [
-    "window",
-    "dpi",
-    "res",
-    "inflate",
-    "add",
-    "remove",
-    "size",
-    "min",
-    "margins",
-    "padding",
-    "weight",
-    "weightsum",
-    "gravity",
-    "orient",
-    "direction",
-    "flag",
-    "visible",
-    "bg",
-    "ink",
-    "text",
-    "id",
-    "rule",
-    "answer",
-    "intercept",
-    "disallow",
-    "hook",
-    "scroll",
-    "down",
-    "move",
-    "up",
-    "cancel",
-    "frame",
-    "bounds",
-    "pixels",
-    "digest",
-    "save",
-    "restore",
-];
-
-/// Whether a word is among these.
-fn is_among(names: &[&str], word: &[u8]) -> bool
-    ensures { result ≡ list_any (λ name. bytes_eq name.now word.now) names.now }
-{
-    names.iter().any(|name| name.as_bytes() == word)
-}
-
-/// Whether a line of the script begins with this word.
-#[tactic(auto, unfolding(crate::specs::reading::Hooks::begins_line))]
-fn begins_line(word: &[u8]) -> bool
-    ensures { result ≡ begins_line word.now }
-{
-    is_among(&LINE_WORDS, word)
-}
-
-/// Whether an edit that a hook can make begins with this word.
-#[tactic(auto, unfolding(crate::specs::reading::Hooks::begins_edit))]
-#[inline]
-pub fn begins_edit(word: &[u8]) -> bool
-    ensures { result ≡ begins_edit word.now }
-{
-    is(b"size", word)
-        || is(b"min", word)
-        || is(b"margins", word)
-        || is(b"padding", word)
-        || is(b"weight", word)
-        || is(b"gravity", word)
-        || is(b"bg", word)
-}
-
-/// What an edit asks for, by its first word and what comes after that.
+/// What an edit asks for, by what its first word asks for and what comes after that word.
 #[tactic(auto, unfolding(crate::specs::reading::Hooks::asked_of))]
-pub fn read_asked(head: &[u8], bytes: &[u8]) -> Result<Asked, LineFault>
-    ensures value { result ≡ asked_of head.now (words bytes.now) }
+fn read_asked(verb: ChangeVerb, bytes: &[u8]) -> Result<Asked, LineFault>
+    ensures value { result ≡ asked_of verb (words bytes.now) }
     ensures bounds { IfOk result (λ asked. IsChangeInBounds asked.change) }
 {
     let (view, rest) = name_word(bytes)?;
-    let change = read_change(head, rest)?;
+    let change = read_change(verb, rest)?;
     Ok(Asked { view, change })
 }
 
@@ -110,10 +39,10 @@ fn read_unmade(bytes: &[u8]) -> Result<Option<Asked>, LineFault>
     ensures none { IfOk result (λ asked. asked ≡ None) }
 {
     let (head, _) = word(bytes)?;
-    if begins_line(head) {
-        return Ok(None);
+    match named_verb(head) {
+        Some(_) => Ok(None),
+        None => Err(LineFault::Syntax),
     }
-    Err(LineFault::Syntax)
 }
 
 /// An edit that is read to its end, if a hook can make it; `None` if no hook can.
@@ -123,10 +52,10 @@ fn read_edit(bytes: &[u8]) -> Result<Option<Asked>, LineFault>
     ensures bounds { IfOk result (λ asked. IfSome asked (λ asked. IsChangeInBounds asked.change)) }
 {
     let (head, rest) = word(bytes)?;
-    if begins_edit(head) {
-        return Ok(Some(read_asked(head, rest)?));
+    match named_change(head) {
+        Some(verb) => Ok(Some(read_asked(verb, rest)?)),
+        None => read_unmade(bytes),
     }
-    read_unmade(bytes)
 }
 
 /// The next edit, if `count` more are read to their ends.

@@ -40,6 +40,7 @@ fn part(x: i64, y: i64, w: i64, h: i64) -> Result<Command<'static>, LineFault>
     Ok(Command::Pixels { x, y, w, h })
 }
 
+#[inline(never)]
 #[tactic(auto, unfolding(crate::specs::reading::Pixels::pixels_of))]
 pub fn pixels(bytes: &[u8]) -> Result<Command<'_>, LineFault>
     ensures value { map_ok plain_command result ≡ pixels_of (words bytes.now) }

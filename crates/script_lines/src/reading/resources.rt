@@ -156,6 +156,7 @@ fn resource_id(id: u32) -> Result<u32, LineFault>
 }
 
 /// A line that defines a resource, or gives it another value.
+#[inline(never)]
 #[tactic(auto, unfolding(crate::specs::reading::Resources::res_of))]
 pub fn res(bytes: &[u8]) -> Result<Command<'_>, LineFault>
     ensures value { map_ok plain_command result ≡ res_of bytes.now }

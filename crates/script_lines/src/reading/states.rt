@@ -42,6 +42,7 @@ fn read_state_text(word: &[u8]) -> Result<&str, LineFault>
 }
 
 /// Restores the saved state, or one that the line writes.
+#[inline(never)]
 #[tactic(auto, unfolding(crate::specs::reading::States::restore_of))]
 pub fn restore(bytes: &[u8]) -> Result<Command<'_>, LineFault>
     ensures value { map_ok plain_command result ≡ restore_of (words bytes.now) }

@@ -47,6 +47,7 @@ pub fn read_touch(bytes: &[u8]) -> Result<Touch, LineFault>
 }
 
 /// A pointer goes down.
+#[inline(never)]
 pub fn down(bytes: &[u8]) -> Result<Command<'_>, LineFault>
     ensures value { map_ok plain_command result ≡ down_of (words bytes.now) }
     ensures bounds { IfOk result (λ command. IsInBounds (plain_command command)) }
@@ -60,6 +61,7 @@ pub fn down(bytes: &[u8]) -> Result<Command<'_>, LineFault>
 }
 
 /// A pointer moves.
+#[inline(never)]
 pub fn moved(bytes: &[u8]) -> Result<Command<'_>, LineFault>
     ensures value { map_ok plain_command result ≡ move_of (words bytes.now) }
     ensures bounds { IfOk result (λ command. IsInBounds (plain_command command)) }
@@ -73,6 +75,7 @@ pub fn moved(bytes: &[u8]) -> Result<Command<'_>, LineFault>
 }
 
 /// A pointer goes up.
+#[inline(never)]
 #[tactic(auto, unfolding(crate::specs::reading::Touches::up_of))]
 pub fn up(bytes: &[u8]) -> Result<Command<'_>, LineFault>
     ensures value { map_ok plain_command result ≡ up_of (words bytes.now) }
