@@ -6,6 +6,7 @@ import time
 from typing import Any, Dict, List
 
 import chromium
+import contrast
 import golden
 from running import Checks, Skipped
 from tools import RED, UNSETTLED, WITHOUT, place, unlike
@@ -172,6 +173,8 @@ def shows() -> str:
                 why = is_shown(browser) or keeps_its_place(browser)
                 if browser.value("document.documentElement.scrollWidth > innerWidth"):
                     why = why or "it is wider than the window"
+                faint = contrast.faint(browser)
+                why = why or ("too little contrast: %s" % faint if faint else "")
                 dark = browser.value("getComputedStyle(document.body).backgroundColor")
                 if (dark == "rgb(15, 19, 24)") != is_dark:
                     why = why or "its background is %s" % dark

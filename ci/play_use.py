@@ -7,6 +7,7 @@ import os
 from typing import List, Tuple
 
 import chromium
+import contrast
 from playing import PATIENCE, Case, after, first_difference, given, middle, opened, text, texts
 from running import TOP, Checks, named
 from vindaesk.common import files
@@ -29,38 +30,6 @@ FOCUSED = """(() => {
     const name = it.id || it.name || it.getAttribute('aria-label') || it.textContent.slice(0, 20);
     const isInside = box.bottom > 0 && box.top < innerHeight && box.right > 0 && box.left < innerWidth;
     return [name, isSeen && isInside, box.top + scrollY];
-})()"""
-# the ratios of contrast that are too small: of texts below 4.5, of what bounds controls below 3
-FAINT = """(() => {
-    const parts = (text) => { const found = text.match(/[0-9.]+/g).map(Number); return found.length > 3 ? found : [...found, 1]; };
-    const over = (top, under) => under.map((it, k) => k < 3 ? top[k] * top[3] + it * (1 - top[3]) : 1);
-    const light = (it) => it.slice(0, 3).map(it => it / 255).map(it => it <= .04045 ? it / 12.92 : ((it + .055) / 1.055) ** 2.4)
-        .reduce((sum, it, k) => sum + it * [.2126, .7152, .0722][k], 0);
-    const ratio = (one, other) => { const all = [light(one), light(other)]; return (Math.max(...all) + .05) / (Math.min(...all) + .05); };
-    const backOf = (it) => {
-        const under = it.parentElement ? backOf(it.parentElement) : [255, 255, 255, 1];
-        return over(parts(getComputedStyle(it).backgroundColor), under);
-    };
-    const found = [], shown = [...document.querySelectorAll('body, body *')].filter(it => it.getClientRects().length);
-    const note = (what, it, number, least) => { if (number < least) found.push(`${what} ${it.id || it.tagName}: ${number.toFixed(2)}`); };
-    for (const it of shown.filter(it => [...it.childNodes].some(it => it.nodeType === 3 && it.data.trim()))) {
-        const colour = parts(getComputedStyle(it).color), back = backOf(it);
-        if (colour[3] > 0) note('text', it, ratio(over(colour, back), back), 4.5);
-    }
-    const field = parts(getComputedStyle(document.getElementById('script')).color);
-    for (const it of document.querySelectorAll('#back .wrong')) note('script', it, ratio(field, backOf(it)), 4.5);
-    for (const it of shown.filter(it => it.matches('button, select, .button, #editor, input[readonly]'))) {
-        const style = getComputedStyle(it), back = backOf(it.parentElement);
-        if (style.borderTopWidth !== '0px') note('edge', it, ratio(over(parts(style.borderTopColor), back), back), 3);
-    }
-    const ring = document.createElement('i');
-    ring.style.color = 'var(--chosen)';
-    for (const it of document.querySelectorAll('body, section')) {
-        it.append(ring);
-        note('focus', it, ratio(parts(getComputedStyle(ring).color), backOf(it)), 3);
-    }
-    ring.remove();
-    return [shown.length > 40, found];
 })()"""
 UNNAMED = ("[...document.querySelectorAll('button, input, select, textarea, ul, ol, [role=tree], [tabindex=\"0\"]:not(li)')]"
            ".filter(it => !it.ariaLabel && !it.textContent.trim() && !it.getAttribute('aria-labelledby') && !it.hidden && "
@@ -309,10 +278,9 @@ def can_be_read() -> str:
                 given(browser, Case(script.encode(), {"a-name-that-is-rather-long-%s.xml" % ("x" * 30): b""}, form))
                 browser.value("(document.querySelectorAll('#tree li')[1] || document.body).click()")
                 browser.value("document.querySelector('details').open = true")
-                shown, faint = browser.value(FAINT)
-                found = [shown, faint, browser.value("document.documentElement.scrollWidth > innerWidth"), browser.value(SMALL),
+                found = [contrast.faint(browser), browser.value("document.documentElement.scrollWidth > innerWidth"), browser.value(SMALL),
                          browser.value(UNNAMED), browser.value("getComputedStyle(document.body).backgroundColor") == "rgb(15, 19, 24)"]
-                why = first_difference(list(zip(found, [True, [], False, [], [], is_dark])))
+                why = first_difference(list(zip(found, [[], False, [], [], is_dark])))
                 if why:
                     return "%d pixels wide, %s, %s: %s" % (width, "dark" if is_dark else "light", form, why)
     return ""

@@ -13,6 +13,7 @@ import time
 from typing import Any, Callable, Dict, Iterator, List, NamedTuple, Optional, Tuple
 
 import chromium
+import contrast
 from running import SECONDS, Checks, Skipped, named
 from tools import EXAMPLES, Place, place
 from vindaesk.pictures import png
@@ -777,6 +778,9 @@ def looks(browser: chromium.Browser, is_dark: bool) -> str:
     """What is wrong with how the page fits its window."""
     if browser.value("document.documentElement.scrollWidth > innerWidth"):
         return "it is wider than the window"
+    faint = contrast.faint(browser)
+    if faint:
+        return "too little contrast: %s" % faint
     back = browser.value("getComputedStyle(document.body).backgroundColor")
     if (back == "rgb(15, 19, 24)") != is_dark:
         return "its background is %s" % back
