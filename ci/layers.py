@@ -3,13 +3,13 @@ first sentence of each root file. `ci/promises` writes them; the checks compare 
 import html
 import os
 import re
-from typing import Dict, Iterator, List, Tuple
+from typing import Dict, Iterator, List, NamedTuple, Tuple
 
 from public_calls import crates
 from running import TOP, Checks
 
 PAGE = os.path.join(TOP, "docs", "ARCHITECTURE.md")
-DRAWING = os.path.join(TOP, "docs", "pictures", "layers.svg")
+PICTURES = os.path.join(TOP, "docs", "pictures")
 BEGIN, END = "<!-- ci/promises: crates -->\n", "<!-- end -->\n"
 # from the top of the drawing down
 MEANING = {
@@ -24,8 +24,22 @@ WAY = ("view_tool", "tool_io", "whole_tool", "script_lines", "view_world", "seen
        "measure_pass", "linear_layout", "tree_painter", "pixel_raster", "text_lines")
 # the most words of a sentence that the table has whole, and the least of the part of a longer one
 LONG, ENOUGH = 12, 4
-# of the drawing, in pixels
-WIDTH, MARGIN, LEFT, BOX, GAP, ROW, LEAST = 960, 12, 190, 22, 6, 30, 58
+# of a drawing, in pixels
+MARGIN, BOX, GAP, ROW, LEAST = 12, 22, 6, 30, 58
+
+
+class Shape(NamedTuple):
+    """How wide a drawing is, where boxes begin, how far below the top of their layer, and how many letters a line of
+    what the layer is for has."""
+
+    width: int
+    left: int
+    head: int
+    letters: int
+
+
+# on a telephone, of 360 pixels with the margins of a page, letters of the narrow one have their size
+SHAPES = {"layers.svg": Shape(960, 190, 10, 27), "layers_narrow.svg": Shape(328, 18, 46, 60)}
 
 
 def used() -> Dict[str, List[str]]:
@@ -77,39 +91,39 @@ def label(crate: str) -> str:
     return "%d %s" % (WAY.index(crate) + 1, crate) if crate in WAY else crate
 
 
-def placed(members: List[str]) -> Iterator[Tuple[str, int, int, int]]:
+def placed(members: List[str], shape: Shape) -> Iterator[Tuple[str, int, int, int]]:
     """Each crate of a layer with the left edge, the row and the width of its box."""
-    left, row = LEFT, 0
+    left, row = shape.left, 0
     for crate in members:
         width = 16 + 7 * len(label(crate))
-        if left + width > WIDTH - 2 * MARGIN:
-            left, row = LEFT, row + 1
+        if left + width > shape.width - MARGIN - GAP:
+            left, row = shape.left, row + 1
         yield crate, left, row, width
         left += width + GAP
 
 
-def drawing() -> str:
+def drawing(shape: Shape) -> str:
     """The layers as a picture: a band a layer, a box a crate, and numbers at the boxes which a line passes."""
     parts: List[str] = []
     top = MARGIN
     for layer, members in layers().items():
-        boxes = list(placed(members))
-        height = max((max(row for _, _, row, _ in boxes) + 1) * ROW + 14, LEAST)
-        parts.append('<rect class="layer" x="%d" y="%d" width="%d" height="%d"/>' % (MARGIN, top, WIDTH - 2 * MARGIN, height))
+        boxes = list(placed(members, shape))
+        height = max((max(row for _, _, row, _ in boxes) + 1) * ROW + shape.head + 4, LEAST)
+        parts.append('<rect class="layer" x="%d" y="%d" width="%d" height="%d"/>' % (MARGIN, top, shape.width - 2 * MARGIN, height))
         parts.append('<text class="name" x="%d" y="%d">%s</text>' % (MARGIN + 10, top + 22, layer))
         parts += ['<text class="what" x="%d" y="%d">%s</text>' % (MARGIN + 10, top + 37 + 13 * number, html.escape(line))
-                  for number, line in enumerate(wrapped(MEANING[layer]))]
+                  for number, line in enumerate(wrapped(MEANING[layer], shape.letters))]
         for crate, left, row, width in boxes:
-            y = top + 10 + row * ROW
+            y = top + shape.head + row * ROW
             kind = "way" if crate in WAY else "crate"
             parts.append('<rect class="%s" x="%d" y="%d" width="%d" height="%d" rx="3"/>' % (kind, left, y, width, BOX))
             parts.append('<text class="box" x="%d" y="%d">%s</text>' % (left + 8, y + 15, label(crate)))
         top += height + 8
-    size = (WIDTH, top + MARGIN - 8)
+    size = (shape.width, top + MARGIN - 8)
     return SVG % (*size, *size, "\n".join(parts))
 
 
-def wrapped(text: str, most: int = 27) -> List[str]:
+def wrapped(text: str, most: int) -> List[str]:
     lines = [""]
     for word in text.split():
         if len(lines[-1]) + len(word) >= most:
@@ -143,8 +157,9 @@ def write() -> None:
         text = file.read()
     with open(PAGE, "w", encoding="utf-8") as file:
         file.write(with_table(text))
-    with open(DRAWING, "w", encoding="utf-8") as file:
-        file.write(drawing())
+    for name, shape in SHAPES.items():
+        with open(os.path.join(PICTURES, name), "w", encoding="utf-8") as file:
+            file.write(drawing(shape))
 
 
 def each_is_in_one_layer() -> str:
@@ -160,11 +175,28 @@ def each_is_in_one_layer() -> str:
 def is_fresh() -> str:
     with open(PAGE, encoding="utf-8") as file:
         text = file.read()
-    with open(DRAWING, encoding="utf-8") as file:
-        is_drawn = file.read() == drawing()
-    return "" if with_table(text) == text and is_drawn else "docs/ARCHITECTURE.md or its drawing is not of the sources: run ci/promises"
+    if with_table(text) != text:
+        return "docs/ARCHITECTURE.md is not of the sources: run ci/promises"
+    for name, shape in SHAPES.items():
+        with open(os.path.join(PICTURES, name), encoding="utf-8") as file:
+            if file.read() != drawing(shape):
+                return "docs/pictures/%s is not of the sources: run ci/promises" % name
+    return ""
+
+
+def boxes_fit() -> str:
+    """Each box of a drawing lies within its layer, beside the others."""
+    for name, shape in SHAPES.items():
+        for members in layers().values():
+            ends: Dict[int, int] = {}
+            for crate, left, row, width in placed(members, shape):
+                if left < max(shape.left, ends.get(row, 0)) or left + width > shape.width - MARGIN:
+                    return "%s: the box of %s" % (name, crate)
+                ends[row] = left + width
+    return ""
 
 
 def checks() -> Checks:
     yield "layers: each crate is in one, and uses none of a higher one", each_is_in_one_layer
-    yield "layers: table and drawing of docs/ARCHITECTURE.md are of the sources", is_fresh
+    yield "layers: table and drawings of docs/ARCHITECTURE.md are of the sources", is_fresh
+    yield "layers: boxes of the drawings fit", boxes_fit
