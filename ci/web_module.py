@@ -14,7 +14,9 @@ from typing import Callable, Dict, List, Tuple, cast
 import chromium
 import native
 from running import PROGRAM, SECONDS, TOP, Checks, Skipped, difference, need, run
+from vindaesk.building import library, web_module
 from vindaesk.common import files
+from vindaesk.common.failures import Failure
 from vindaesk.program import in_process
 from vindaesk.program.native import Answer
 from vindaesk.provenance import dist
@@ -142,6 +144,34 @@ def first_unlike(found: List[int], wanted: List[int]) -> str:
     return next(("%d bytes in place of %d" % pair for pair in zip(found, wanted) if pair[0] != pair[1]), "")
 
 
+def links_alike() -> str:
+    """Why a module in LLVM's language does not become the same bytes in two folders, or nothing."""
+    need("rt")
+    try:
+        web_module.numbers()
+    except Failure as failure:
+        raise Skipped(str(failure))
+    made = []
+    with tempfile.TemporaryDirectory() as place:
+        for name in ("a", os.path.join("another folder", "of-another-name")):
+            folder = os.path.join(place, name)
+            os.makedirs(folder)
+            files.replace(os.path.join(folder, "kept.ll"), written_module().encode())
+            web_module.link(os.path.join(folder, "kept.ll"), os.path.join(folder, "made.wasm"), folder)
+            made.append(files.read(os.path.join(folder, "made.wasm")))
+    return "" if made[0] == made[1] and made[0].startswith(b"\0asm") else "%d and %d bytes" % (len(made[0]), len(made[1]))
+
+
+def written_module() -> str:
+    """A module as the kit has it for x86-64, in which each call that is exported divides numbers of 128 bits."""
+    lines = ['target datalayout = "e-m:e-p270:32:32-p271:32:32-p272:64:64-i64:64-i128:128-f80:128-n8:16:32:64-S128"',
+             'target triple = "x86_64-unknown-linux-gnu"']
+    lines += ["define i8 @%s(i128 %%a, i128 %%b) #0 {\n%%c = udiv i128 %%a, %%b\n%%d = trunc i128 %%c to i8\nret i8 %%d\n}" % it
+              for it in library.exported()]
+    lines.append('attributes #0 = { nounwind "probe-stack"="inline-asm" "stack-probe-size"="4096" "target-cpu"="x86-64-v2" }')
+    return "\n".join(lines) + "\n"
+
+
 def statuses() -> str:
     """Statuses that no worked call has."""
     calls: List[Call] = [{"words": words, "script": text(script), "files": {}} for words, script in (
@@ -156,3 +186,4 @@ def checks() -> Checks:
     yield "web module/statuses", statuses
     yield "web module/memory stays", memory_stays
     yield "web module/lines take little", takes_little
+    yield "web module/links alike in two folders", links_alike
