@@ -28,6 +28,6 @@ def say(sentence: str) -> None:
     """Writes a sentence on standard error, after the tool's name. Where that is closed, the sentence is lost."""
     try:
         progress.clear()
-        print("%s: %s" % (os.path.basename(sys.argv[0]), printable(sentence)), file=sys.stderr)
+        print("%s: %s" % (os.path.basename(sys.argv[0]), printable(sentence)), file=sys.stderr, flush=True)
     except OSError:
         return
