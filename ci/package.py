@@ -54,18 +54,21 @@ def says_nothing(command: str, words: Sequence[str], **variables: str) -> str:
     return ended.stdout.decode("utf-8", "replace")[-2000:] if ended.returncode else ""
 
 
-def types_of_checks() -> str:
-    """What `mypy` finds in ci/, where it finds the types of pytest."""
+def types() -> str:
+    """What `mypy` finds in the tools and in ci/, which uses them: one run reads each module once. Where it does not find
+    the types of pytest, ci/ is passed over."""
     need("mypy")
-    if subprocess.run([PYTHON_OF_MYPY, "-c", "import pytest"], stderr=subprocess.DEVNULL).returncode:
+    has_pytest = subprocess.run([PYTHON_OF_MYPY, "-c", "import pytest"], stderr=subprocess.DEVNULL).returncode == 0
+    paths = ["tools/vindaesk", "tools/entry.py"]
+    if has_pytest:
+        paths += [os.path.relpath(it, TOP) for it in glob.glob(os.path.join(TOP, "ci", "**", "*.py"), recursive=True)]
+    why = says_nothing("mypy", [*MYPY, "--cache-dir", "out/mypy", *paths], MYPYPATH="tools:ci")
+    if not why and not has_pytest:
         raise Skipped(PYTEST)
-    paths = [os.path.relpath(it, TOP) for it in glob.glob(os.path.join(TOP, "ci", "**", "*.py"), recursive=True)]
-    return says_nothing("mypy", [*MYPY, "--cache-dir", "out/mypy-ci", *paths], MYPYPATH="tools:ci")
+    return why
 
 
 def checks() -> Checks:
     yield "package: each subpackage uses those below it alone", wrong_way
-    paths = ["--cache-dir", "out/mypy", "tools/vindaesk", "tools/entry.py"]
-    yield "package: mypy", partial(says_nothing, "mypy", [*MYPY, *paths])
-    yield "package: mypy of ci/", types_of_checks
+    yield "package: mypy", types
     yield "package: pyflakes3", partial(says_nothing, "pyflakes3", ["setup.py", "tools", "ci", "bench"])
