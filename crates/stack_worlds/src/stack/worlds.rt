@@ -87,7 +87,7 @@ impl Stack {
         let Some(world) = &mut self.worlds[usize::from(given.k)] else {
             return Ok(());
         };
-        world.line(alloc, given.command, shelf, sink, work)
+        world.carry(alloc, &given.command, shelf, sink, work)
     }
 
     /// The world of a window, if it is open.

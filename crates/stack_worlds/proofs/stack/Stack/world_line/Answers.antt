@@ -44,8 +44,8 @@ returns-in_default g c =
       sink_failed = refl;
     }
 
-pub line-requires-clause-numbers : goal.line-requires-clause-numbers
-line-requires-clause-numbers g c =
+pub carry-requires-clause-numbers : goal.carry-requires-clause-numbers
+carry-requires-clause-numbers g c =
     let k = c.args.given.k in
     let at : kept_world (get_or c.self.inside.worlds c.from.result c.index-self-from.result) ≡ keyed_at c.args.self.now k =
     place_is c.self.inside.panes c.self.inside.worlds c.args.given.k c.from.result c.index-self-from.result c.from.ensures c.requires.name c.self.invariant ∙ ap (λ (s : KeyedStack). keyed_at s k) c.self.view_is in
@@ -60,8 +60,8 @@ pub returns : goal.returns
 returns g c =
     let said = plain_command c.args.given.command in
     let k = c.args.given.k in
-    let new = c.line.new.self in
-    let ens = c.line.ensures in
+    let new = c.carry.new.self in
+    let ens = c.carry.ensures in
     let at : kept_world (get_or c.self.inside.worlds c.from.result c.index-self-from.result) ≡ keyed_at c.args.self.now k =
     place_is c.self.inside.panes c.self.inside.worlds c.args.given.k c.from.result c.index-self-from.result c.from.ensures c.requires.name c.self.invariant ∙ ap (λ (s : KeyedStack). keyed_at s k) c.self.view_is in
     let held : keyed_at c.args.self.now k ≡ Some c.in-Some.world.value = sym at ∙ ap kept_world c.in-Some.is in
@@ -73,13 +73,13 @@ returns g c =
       carried = λ files world e at_hand. (
         new,
         left,
-        subst (λ (w : KeyedWorld). WritesReply (step files (world_of w) said) (world_of new) (g.K.Sink.state c.args.sink.now) (g.K.Sink.state c.line.new.sink) c.line.result) (same world e)
+        subst (λ (w : KeyedWorld). WritesReply (step files (world_of w) said) (world_of new) (g.K.Sink.state c.args.sink.now) (g.K.Sink.state c.carry.new.sink) c.carry.result) (same world e)
             (ens.carried files (hand files world e at_hand)),
       );
       works = λ world e. (
         new,
         ap (λ (s : KeyedStack). s.worlds) left,
-        subst (λ (w : KeyedWorld). WorksIn w new said c.line.result c.args.work.now c.line.new.work) (same world e) (record {
+        subst (λ (w : KeyedWorld). WorksIn w new said c.carry.result c.args.work.now c.carry.new.work) (same world e) (record {
           numbers = ens.numbers;
           work = ens.work;
           idle = ens.idle;
@@ -103,7 +103,7 @@ returns g c =
         | inl done ↦ inl done
         | inr kept ↦ inr (place_same c.self.inside.panes c.self.inside.worlds c.args.given.k c.from.result c.index-self-from.result _ c.from.ensures c.requires.name c.self.invariant (ap Some (kept.0 ∙ c.deref_mut.ensures.value) ∙ sym (ap kept_world c.in-Some.is)) ∙ c.self.view_is, kept.1)
       ];
-      shelf = subst (λ (name : Option (List ℕ)). AsksShelf g.F.Shelf.files g.F.Shelf.fetches g.F.Shelf.faults name c.line.result c.args.shelf.now c.line.new.shelf) file (record {
+      shelf = subst (λ (name : Option (List ℕ)). AsksShelf g.F.Shelf.files g.F.Shelf.fetches g.F.Shelf.faults name c.carry.result c.args.shelf.now c.carry.new.shelf) file (record {
         files_stay = ens.files_stay;
         unasked = ens.unasked;
         fetched = ens.fetched;
