@@ -2,6 +2,7 @@
 use Rattle.std.specs.Prelude.{ℕ, ◌==◌, Bool, false, ◌&&◌, ◌||◌, not, if◌then◌else◌, List, [], ◌∷◌, Option, Some, None}
 use Rattle.std.specs.Prelude.{map, filter}
 use Rattle.std.specs.List.{list_any, range_with_len}
+use Rattle.touch_event.specs.Numbers.{max_pointers}
 
 -- a child that gets what these pointers do
 pub record Target : Type 0 where
@@ -40,9 +41,9 @@ with_ids ids target = record target { ids = λ id. target.ids id || ids id }
 abbrev pub without_ids : (ℕ → Bool) → Target → Target
 without_ids ids target = record target { ids = λ id. target.ids id && not (ids id) }
 
--- a pointer is in the set; there is none from 32 on
+-- a pointer is in the set
 abbrev pub has_any : (ℕ → Bool) → Bool
-has_any ids = list_any ids (range_with_len 0 32)
+has_any ids = list_any ids (range_with_len 0 max_pointers)
 
 -- a child gets these pointers too; if it was no target, it is the newest now
 abbrev pub put_target : ℕ → (ℕ → Bool) → List Target → List Target

@@ -4,6 +4,7 @@ use Rattle.std.specs.Prelude.{◌∷◌, ◌++◌, Option, Some, None, option_ma
 use Rattle.std.specs.List.{last_or, list_any}
 use Rattle.slab.specs.Slab.{Slab, get}
 use Rattle.slab_link.specs.Numbers.{links_end}
+use Rattle.touch_event.specs.Numbers.{max_pointers}
 use Rattle.touch_targets.specs.Seats.{Caught, mask_without}
 use Rattle.touch_targets.specs.declared.node.Node.{Node}
 
@@ -59,7 +60,7 @@ pub record IsLinked (at : ℕ → Option Node) (places : ℕ → List ℕ) : Typ
       → IsSome (at group) × (has_place place (places group) ≡ true)
   pub free : (place : ℕ) (node : Node) → at place ≡ Some node → node.group ≡ None → (node.next ≡ None) × (node.ids ≡ 0)
   pub held : (place group : ℕ) (node : Node) → at place ≡ Some node → node.group ≡ Some group → node.ids ≢ 0
-  pub fits : (place : ℕ) (node : Node) → at place ≡ Some node → node.ids < 2 ^ 32
+  pub fits : (place : ℕ) (node : Node) → at place ≡ Some node → node.ids < 2 ^ max_pointers
   pub small : (place : ℕ) (node : Node) → at place ≡ Some node → place < links_end
   pub single : (place other : ℕ) (node its : Node) → at place ≡ Some node → at other ≡ Some its → node.view ≡ its.view
       → place ≡ other

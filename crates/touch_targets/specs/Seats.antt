@@ -3,6 +3,7 @@ use Rattle.std.specs.Prelude.{ℕ, ◌==◌, ◌^◌, ◌-◌, Bool, not, if◌t
 use Rattle.std.specs.Prelude.{Some, None, filter, find, map, refl}
 use Rattle.std.specs.Coded.{Coded, code_by, coded×, coded_ℕ, coded_list}
 use Rattle.std.specs.List.{list_any}
+use Rattle.touch_event.specs.Numbers.{max_pointers}
 use Rattle.touch_event.specs.PointerSets.{has_id}
 use Rattle.touch_targets.specs.Captures.{Target}
 
@@ -42,7 +43,7 @@ unfoldable pub mask_with : ℕ → ℕ → ℕ
 mask_with ids more = bit_or ids more
 
 unfoldable pub mask_without : ℕ → ℕ → ℕ
-mask_without ids others = bit_and ids (2 ^ 32 - 1 - others)
+mask_without ids others = bit_and ids (2 ^ max_pointers - 1 - others)
 
 abbrev pub is_caught : ℕ → List Caught → Bool
 is_caught child caught = list_any (λ (c : Caught). c.child == child) caught
