@@ -1,6 +1,7 @@
 -- The attributes that are known: the name of each, what its value may be and what it sets.
 use Rattle.std.specs.Prelude.{ℕ, pos, List, [], ◌∷◌, codes}
 use Rattle.view_model.specs.Numbers.{max_inset, max_size, min_margin}
+use Rattle.view_model.specs.Verbs as verb
 use Rattle.attr_table.specs.declared.table.Side.TheVariants as side
 use Rattle.attr_table.specs.declared.table.Slot.{Slot}
 use Rattle.attr_table.specs.declared.table.Slot.TheVariants as slot
@@ -72,25 +73,25 @@ attributes =
     ∷ known (codes "clipToPadding") takes.Boolean slot.Clip
     ∷ known (codes "fillViewport") takes.Boolean slot.Fill
     ∷ known (codes "splitMotionEvents") takes.Boolean slot.Split
-    ∷ known (codes "layout_toLeftOf") takes.Reference (slot.Rule 0)
-    ∷ known (codes "layout_toRightOf") takes.Reference (slot.Rule 1)
-    ∷ known (codes "layout_above") takes.Reference (slot.Rule 2)
-    ∷ known (codes "layout_below") takes.Reference (slot.Rule 3)
-    ∷ known (codes "layout_alignLeft") takes.Reference (slot.Rule 4)
-    ∷ known (codes "layout_alignTop") takes.Reference (slot.Rule 5)
-    ∷ known (codes "layout_alignRight") takes.Reference (slot.Rule 6)
-    ∷ known (codes "layout_alignBottom") takes.Reference (slot.Rule 7)
-    ∷ known (codes "layout_toStartOf") takes.Reference (slot.Rule 8)
-    ∷ known (codes "layout_toEndOf") takes.Reference (slot.Rule 9)
-    ∷ known (codes "layout_alignStart") takes.Reference (slot.Rule 10)
-    ∷ known (codes "layout_alignEnd") takes.Reference (slot.Rule 11)
-    ∷ known (codes "layout_alignParentLeft") takes.Boolean (slot.Rule 12)
-    ∷ known (codes "layout_alignParentTop") takes.Boolean (slot.Rule 13)
-    ∷ known (codes "layout_alignParentRight") takes.Boolean (slot.Rule 14)
-    ∷ known (codes "layout_alignParentBottom") takes.Boolean (slot.Rule 15)
-    ∷ known (codes "layout_alignParentStart") takes.Boolean (slot.Rule 16)
-    ∷ known (codes "layout_alignParentEnd") takes.Boolean (slot.Rule 17)
-    ∷ known (codes "layout_centerInParent") takes.Boolean (slot.Rule 18)
-    ∷ known (codes "layout_centerHorizontal") takes.Boolean (slot.Rule 19)
-    ∷ known (codes "layout_centerVertical") takes.Boolean (slot.Rule 20)
+    ∷ known (codes "layout_toLeftOf") takes.Reference (slot.Rule verb.left_of)
+    ∷ known (codes "layout_toRightOf") takes.Reference (slot.Rule verb.right_of)
+    ∷ known (codes "layout_above") takes.Reference (slot.Rule verb.above)
+    ∷ known (codes "layout_below") takes.Reference (slot.Rule verb.below)
+    ∷ known (codes "layout_alignLeft") takes.Reference (slot.Rule verb.align_left)
+    ∷ known (codes "layout_alignTop") takes.Reference (slot.Rule verb.align_top)
+    ∷ known (codes "layout_alignRight") takes.Reference (slot.Rule verb.align_right)
+    ∷ known (codes "layout_alignBottom") takes.Reference (slot.Rule verb.align_bottom)
+    ∷ known (codes "layout_toStartOf") takes.Reference (slot.Rule verb.start_of)
+    ∷ known (codes "layout_toEndOf") takes.Reference (slot.Rule verb.end_of)
+    ∷ known (codes "layout_alignStart") takes.Reference (slot.Rule verb.align_start)
+    ∷ known (codes "layout_alignEnd") takes.Reference (slot.Rule verb.align_end)
+    ∷ known (codes "layout_alignParentLeft") takes.Boolean (slot.Rule verb.parent_left)
+    ∷ known (codes "layout_alignParentTop") takes.Boolean (slot.Rule verb.parent_top)
+    ∷ known (codes "layout_alignParentRight") takes.Boolean (slot.Rule verb.parent_right)
+    ∷ known (codes "layout_alignParentBottom") takes.Boolean (slot.Rule verb.parent_bottom)
+    ∷ known (codes "layout_alignParentStart") takes.Boolean (slot.Rule verb.parent_start)
+    ∷ known (codes "layout_alignParentEnd") takes.Boolean (slot.Rule verb.parent_end)
+    ∷ known (codes "layout_centerInParent") takes.Boolean (slot.Rule verb.center)
+    ∷ known (codes "layout_centerHorizontal") takes.Boolean (slot.Rule verb.center_h)
+    ∷ known (codes "layout_centerVertical") takes.Boolean (slot.Rule verb.center_v)
     ∷ []

@@ -11,6 +11,7 @@ use Rattle.view_model.specs.declared.answer.Answer.TheVariants.{Off}
 use Rattle.view_model.specs.declared.visibility.Visibility.TheVariants.{Visible}
 use Rattle.view_model.specs.declared.placing.Direction.TheVariants.{Inherit}
 use Rattle.view_model.specs.Facts.{new_facts, no_gravity}
+use Rattle.view_model.specs.Numbers.{new_ink}
 use Rattle.view_model.specs.Refusals.{PlainRefusal}
 use Rattle.view_model.specs.Resources.{Entries, Resource}
 use Rattle.attr_table.specs.declared.given.Given.{Given}
@@ -148,7 +149,7 @@ single_facts value = record (new_facts (pos 0) (pos 0)) {
   vertical = is_set false (value (codes "orientation"));
   visibility = word_as Visible visibility_of (value (codes "visibility"));
   background = record { 0 = word_or 0 (value (codes "background")) };
-  ink = record { 0 = word_or 0xffff_ffff (value (codes "textColor")) };
+  ink = record { 0 = word_or new_ink (value (codes "textColor")) };
   answer = word_as Off answer_of (value (codes "clickable"));
   clip = is_set true (value (codes "clipToPadding"));
   fill = is_set false (value (codes "fillViewport"));

@@ -15,6 +15,7 @@ use Rattle.view_model.specs.declared.placing.Down.{Down}
 use Rattle.view_model.specs.declared.placing.Down.TheVariants as down
 use Rattle.view_model.specs.declared.placing.Gravity.{Gravity}
 use Rattle.view_model.specs.Facts.{new_facts}
+use Rattle.view_model.specs.Verbs.{verb_count}
 use Rattle.attr_table.specs.declared.draft.Draft.{Draft}
 use Rattle.attr_table.specs.declared.given.Given.{Given}
 use Rattle.attr_table.specs.declared.given.Given.TheVariants as given
@@ -136,7 +137,7 @@ with_paddings (Some n) facts = record facts { padding = all_sides n }
 abbrev pub drafted : Draft → Facts
 drafted draft = with_paddings draft.padding (with_margins draft.margin draft.facts)
 
--- a rule that is set is one of the 21
+-- a rule that is set is one of those that there are
 abbrev pub HasVerb : Slot → Type 0
-HasVerb (slot.Rule verb) = verb < 21
+HasVerb (slot.Rule verb) = verb < verb_count
 HasVerb _ = Unit {0}

@@ -24,6 +24,14 @@ min_touch = negsuc 1048575
 abbrev pub max_touch : ℤ
 max_touch = pos 1048576
 
+-- the sums of the bits of actions are below this
+abbrev pub actions_end : ℕ
+actions_end = 64
+
+-- the most bytes of the name of a file
+abbrev pub max_file_name : ℕ
+max_file_name = 64
+
 -- the least and the greatest density of a screen, in dots an inch
 abbrev pub min_dpi : ℕ
 min_dpi = 40

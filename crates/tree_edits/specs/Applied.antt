@@ -8,6 +8,7 @@ use Rattle.view_model.specs.Facets.{facet_of}
 use Rattle.view_model.specs.Numbers.{cycle, numbers_end}
 use Rattle.view_model.specs.Forest.{Nothing}
 use Rattle.view_model.specs.Refusals.{plain_refusal}
+use Rattle.view_model.specs.Verbs.{verb_count}
 use Rattle.view_model.specs.declared.fault.Fault.{Fault}
 use Rattle.view_tree.specs.Views.{Views, IsLive, number_of}
 use Rattle.tree_edits.specs.declared.edits.Edit.{Edit}
@@ -28,14 +29,14 @@ abbrev pub IsAddable : Views → Option ℕ → Type 0
 IsAddable views None = (views.tree ≡ Nothing) × (views.next < numbers_end)
 IsAddable views (Some parent) = IsLive views parent × (views.next < numbers_end)
 
--- a rule that is set is one of the 21
+-- a rule that is set is one of those that there are
 abbrev pub FacetIsVerb : Facet → Type 0
 FacetIsVerb (facet.Set reach) = Unit {0}
 FacetIsVerb (facet.Visible hides) = Unit {0}
 FacetIsVerb (facet.Scrolled offset) = Unit {0}
 FacetIsVerb facet.Turned = Unit {0}
 FacetIsVerb facet.Named = Unit {0}
-FacetIsVerb (facet.Tied verb) = verb < 21
+FacetIsVerb (facet.Tied verb) = verb < verb_count
 
 abbrev pub IsVerb : Act → Type 0
 IsVerb act = FacetIsVerb (facet_of act)

@@ -13,6 +13,8 @@ use Rattle.view_model.specs.declared.answer.Answer.{Answer}
 use Rattle.view_model.specs.declared.answer.Answer.TheVariants as answer
 use Rattle.view_model.specs.declared.visibility.Visibility.{Visibility}
 use Rattle.view_model.specs.declared.visibility.Visibility.TheVariants as visibility
+use Rattle.view_model.specs.Verbs.{verb_count}
+use Rattle.script_lines.specs.Numbers.{actions_end}
 use Rattle.script_lines.specs.reading.Actions.{actions_of}
 use Rattle.script_lines.specs.words.Colors.{last_color}
 use Rattle.script_lines.specs.words.Dimensions.{IsExtent, extents_of}
@@ -247,8 +249,8 @@ IsActInBounds (act.Flag flag on) = Unit {0}
 IsActInBounds (act.Visible visibility) = Unit {0}
 IsActInBounds (act.Ink color) = Unit {0}
 IsActInBounds (act.Id id) = Unit {0}
-IsActInBounds (act.Rule verb value) = verb < 21
+IsActInBounds (act.Rule verb value) = verb < verb_count
 IsActInBounds (act.Answer answer) = Unit {0}
-IsActInBounds (act.Intercept actions) = actions < 64
+IsActInBounds (act.Intercept actions) = actions < actions_end
 IsActInBounds (act.Direction direction) = Unit {0}
 IsActInBounds (act.Scroll offset) = IsWithin (pos 0) max_size offset

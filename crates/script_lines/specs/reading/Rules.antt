@@ -3,11 +3,12 @@ use Rattle.std.specs.Prelude.{ℕ, nat_lt, Bool, if◌then◌else◌, List, [], 
 use Rattle.std.specs.Str.{bytes_eq}
 use Rattle.view_model.specs.declared.changes.Act.{Act}
 use Rattle.view_model.specs.declared.changes.Act.TheVariants as act
+use Rattle.view_model.specs.Verbs.{sibling_verbs}
 use Rattle.script_lines.specs.words.Names.{id_in, known}
 use Rattle.script_lines.specs.words.Words.{◌>>=◌, end_of, on_of, word_in}
 use Rattle.script_lines.specs.declared.fault.LineFault.{LineFault}
 
--- the words of the verbs, by their places: twelve that name a sibling, and nine of the parent
+-- the words of the verbs, by their places: those that name a sibling, and those of the parent
 abbrev pub verbs : List (List ℕ)
 verbs =
     codes "left_of" ∷ codes "right_of" ∷ codes "above" ∷ codes "below"
@@ -23,7 +24,7 @@ verb_of word = known (position (λ verb. bytes_eq verb word) verbs)
 
 -- the verbs that name a sibling come before those that name the parent
 abbrev pub names_sibling : ℕ → Bool
-names_sibling verb = nat_lt verb 12
+names_sibling verb = nat_lt verb sibling_verbs
 
 -- `yes` or `no`
 abbrev pub answer_in : List (List ℕ) → Result (ℕ × List (List ℕ)) LineFault

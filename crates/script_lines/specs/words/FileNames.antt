@@ -3,6 +3,7 @@ use Rattle.std.specs.Prelude.{ℕ, ◌==◌, nat_le, nat_lt, Bool, ◌&&◌, ◌
 use Rattle.std.specs.Prelude.{slice_index, Result, Ok, Err}
 use Rattle.std.specs.Char.{is_ascii_alphanumeric}
 use Rattle.std.specs.List.{list_all}
+use Rattle.script_lines.specs.Numbers.{max_file_name}
 use Rattle.script_lines.specs.words.Words.{◌>>=◌}
 use Rattle.script_lines.specs.declared.fault.LineFault.{LineFault}
 use Rattle.script_lines.specs.declared.fault.LineFault.TheVariants.{Syntax}
@@ -11,10 +12,10 @@ use Rattle.script_lines.specs.declared.fault.LineFault.TheVariants.{Syntax}
 abbrev pub is_file_name_byte : ℕ → Bool
 is_file_name_byte b = is_ascii_alphanumeric b || b == 95 || b == 45 || b == 46
 
--- the name of a file: 1 to 64 such bytes, of which the first is no `.`
+-- the name of a file: at least one such byte, and as many as it may have, of which the first is no `.`
 unfoldable pub is_file_name : List ℕ → Bool
 is_file_name name =
-    nat_lt 0 (length name) && nat_le (length name) 64 && list_all is_file_name_byte name
+    nat_lt 0 (length name) && nat_le (length name) max_file_name && list_all is_file_name_byte name
     && not (slice_index name 0 == 46)
 
 abbrev pub file_name_of : List ℕ → Result (List ℕ) LineFault
