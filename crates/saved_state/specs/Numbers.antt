@@ -2,6 +2,17 @@
 -- these.
 use Rattle.std.specs.Prelude.{ℕ}
 
+-- the letters with which a state begins: `V` and `S`
+abbrev pub first_letter : ℕ
+first_letter = 86
+
+abbrev pub second_letter : ℕ
+second_letter = 83
+
+-- the ids of views are below this
+abbrev pub ids_end : ℕ
+ids_end = 4294967296
+
 -- the last version; it is the one that is written
 abbrev pub last_version : ℕ
 last_version = 2

@@ -6,8 +6,9 @@ use Rattle.std.specs.Str.{is_utf8}
 use lib.Utf8.{scalars}
 use Rattle.std.specs.List.{flat_map}
 use Rattle.byteorder.specs.Endian.{little_bytes, little_number}
-use Rattle.saved_state.specs.Numbers.{first_version, head_bytes, last_version, max_entries, max_offset, max_text_bytes}
-use Rattle.saved_state.specs.Numbers.{offset_entry_bytes, offset_kind, text_entry_bytes, text_kind}
+use Rattle.saved_state.specs.Numbers.{first_letter, first_version, head_bytes, ids_end, last_version, max_entries}
+use Rattle.saved_state.specs.Numbers.{max_offset, max_text_bytes, offset_entry_bytes, offset_kind, second_letter}
+use Rattle.saved_state.specs.Numbers.{text_entry_bytes, text_kind}
 use Rattle.saved_state.specs.declared.value.Value.{Value}
 use Rattle.saved_state.specs.declared.value.Value.TheVariants.{Offset, Text}
 
@@ -29,7 +30,7 @@ IsValueOf version (Text text) = (version ≢ first_version) × IsValue (Text tex
 abbrev pub RisesFrom : ℕ → ℕ → List StateEntry → Type 0
 RisesFrom version before [] = Unit {0}
 RisesFrom version before (entry ∷ entries) =
-    (before < entry.0) × (entry.0 < 4294967296) × IsValueOf version entry.1 × RisesFrom version entry.0 entries
+    (before < entry.0) × (entry.0 < ids_end) × IsValueOf version entry.1 × RisesFrom version entry.0 entries
 
 -- what a state of a version may be: entries by rising ids, of which none is 0
 pub record IsState (version : ℕ) (entries : List StateEntry) : Type 0 where
@@ -45,9 +46,10 @@ value_bytes (Text text) = text_kind ∷ (little_bytes 2 (length (encode_utf8_all
 abbrev pub entry_bytes : StateEntry → List ℕ
 entry_bytes entry = little_bytes 4 entry.0 ++ value_bytes entry.1
 
--- the letters `VS`, a version, how many entries there are, and these
+-- the two letters, a version, how many entries there are, and these
 abbrev pub encoded_as : ℕ → List StateEntry → List ℕ
-encoded_as version entries = 86 ∷ 83 ∷ version ∷ (little_bytes 2 (length entries) ++ flat_map entry_bytes entries)
+encoded_as version entries =
+    first_letter ∷ second_letter ∷ version ∷ (little_bytes 2 (length entries) ++ flat_map entry_bytes entries)
 
 -- the bytes that are written of a state
 abbrev pub encoded : List StateEntry → List ℕ
@@ -72,7 +74,10 @@ abbrev pub ◌>>=◌ : {A B : Type 0} → Result A ℕ → (A → Result B ℕ) 
 -- the version and the number of entries by a head, or the place of its first field that is cut short or wrong
 unfoldable pub head_of : List ℕ → Result (ℕ × ℕ) ℕ
 head_of bytes =
-    if nat_lt (length bytes) 2 || not (slice_index bytes 0 == 86) || not (slice_index bytes 1 == 83) then Err 0
+    if nat_lt (length bytes) 2
+    || not (slice_index bytes 0 == first_letter)
+    || not (slice_index bytes 1 == second_letter)
+    then Err 0
     else
     (if nat_lt (length bytes) 3 || not (slice_index bytes 2 == first_version || slice_index bytes 2 == last_version)
     then Err 2
