@@ -7,6 +7,7 @@ use Rattle.text_lines.specs.Prefix.{AppendsPrefix}
 use Rattle.tool_io.specs.Counts.{raised}
 use Rattle.tool_io.specs.SinkState.{SinkState}
 use Rattle.view_model.specs.Refusals.{plain_refusal}
+use Rattle.stack_worlds.specs.Numbers.{no_pane}
 use Rattle.stack_worlds.specs.PlainStack.{PlainStack, PlainWay, Given, Missed, RefusedBy, ToStack, StackReply, Done}
 use Rattle.stack_worlds.specs.PlainStack.{Refused, way_of}
 use Rattle.tool_io.specs.declared.faults.Failed.{Failed}
@@ -99,5 +100,5 @@ IsOwnSound stack (own.Compose x y w h) = IsPart x y w h
 abbrev pub IsWaySound : PlainStack → PlainWay → Type 0
 IsWaySound stack (Given holder k said) = IsGivenSound stack holder k said
 IsWaySound stack Missed = Unit {0}
-IsWaySound stack (RefusedBy number) = (1 ≤ number) × (number ≤ 43)
+IsWaySound stack (RefusedBy number) = (1 ≤ number) × (number ≤ no_pane)
 IsWaySound stack (ToStack change) = IsOwnSound stack change
