@@ -5,7 +5,7 @@
 //! of chunk adds, and `fields` the fields of one; `alike` compares names. `dump` has `print`, which writes a document
 //! line by line, and `put_string`, which writes a string with its escapes.
 //!
-//! `view_world` reads for `inflate`, `whole_tool` for `dump`; `inflater` and `attr_table` take the document.
+//! `world_parts` reads for `inflate`, `whole_tool` for `dump`; `inflater` and `attr_table` take the document.
 //!
 //!     let doc = read(alloc, bytes)?;    // `ReadFault`: the cause and the byte of the first fault
 //!     print(&doc, sink)?;               // the lines that the command `dump` writes

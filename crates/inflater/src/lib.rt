@@ -5,7 +5,7 @@
 //! `element` makes the view of one, and `fault` says why one is refused, and which. The place of the views in a tree is
 //! not decided here: `ViewTree::graft` does that.
 //!
-//! `view_world` calls it for the line `inflate`; the attributes are read by `attr_table`.
+//! `world_parts` calls it for the line `inflate`; the attributes are read by `attr_table`.
 //!
 //!     let grown = inflate(alloc, &doc, &res, 160)?;    // or the number of the element that is refused
 //!     tree.graft(parent, grown.sapling)?;

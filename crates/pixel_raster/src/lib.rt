@@ -5,7 +5,8 @@
 //! such a part, `runs` over pixels side by side, `strip` over single pixels of a column, and `blending` over one pixel;
 //! `marks` how rows of one colour are kept, and `digest` the digest. Only making a picture takes memory.
 //!
-//! `tree_painter` paints into one, `view_world` keeps it and prints pixels, and `stack_worlds` puts several together.
+//! `tree_painter` paints into one, `view_world` keeps it, `world_replies` prints pixels, and `stack_worlds`
+//! puts several together.
 //!
 //!     let mut picture = Surface::new(alloc, Size { w: 4, h: 2 })?;    // all black
 //!     picture.fill(Rect { left: 1, top: 0, right: 3, bottom: 1 }, Argb(0xffff_0000), work);

@@ -5,7 +5,7 @@
 //! without a buffer, and `digits` the digits of numbers. A new buffer clears its room, so one that serves for many
 //! texts is restarted.
 //!
-//! All crates that print use it: `view_world`, `stack_worlds`, `whole_tool`, `axml_reader`, `arsc_reader`,
+//! All crates that print use it: `world_replies`, `stack_worlds`, `whole_tool`, `axml_reader`, `arsc_reader`,
 //! `load_maker`.
 //!
 //!     let mut reply = TextBuffer::new();

@@ -4,7 +4,7 @@
 //! `splitting` has `split`, the part of an event for a view that follows only some of them; `pointer_set` has sets of
 //! pointers as bits. Nothing takes memory.
 //!
-//! `view_world` makes the events of a script, and `touch_dispatch` splits them and sends them on.
+//! `world_parts` makes the events of a script, and `touch_dispatch` splits them and sends them on.
 //!
 //!     split(&event, 0b10)    // what pointer 1 makes of it: if pointer 1 goes down beside pointer 0, it is alone there
 #![tactic(auto)]
