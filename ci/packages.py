@@ -6,6 +6,7 @@ import contextlib
 import fcntl
 import glob
 import hashlib
+import json
 import os
 import re
 import shutil
@@ -14,6 +15,7 @@ import sys
 import tempfile
 from typing import Dict, Iterator, List, Optional, Sequence, TextIO, Tuple
 
+import web_module
 from running import PROGRAM as BUILT, TOP, Checks, Skipped, difference, named, need, run
 from vindaesk.command_line import catalogue
 from vindaesk.common.failures import Failure
@@ -103,8 +105,8 @@ def locked(path: str) -> Iterator[None]:
 
 
 def libraries() -> List[str]:
-    """The libraries of C beside the program."""
-    found = [contents.beside(PROGRAM, it) for it in (dist.ARCHIVE, dist.LIBRARY)]
+    """The libraries of C and the WebAssembly module beside the program."""
+    found = [contents.beside(PROGRAM, it) for it in (dist.ARCHIVE, dist.LIBRARY, dist.MODULE)]
     return [it for it in found if os.path.exists(it)]
 
 
@@ -219,6 +221,32 @@ def builds_with_a_tarball() -> str:
                 return "%s: %s" % (words[0], why)
         text, status = said([*java, "ScreenTest", os.path.dirname(page)], folder, variables)
         return "" if status == 0 and text.startswith("OK (") else "ScreenTest: status %d, %s" % (status, text)
+
+
+def loads_from_each_package() -> str:
+    """The WebAssembly module of the tarball and of the `.deb`, by the loader beside it, lays out a page as the program
+    does."""
+    need("node")
+    if not os.path.exists(contents.beside(PROGRAM, dist.MODULE)):
+        raise Skipped(dist.MODULE)
+    page, given = os.path.join(TOP, "examples", "page.xml"), b"window 360 640\ninflate page.xml\nframe\nbounds\n"
+    wanted = run([PROGRAM, "run"], given, os.path.dirname(page))
+    with tempfile.TemporaryDirectory(prefix="a package ") as folder:
+        tarball, debian = (os.path.join(folder, it) for it in ("of-a-tarball", "of-debian"))
+        os.mkdir(tarball)
+        must(["tar", "-xf", package("*.tar.gz"), "-C", tarball, "--strip-components=1"], folder)
+        must(["dpkg-deb", "-x", package("*.deb"), debian], folder)
+        for top in (tarball, os.path.join(debian, "usr")):
+            web = os.path.join(top, contents.WEB)
+            source = web_module.LOADING % (*(json.dumps(os.path.join(web, it)) for it in ("vindaesk.mjs", dist.MODULE)),)
+            source += "const { page, status } = vindaesk.run(%s, { 'page.xml': readFileSync(%s) });" % (
+                json.dumps(given.decode()), json.dumps(page))
+            source += "process.stdout.write(page); process.exitCode = status;"
+            text, status = said([*web_module.node(), "-e", source], folder)
+            why = difference(*wanted, text.encode(), status)
+            if why:
+                return "%s: %s" % (web, why)
+    return ""
 
 
 def installs_a_wheel() -> str:
@@ -498,5 +526,6 @@ def checks() -> Checks:
     yield from named("packages", (
         names_each_tool, knows_each_value, has_no_import_of_what_is_left_out, shows_each_argument,
         has_clean_manual_pages, finds_what_a_program_needs, runs_from_a_tarball, builds_with_a_tarball,
+        loads_from_each_package,
         installs_a_wheel, unpacks_for_debian, installs_for_debian, passes_lintian, refuses_other_sources, has_their_sums, has_the_same_bytes_elsewhere
     ))

@@ -31,6 +31,13 @@ REPEATED = 300
 SHORT = 50
 LINES = ["window 400 400", "add root View match match", "frame", "pixels 0 0 400 100", *["size v1 %d 9" % it for it in range(SHORT)]]
 
+# loads a module by a loader, whose paths are filled in
+LOADING = """
+    import { readFileSync } from "node:fs";
+    import { Vindaesk } from %s;
+    const vindaesk = await Vindaesk.load(readFileSync(%s));
+"""
+
 Call = Dict[str, object]
 
 
@@ -61,19 +68,21 @@ def worked() -> List[Tuple[native.Call, Call]]:
     return found
 
 
+def node() -> List[str]:
+    """How Node is called, so that it runs the module."""
+    version = subprocess.run([need("node"), "--version"], stdout=subprocess.PIPE, check=True).stdout.decode()
+    flags = [FLAG] if int(version[1:].split(".")[0]) < 24 else []
+    return ["node", *flags, "--no-warnings", "--input-type=module"]
+
+
 def in_node(script: str, given: object) -> object:
     """What a script in Node prints as JSON, which finds the class as `Vindaesk`, the module's bytes as `bytes` and what is
     given as `given`."""
-    version = subprocess.run([need("node"), "--version"], stdout=subprocess.PIPE, check=True).stdout.decode()
-    flags = [FLAG] if int(version[1:].split(".")[0]) < 24 else []
-    begin = """
-        import { readFileSync } from "node:fs";
-        import { Vindaesk } from %s;
+    begin = LOADING % tuple(map(json.dumps, (LOADER, module()))) + """
         import { answers } from %s;
-        const vindaesk = await Vindaesk.load(readFileSync(%s)), given = JSON.parse(readFileSync(0, "utf8"));
-    """ % tuple(map(json.dumps, (LOADER, CALLS, module())))
-    words = ["node", *flags, "--no-warnings", "--input-type=module", "-e", begin + "console.log(JSON.stringify(%s));" % script]
-    ended = subprocess.run(words, input=json.dumps(given).encode(), stdout=subprocess.PIPE, timeout=4 * SECONDS, check=True)
+        const given = JSON.parse(readFileSync(0, "utf8"));
+    """ % json.dumps(CALLS)
+    ended = subprocess.run([*node(), "-e", begin + "console.log(JSON.stringify(%s));" % script], input=json.dumps(given).encode(), stdout=subprocess.PIPE, timeout=4 * SECONDS, check=True)
     return json.loads(ended.stdout.decode())
 
 

@@ -7,6 +7,7 @@ program and what the tools read in its folder `share`:
     lib/vindaesk/vindaesk/share/          the program, the shared library of C, VERSION, COMMIT, PROVENANCE, and the
                                           pages that `explain` reads
     include/, lib/, lib/pkgconfig/        what programs in C are compiled with, in what is no wheel
+    share/vindaesk/web/                   the WebAssembly module and its loader, in what is no wheel
     share/man/man1/, share/bash-completion/, share/zsh/, share/fish/
 """
 import filecmp
@@ -31,6 +32,8 @@ READ = ("VERSION", "docs/SCRIPT.md", "docs/FORMATS.md", "docs/COMING-FROM-ANDROI
 PROVENANCE = "dist/PROVENANCE"
 # what programs in C are compiled with
 HEADER, DESCRIPTION = "include/vindaesk.h", "include/vindaesk.pc.in"
+# what pages in a browser load
+WEB, LOADER = "share/vindaesk/web", "bindings/web/vindaesk.mjs"
 # what users read
 PAGES = ("README.md", "LICENSE", "CHANGELOG.md", "docs", "examples", "bindings")
 # what is no source, and of the sources what is for a checkout alone
@@ -125,6 +128,19 @@ def for_c(program: str) -> Contents:
         "lib/libvindaesk.so": File(b"", leads_to=LIBRARY_OF_C),
         "lib/pkgconfig/vindaesk.pc": File(description.replace(b"@VERSION@", places.version().split(" ")[1].encode())),
     }
+
+
+def for_pages(program: str) -> Contents:
+    """What pages in a browser and Node load, below the same prefix, where the WebAssembly module is beside the program."""
+    path = beside(program, dist.MODULE)
+    if not os.path.exists(path):
+        return {}
+    return moved({dist.MODULE: File(files.read(path)), os.path.basename(LOADER): File(files.read(os.path.join(TOP, LOADER)))}, WEB)
+
+
+def for_others(program: str) -> Contents:
+    """What other programs use."""
+    return {**for_c(program), **for_pages(program)}
 
 
 def package(program: str, commit: str) -> Contents:

@@ -100,20 +100,20 @@ def documents(date: int) -> Contents:
     return contents.moved({**pages, **{path: File(body) for path, body in made.items()}}, DOC)
 
 
-def of_machine(for_c: Contents) -> Contents:
-    """The files for programs in C, with what `pkg-config` reads in the folder of this kind of machine, as Debian has
+def of_machine(for_others: Contents) -> Contents:
+    """The files for other programs, with what `pkg-config` reads in the folder of this kind of machine, as Debian has
     it."""
-    found = dict(for_c)
+    found = dict(for_others)
     described = found.pop(DESCRIPTION, None)
     if described:
         found[OF_MACHINE] = File(described.body.replace(b"${pcfiledir}/../..", b"${pcfiledir}/../../.."))
     return found
 
 
-def all_files(package: Contents, for_c: Contents, commands: List[Command], date: int) -> Contents:
-    """All files of the package, by their paths below the root, with those for programs in C."""
+def all_files(package: Contents, for_others: Contents, commands: List[Command], date: int) -> Contents:
+    """All files of the package, by their paths below the root, with those for other programs."""
     found = contents.moved(contents.library(package), "usr/lib/vindaesk")
-    found.update(contents.moved({**contents.scripts(commands, PYTHON), **of_machine(for_c)}, "usr"))
+    found.update(contents.moved({**contents.scripts(commands, PYTHON), **of_machine(for_others)}, "usr"))
     for path, it in contents.help_files(commands, date).items():
         if path.startswith("share/man/"):
             path, it = path + ".gz", File(packed(it.body))

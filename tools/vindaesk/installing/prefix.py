@@ -74,11 +74,11 @@ def put_library(prefix: str, library: Contents) -> None:
 
 
 def rest(commands: List[Command], program: str) -> Contents:
-    """What is below a prefix besides the library, by its paths there, with what programs in C are compiled with."""
+    """What is below a prefix besides the library, by its paths there, with what other programs use."""
     date = sources.date(os.path.join(TOP, "VERSION"))
     pages = contents.moved(contents.pages(), PAGES)
     scripts, help_files = contents.scripts(commands, contents.ANY_PYTHON), contents.help_files(commands, date)
-    return {**scripts, **help_files, **pages, **contents.for_c(program)}
+    return {**scripts, **help_files, **pages, **contents.for_others(program)}
 
 
 def install(prefix: str, package: Contents, other: Contents) -> None:

@@ -37,10 +37,10 @@ def write(folder: str, program: str, commit: str, commands: List[Command]) -> Li
     with tempfile.TemporaryDirectory(prefix="." + name + ".", dir=above) as place:
         made, before = os.path.join(place, "new"), os.path.join(place, "old")
         os.mkdir(made)
-        package, for_c = contents.package(program, commit), contents.for_c(program)
+        package, for_others = contents.package(program, commit), contents.for_others(program)
         paths = [
-            write_tarball(made, {**contents.prefixed(package, commands, date), **for_c}, date),
-            debian.write(made, debian.all_files(package, for_c, commands, date), asked, date),
+            write_tarball(made, {**contents.prefixed(package, commands, date), **for_others}, date),
+            debian.write(made, debian.all_files(package, for_others, commands, date), asked, date),
             wheel.write(made, program, commit, date),
         ]
         files.replace(os.path.join(made, SUMS), sums(paths))
