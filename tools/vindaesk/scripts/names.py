@@ -11,7 +11,6 @@ from typing import List, NamedTuple, Optional, Sequence, Tuple
 
 from ..common import files
 from ..common.failures import Failure, NOT_RUN
-from . import sentences
 from .resource_names import SYSTEM, Names
 
 LIST = "ids.txt"
@@ -87,6 +86,7 @@ class Ids:
 
     def unknown(self, package: str, kind: str, name: str) -> str:
         """Why a name has no id."""
+        from . import sentences
         from .grammar import guess
 
         whole = "@%s%s/%s" % (package and package + ":", kind, name)
@@ -123,6 +123,8 @@ class Ids:
         assert found is not None
         plus, package, kind, name = (part.decode() if part else "" for part in found.groups())
         if plus:
+            from . import sentences
+
             return None, sentences.MAKES_NO_IDS % (kind, name, LIST)
         return self.number(package, kind, name), self.unknown(package, kind, name)
 

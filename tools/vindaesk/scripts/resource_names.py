@@ -5,7 +5,6 @@ from typing import Dict, List, Optional, Tuple
 
 from ..common.failures import Failure, NOT_RUN
 from ..common.messages import shown
-from . import sentences
 
 LINE = r"(?:([A-Za-z_][\w.]*):)?(\w+)/([\w.$-]+) *= *(?:0x)?([0-9A-Fa-f]{8})"
 # the package of what an app has itself, and where the ids of its views begin where there are none yet
@@ -39,6 +38,9 @@ class Names:
 
     def read(self, line: bytes, place: str) -> None:
         """Takes a line of the list."""
+        # loaded where there is a list, since each start would take longer
+        from . import sentences
+
         found = re.fullmatch(LINE, line.decode("utf-8", "replace"), re.ASCII)
         if not found:
             raise Failure(sentences.NO_NAME_LINE % (place, shown(line)), NOT_RUN)

@@ -7,7 +7,7 @@ from typing import List, NamedTuple, Optional, Sequence, Tuple
 from ..common import files
 from ..common.failures import Failure, NOT_RUN
 from ..program.statuses import MAX_SCRIPT
-from . import names, sentences
+from . import names
 from .names import Expanded, Ids, Unknown
 
 NUMBER = re.compile(rb"0|-?[1-9][0-9]{0,9}")
@@ -109,6 +109,9 @@ class Includer:
 
     def inner(self, name: str, at: Line, around: Sequence[str]) -> List[Line]:
         """The lines of the file that a line includes."""
+        # loaded where a file is included, since each start would take longer
+        from . import sentences
+
         if "\0" in name:
             raise failure(at, "no file has a name with the byte 0 in it")
         path = os.path.normpath(os.path.join(os.path.dirname(around[-1]) if around[-1] != "-" else "", name))
