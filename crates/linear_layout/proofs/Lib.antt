@@ -1,5 +1,6 @@
 pub mod LinedLaws
-pub mod PassLaws
+pub mod LeavingLaws
+mod PassLaws
 pub mod PlacingLaws
 pub mod PlanLaws
 pub mod ShareLaws

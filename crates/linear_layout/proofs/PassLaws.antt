@@ -23,6 +23,7 @@ pub record AddsToFirstPass (old new : FirstPass) (own : Facts) (specs : Specs) (
   pub even : new.even.value ≡ greater old.even.value (where_even kid.facts.weight (claim_of own.vertical (is_exact_beside own specs) kid))
   pub weighted : new.weighted.value ≡ greater old.weighted.value (where_weighted kid.facts.weight (claim_of own.vertical (is_exact_beside own specs) kid))
   pub all_match : new.all_match ≡ (old.all_match && is_match (dim_on (not own.vertical) kid.facts))
+  pub any_match : new.any_match ≡ (old.any_match || is_match (dim_on (not own.vertical) kid.facts))
   pub any_skipped : new.any_skipped ≡ (old.any_skipped || skips own specs kid.facts)
 
 any_push : (p : Measured → Bool) (kids : List Measured) (kid : Measured) → list_any p (kids ++ kid ∷ []) ≡ (list_any p kids || p kid)
@@ -49,6 +50,7 @@ FirstPass-push old new own specs kids kid a s =
       weighted = a.weighted ∙ ap (λ most. greater most (where_weighted kid.facts.weight (claim_of v exact kid))) s.weighted
           ∙ sym (fold_push (λ most (kid : Measured). greater most (where_weighted kid.facts.weight (claim_of v exact kid))) (pos 0) kids kid);
       all_match = a.all_match ∙ ap (λ b. b && is_match (dim_on (not v) kid.facts)) s.all_match ∙ sym (all_push (λ (kid : Measured). is_match (dim_on (not v) kid.facts)) kids kid);
+      any_match = a.any_match ∙ ap (λ b. b || is_match (dim_on (not v) kid.facts)) s.any_match ∙ sym (any_push (λ (kid : Measured). is_match (dim_on (not v) kid.facts)) kids kid);
       any_skipped = a.any_skipped ∙ ap (λ b. b || skips own specs kid.facts) s.any_skipped ∙ sym (any_push (λ (kid : Measured). skips own specs kid.facts) kids kid);
     }
 
@@ -61,6 +63,7 @@ pub record AddsToWeightPass (old new : WeightPass) (own : Facts) (specs : Specs)
   pub spare : new.sharing.spare ≡ old.sharing.spare -ℤ share old.sharing.weight old.sharing.spare kid.facts.weight
   pub broadest : new.broadest.value ≡ greater old.broadest.value (breadth_of own.vertical kid)
   pub claim : new.claim.value ≡ greater old.claim.value (claim_of own.vertical (is_exact_beside own specs) kid)
+  pub any_match : new.any_match ≡ (old.any_match || is_match (dim_on (not own.vertical) kid.facts))
 
 rest_push : (own : Facts) (specs : Specs) (first kids : List Measured) (kid : Measured) → rest_of own specs first (kids ++ kid ∷ []) ≡ after_share (rest_of own specs first kids) kid.facts.weight
 rest_push own specs first kids kid = fold_push (λ rest (kid : Measured). after_share rest kid.facts.weight) _ kids kid
@@ -91,4 +94,5 @@ WeightPass-push old new own specs first kids kid a s =
           ∙ sym (ap (λ (rest : Rest). rest.spare) rest ∙ after_spare (rest_of own specs first kids) kid.facts.weight);
       broadest = a.broadest ∙ ap (λ most. greater most (breadth_of v kid)) s.broadest ∙ sym (fold_push (λ most kid. greater most (breadth_of v kid)) _ kids kid);
       claim = a.claim ∙ ap (λ most. greater most (claim_of v exact kid)) s.claim ∙ sym (fold_push (λ most kid. greater most (claim_of v exact kid)) _ kids kid);
+      any_match = a.any_match ∙ ap (λ b. b || is_match (dim_on (not v) kid.facts)) s.any_match ∙ sym (any_push (λ (kid : Measured). is_match (dim_on (not v) kid.facts)) kids kid);
     }

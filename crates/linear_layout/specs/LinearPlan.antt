@@ -1,5 +1,6 @@
 -- What a plan represents: a group, its specs, and the children that it has taken in each phase.
-use Rattle.std.specs.Prelude.{◌≡◌, true, false, Bool, List, [], ◌∷◌, ◌++◌, Option, Some, None}
+use Rattle.std.specs.Prelude.{◌≡◌, not, true, false, Bool, List, [], ◌∷◌, ◌++◌, Option, Some, None}
+use Rattle.geom_core.specs.declared.geometry.Size.{Size}
 use Rattle.linear_layout.specs.declared.plan.LinearPlan.{LinearPlan}
 use Rattle.linear_layout.specs.declared.plan.Phase.{Phase}
 use Rattle.linear_layout.specs.declared.plan.Phase.TheVariants.{First, Weight, Uniform}
@@ -59,3 +60,31 @@ pub record TurnsLinear (plan : LinearPlan) (own : Facts) (specs : Specs) (past :
   pub answers : answer ≡ (linear_rule own specs).turns (past ++ taken ∷ [])
   pub follows : answer ≡ true → RepresentsLinear plan own specs (past ++ taken ∷ []) []
   pub ends : answer ≡ false → RepresentsLinear plan own specs past taken
+
+-- the plan is in the uniform pass, and no child wants to be as broad as the group
+abbrev pub leaves_by : LinearPlan → Phase → Bool
+leaves_by plan First = false
+leaves_by plan (Weight pass) = false
+leaves_by plan (Uniform None) = not plan.first.any_match
+leaves_by plan (Uniform (Some pass)) = not pass.any_match
+
+abbrev pub leaves_all : LinearPlan → Bool
+leaves_all plan = leaves_by plan plan.phase
+
+-- none of these children is asked, whatever size it has
+abbrev pub AsksNone : (List Measured → Measured → Option Specs) → List Measured → Type 0
+AsksNone ask [] = Unit {0}
+AsksNone ask (kid ∷ kids) =
+    ((taken : List Measured) (size : Size) → ask taken (record { facts = kid.facts; size = size }) ≡ None)
+    × AsksNone ask kids
+
+-- the plan at the start of a phase that asks none of the children of the phase before: taking them changes nothing, and
+-- no phase follows
+pub record LeavesAll (plan : LinearPlan) (own : Facts) (specs : Specs) : Type 0 where
+  pub asks : (past : List (List Measured)) (last : List Measured)
+      → RepresentsLinear plan own specs (past ++ last ∷ []) []
+      → AsksNone ((linear_rule own specs).ask (past ++ last ∷ [])) last
+  pub takes : (past : List (List Measured)) (taken more : List Measured) → RepresentsLinear plan own specs past taken
+      → RepresentsLinear plan own specs past more
+  pub turns : (past : List (List Measured)) (taken : List Measured) → RepresentsLinear plan own specs past taken
+      → (linear_rule own specs).turns (past ++ taken ∷ []) ≡ false

@@ -19,6 +19,7 @@ pub record IsFirstPass (pass : FirstPass) (own : Facts) (specs : Specs) (kids : 
   pub even : pass.even.value ≡ even_claim own.vertical (is_exact_beside own specs) kids
   pub weighted : pass.weighted.value ≡ weighted_claim own.vertical (is_exact_beside own specs) kids
   pub all_match : pass.all_match ≡ list_all (λ (kid : Measured). is_match (dim_on (not own.vertical) kid.facts)) kids
+  pub any_match : pass.any_match ≡ list_any (λ (kid : Measured). is_match (dim_on (not own.vertical) kid.facts)) kids
   pub any_skipped : pass.any_skipped ≡ list_any (λ (kid : Measured). skips own specs kid.facts) kids
 
 -- the weight pass that follows on a first pass with these children, once it has taken the others
@@ -32,3 +33,4 @@ pub record IsWeightPass (pass : WeightPass) (own : Facts) (specs : Specs) (first
   pub claim : pass.claim.value
       ≡ claim_from (even_claim own.vertical (is_exact_beside own specs) first) own.vertical (is_exact_beside own specs)
       kids
+  pub any_match : pass.any_match ≡ list_any (λ (kid : Measured). is_match (dim_on (not own.vertical) kid.facts)) kids

@@ -1,7 +1,7 @@
 //! The breadth of the group, and the uniform pass, which gives it to children. Lengths are in pixels.
 //!
-//! The uniform pass follows whenever the breadth of the group was not given, even if no child is asked; what children
-//! take of the line stays that of the pass before.
+//! The uniform pass follows whenever the breadth of the group was not given, even if no child is asked, and then its
+//! owner may leave it out; what children take of the line stays that of the pass before.
 ghost use Rattle.std.specs.Prelude.{◌≡◌, ◌≤ℤ◌, ◌+ℤ◌, ◌^◌, pos, negsuc, List, Some, None};
 ghost use Rattle.std.specs.Option.{option_map};
 ghost use Rattle.geom_core.specs.Limits.{IsSide};

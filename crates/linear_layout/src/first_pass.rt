@@ -29,6 +29,8 @@ pub struct FirstPass {
     pub weighted: Greatest,
     /// Whether every child wants to be as broad as the group.
     pub all_match: bool,
+    /// Whether a child wants to be as broad as the group.
+    pub any_match: bool,
     /// Whether a child was left out.
     pub any_skipped: bool,
 }
@@ -48,6 +50,7 @@ impl FirstPass {
             even: Greatest::new(),
             weighted: Greatest::new(),
             all_match: true,
+            any_match: false,
             any_skipped: false,
         }
     }
@@ -68,6 +71,7 @@ impl FirstPass {
             even: self.even.with(even_claim(kid.weight, taken.claim)),
             weighted: self.weighted.with(weighted_claim(kid.weight, taken.claim)),
             all_match: self.all_match & line.matches(kid),
+            any_match: self.any_match | line.matches(kid),
             any_skipped: self.any_skipped | line.skips(kid),
         }
     }

@@ -37,7 +37,7 @@ pub struct LinearPlan {
 
 impl LinearPlan {
     ghost use Rattle.linear_layout.specs.Line.{own_in, specs_in};
-    ghost use Rattle.linear_layout.specs.LinearPlan.{RepresentsLinear, TurnsLinear, weighed_by};
+    ghost use Rattle.linear_layout.specs.LinearPlan.{LeavesAll, RepresentsLinear, TurnsLinear, leaves_all, weighed_by};
     ghost use Rattle.linear_layout.specs.declared.plan.Phase.TheVariants.{Uniform};
     ghost use Rattle.linear_layout.specs.Passes.{IsFirstPass, IsWeightPass};
 
@@ -98,6 +98,22 @@ impl LinearPlan {
             }
             Phase::Weight(pass) => self.phase = Phase::Weight(pass.with(&self.line, kid, size)),
             Phase::Uniform(_) => (),
+        }
+    }
+
+    /// Whether the uniform pass has come and asks no child, since none wants to be as broad as the group. It is the last
+    /// phase, and what it takes changes nothing, so its owner may leave it out.
+    #[inline(always)]
+    pub fn leaves_all(&self) -> bool
+        ensures value { result ≡ leaves_all self.now }
+        ensures leaves { result ≡ true → (own : FactsValue) (specs : Specs) → LeavesAll self.now own specs }
+    {
+        match &self.phase {
+            Phase::First | Phase::Weight(_) => false,
+            Phase::Uniform(weighed) => match weighed {
+                None => !self.first.any_match,
+                Some(pass) => !pass.any_match,
+            },
         }
     }
 

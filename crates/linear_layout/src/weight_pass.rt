@@ -26,6 +26,8 @@ pub struct WeightPass {
     pub broadest: Greatest,
     /// The greatest claim of a child, in both passes; in the first only of one without a weight.
     pub claim: Greatest,
+    /// Whether a child wants to be as broad as the group.
+    pub any_match: bool,
 }
 
 impl WeightPass {
@@ -43,6 +45,7 @@ impl WeightPass {
             extents: Total::new(),
             broadest: first.broadest,
             claim: first.even,
+            any_match: false,
         }
     }
 
@@ -60,6 +63,7 @@ impl WeightPass {
             extents: self.extents.add(taken.extent),
             broadest: self.broadest.with(taken.breadth),
             claim: self.claim.with(taken.claim),
+            any_match: self.any_match | line.matches(kid),
         }
     }
 

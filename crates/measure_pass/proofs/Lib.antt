@@ -10,6 +10,7 @@ pub mod Grows
 pub mod Lawful
 pub mod Laws
 pub mod LeafLaws
+pub mod LeftPhase
 pub mod LinearLaws
 pub mod MeasureKid
 pub mod Own

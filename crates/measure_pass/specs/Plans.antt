@@ -5,7 +5,7 @@ use Rattle.frame_layout.specs.FramePlan.{RepresentsFrame}
 use Rattle.frame_layout.specs.declared.plan.FramePlan.{FramePlan}
 use Rattle.geom_core.specs.declared.geometry.Size.{Size}
 use Rattle.geom_core.specs.declared.measuring.Spec.{Spec}
-use Rattle.linear_layout.specs.LinearPlan.{RepresentsLinear}
+use Rattle.linear_layout.specs.LinearPlan.{AsksNone, RepresentsLinear}
 use Rattle.linear_layout.specs.declared.plan.LinearPlan.{LinearPlan}
 use Rattle.scroll_view.specs.ScrollPlan.{RepresentsScroll}
 use Rattle.scroll_view.specs.declared.plan.ScrollPlan.{ScrollPlan}
@@ -83,6 +83,16 @@ abbrev pub Turns : GroupPlan → GroupPlan → Bool → Type 0
 Turns old new answer =
     (group : Group) (past : List (List Measured)) (taken : List Measured) → Represents old group past taken
     → Turned new group past taken answer
+
+-- a plan at the start of a phase that asks none of the children of the phase before: taking them changes nothing, and
+-- no phase follows
+pub record HasIdlePhase (plan : GroupPlan) : Type 0 where
+  pub asks : (group : Group) (past : List (List Measured)) (last : List Measured)
+      → Represents plan group (past ++ last ∷ []) [] → AsksNone ((rule_in group).ask (past ++ last ∷ [])) last
+  pub takes : (group : Group) (past : List (List Measured)) (taken more : List Measured)
+      → Represents plan group past taken → Represents plan group past more
+  pub turns : (group : Group) (past : List (List Measured)) (taken : List Measured) → Represents plan group past taken
+      → (rule_in group).turns (past ++ taken ∷ []) ≡ false
 
 -- the size of a group by its plan after the last phase, and what its children took along its axis
 pub record Ends (plan : GroupPlan) (own : Size) (along : ℤ) : Type 0 where

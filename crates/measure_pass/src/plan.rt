@@ -1,5 +1,6 @@
 //! What the plan of a group asks of its children, by its class. A relative layout has a plan of its own.
-ghost use Rattle.measure_pass.specs.Plans.{Asks, Frame, Linear, Scroll, Takes, Turns};
+ghost use Rattle.std.specs.Prelude.{◌≡◌, true};
+ghost use Rattle.measure_pass.specs.Plans.{Asks, Frame, HasIdlePhase, Linear, Scroll, Takes, Turns};
 ghost use Rattle.view_model.specs.Facts.{layout_facts};
 
 use frame_layout::FramePlan;
@@ -55,6 +56,14 @@ pub fn scroll_take(plan: &mut ScrollPlan, kid: &Facts, size: Size)
     ensures { Takes (Scroll plan.old) (Scroll plan.new) (layout_facts kid.now) size }
 {
     plan.take(kid, size);
+}
+
+/// Whether the next phase of a linear layout is the last one and asks no child, so that it can be left out.
+#[inline(always)]
+pub fn linear_leaves_all(plan: &LinearPlan) -> bool
+    ensures { result ≡ true → HasIdlePhase (Linear plan.now) }
+{
+    plan.leaves_all()
 }
 
 /// Ends a phase of a frame layout: true if another follows.

@@ -11,7 +11,7 @@ ghost use Rattle.view_tree.specs.Views.{IsLive, IsTree, class_of, held_of};
 
 use crate::measuring::keeping::Outcome;
 use crate::measuring::measure;
-use crate::plan::{linear_ask, linear_take, linear_turn};
+use crate::plan::{linear_ask, linear_leaves_all, linear_take, linear_turn};
 use geom_core::Spec;
 use linear_layout::LinearPlan;
 use view_model::Work;
@@ -40,7 +40,8 @@ pub fn measure_linear(
     measure_phases(tree, view, &mut plan, 2, work)
 }
 
-/// The remaining phases of its measuring, at most this many after the next, and their result.
+/// The remaining phases of its measuring, at most this many after the next, and their result. A last phase that asks no
+/// child is left out: most groups have no child that wants to be as broad as they are.
 #[cycle(measure)]
 #[inline(always)]
 fn measure_phases(
@@ -63,6 +64,9 @@ fn measure_phases(
         return linear_outcome(plan);
     }
     if !linear_turn(plan) {
+        return linear_outcome(plan);
+    }
+    if linear_leaves_all(plan) {
         return linear_outcome(plan);
     }
     measure_more(tree, view, plan, left - 1, work)

@@ -15,6 +15,7 @@ use Rattle.measure_pass.proofs.AtPlace.{Ready-place}
 use Rattle.measure_pass.proofs.Calm.{Ready-below}
 use Rattle.measure_pass.proofs.Counts.{costs_twice, counted_fewer, counted_none, counted_one, counted_own, counted_self, counted_then}
 use Rattle.measure_pass.proofs.Edged.{costs-edged, grown-edged, ready-edged}
+use Rattle.measure_pass.proofs.LeftPhase.{all_left}
 use Rattle.measure_pass.proofs.MeasureKid.{measured_leaf, measured_planned}
 use Rattle.measure_pass.proofs.Own.{Own, current-is, hit_at, keeps_by, keeps_trans, measured_at, new_at, own_absent, sides_at, skip_at}
 use Rattle.kept_views.specs.Laying.{Wrote}
@@ -343,6 +344,11 @@ pub linear::measure_phases-returns-then-not-linear_turn-clause-phases : goal.lin
 linear::measure_phases-returns-then-not-linear_turn-clause-phases t c =
     all_here (Linear c.args.plan.now) (Linear c.measure_kids.new.plan) (Linear c.linear_turn.new.plan) c.args.tree.now c.measure_kids.new.tree (kids_from c.args.view c.args.tree.now.tree) c.args.left c.linear_outcome-then-not-linear_turn.result.size c.linear_outcome-then-not-linear_turn.result.total
     c.linear_turn.result c.args.work.now c.measure_kids.new.work c.if-not-linear_turn.true c.measure_kids.ensures.phase c.linear_turn.ensures c.linear_outcome-then-not-linear_turn.ensures
+
+pub linear::measure_phases-returns-then-linear_leaves_all-clause-phases : goal.linear::measure_phases-returns-then-linear_leaves_all-clause-phases
+linear::measure_phases-returns-then-linear_leaves_all-clause-phases t c =
+    all_left (Linear c.args.plan.now) (Linear c.measure_kids.new.plan) (Linear c.linear_turn.new.plan) c.args.tree.now c.measure_kids.new.tree (kids_from c.args.view c.args.tree.now.tree) c.args.left c.linear_outcome-then-linear_leaves_all.result.size c.linear_outcome-then-linear_leaves_all.result.total
+    c.linear_turn.result c.args.work.now c.measure_kids.new.work c.if-left-eq0.false c.if-not-linear_turn.false c.measure_kids.ensures.phase c.linear_turn.ensures (c.linear_leaves_all.ensures c.if-linear_leaves_all.true) c.linear_outcome-then-linear_leaves_all.ensures
 
 pub linear::measure_phases-returns-clause-phases : goal.linear::measure_phases-returns-clause-phases
 linear::measure_phases-returns-clause-phases t c =

@@ -32,5 +32,6 @@ returns c = λ kids few s.
       even = even;
       weighted = weighted;
       all_match = ap (λ b. c.args.self.now.all_match && b) c.matches.ensures;
+      any_match = ap (λ b. c.args.self.now.any_match || b) c.matches-2.ensures;
       any_skipped = ap (λ b. c.args.self.now.any_skipped || b) c.skips.ensures;
     }) s

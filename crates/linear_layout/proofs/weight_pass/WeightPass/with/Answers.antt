@@ -1,4 +1,5 @@
-use Rattle.std.proofs.Common.{◌≡◌, ◌<◌, ◌+ℤ◌, arith}
+use Rattle.std.proofs.Common.{◌≡◌, ◌<◌, ◌+ℤ◌, arith, ap}
+use Rattle.std.specs.Prelude.{◌||◌}
 use Rattle.std.proofs.lemmas.Int.{to_z-of_z}
 use Rattle.linear_layout.proofs.PassLaws.{WeightPass-push}
 use Rattle.linear_layout.specs.Line.{kid_with, own_in, specs_in}
@@ -28,4 +29,5 @@ returns c = λ first kids few s.
       spare = c.give.ensures.spare lows;
       broadest = broadest;
       claim = claim;
+      any_match = ap (λ b. c.args.self.now.any_match || b) c.matches.ensures;
     }) s
