@@ -4,3 +4,4 @@ mod PassLaws
 pub mod PlacingLaws
 pub mod PlanLaws
 pub mod ShareLaws
+pub mod SizedLaws

@@ -1,8 +1,9 @@
 -- The group that a line represents.
-use Rattle.std.specs.Prelude.{pos}
+use Rattle.std.specs.Prelude.{pos, Bool, not, int_lt, ◌&&◌, ◌==◌}
 use Rattle.linear_layout.specs.declared.line.Line.{Line}
 use Rattle.view_model.specs.declared.facts.Facts.{Facts}
 use Rattle.view_model.specs.Facts.{layout_facts, new_facts, padding_left, padding_right}
+use Rattle.view_model.specs.LinearLayout.{exactly}
 use Rattle.view_model.specs.Measuring.{Measured, Specs}
 use Rattle.geom_core.specs.declared.geometry.Size.{Size}
 
@@ -28,3 +29,11 @@ specs_in line = record { across = line.ws; down = line.hs }
 -- a child that is passed in with this size
 abbrev pub kid_with : Facts → Size → Measured
 kid_with facts size = record { facts = layout_facts facts; size = size }
+
+-- a child that has a number of pixels on both axes, and no weight
+abbrev pub is_sized : Facts → Bool
+is_sized kid = not (int_lt kid.width (pos 0)) && (not (int_lt kid.height (pos 0)) && kid.weight == 0)
+
+-- that number on each axis
+abbrev pub exact_specs : Facts → Specs
+exact_specs kid = record { across = exactly kid.width; down = exactly kid.height }

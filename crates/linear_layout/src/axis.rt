@@ -1,10 +1,11 @@
 //! What is read of facts, sizes and specs on one axis, the vertical one or the other. Lengths are in pixels.
 ghost use Rattle.std.specs.Prelude.{◌≡◌, ◌≤ℤ◌, pos, negsuc, not};
+ghost use Rattle.linear_layout.specs.Line.{exact_specs, is_sized};
 ghost use Rattle.view_model.specs.Facts.{layout_facts};
-ghost use Rattle.view_model.specs.LinearLayout.{alignment_on, dim_on, high_margin, high_padding, low_margin, low_padding, margins_on, size_by, size_on, spec_on, specs_by};
+ghost use Rattle.view_model.specs.LinearLayout.{alignment_on, dim_on, exactly, high_margin, high_padding, low_margin, low_padding, margins_on, size_by, size_on, spec_on, specs_by};
 ghost use Rattle.view_model.specs.Measuring.{pair_of};
 
-use geom_core::{Size, Spec};
+use geom_core::{Mode, Size, Spec, to_size};
 use view_model::{Alignment, Facts, Gravity};
 
 #[tactic(auto, unfolding(view_model::specs::LinearLayout::size_on))]
@@ -151,4 +152,30 @@ pub fn pair_by(vertical: bool, along: Spec, beside: Spec) -> (Spec, Spec)
         return (beside, along);
     }
     (along, beside)
+}
+
+/// Whether a child has a number of pixels on both axes, and no weight.
+#[inline(always)]
+pub fn is_sized(kid: &Facts) -> bool
+    ensures { result ≡ is_sized kid.now }
+{
+    kid.width >= 0 && kid.height >= 0 && kid.weight == 0
+}
+
+/// The specs of such a child: that number on each axis.
+#[inline(always)]
+pub fn own_specs(kid: &Facts) -> (Spec, Spec)
+    ensures { result ≡ pair_of (exact_specs kid.now) }
+{
+    (exactly(kid.width), exactly(kid.height))
+}
+
+/// The spec of exactly this size.
+pub fn exactly(size: i32) -> Spec
+    ensures { result ≡ exactly size }
+{
+    Spec {
+        mode: Mode::Exactly,
+        size: to_size(i64::from(size)),
+    }
 }

@@ -10,15 +10,15 @@ ghost use Rattle.geom_core.specs.declared.measuring.Mode.TheVariants.{Exactly};
 ghost use Rattle.linear_layout.specs.declared.weight_pass.WeightPass.{WeightPass as WeightPassValue};
 ghost use Rattle.linear_layout.specs.Line.{kid_with, own_in, specs_in};
 ghost use Rattle.linear_layout.specs.Passes.{IsFirstPass, IsWeightPass};
-ghost use Rattle.view_model.specs.LinearLayout.{breadth_for, breadth_once, breadth_twice, exactly, needed_breadth, resolved_breadth, uniform_pass};
+ghost use Rattle.view_model.specs.LinearLayout.{breadth_for, breadth_once, breadth_twice, needed_breadth, resolved_breadth, uniform_pass};
 ghost use Rattle.view_model.specs.Measuring.{Measured, pair_of};
 
-use crate::axis::{margins_on, pair_by, size_on};
+use crate::axis::{exactly, margins_on, pair_by, size_on};
 use crate::first_pass::FirstPass;
 use crate::line::Line;
 use crate::running::greater;
 use crate::weight_pass::WeightPass;
-use geom_core::{Mode, Size, Spec, remaining, resolve, to_size};
+use geom_core::{Mode, Size, Spec, remaining, resolve};
 use view_model::Facts;
 
 /// The breadth of a group after its first pass, and after its weight pass if that ran.
@@ -117,14 +117,5 @@ fn exact_rest(breadth: i32, padding: i64, margins: i64) -> Spec
     Spec {
         mode: Mode::Exactly,
         size: remaining(breadth, padding + margins),
-    }
-}
-
-fn exactly(size: i32) -> Spec
-    ensures { result ≡ exactly size }
-{
-    Spec {
-        mode: Mode::Exactly,
-        size: to_size(i64::from(size)),
     }
 }

@@ -9,7 +9,7 @@ ghost use Rattle.view_model.specs.Facts.{layout_facts};
 ghost use Rattle.view_model.specs.LinearLayout.{first_along, first_dim, first_pass, full_length, has_weight_pass, margins_on, own_length, spare_of, spec_beside, specs_by, used_before, whole_weight};
 ghost use Rattle.view_model.specs.Measuring.{Measured, Specs, pair_of};
 
-use crate::axis::{dim_on, margins_by, pair_by, spec_on};
+use crate::axis::{dim_on, is_sized, margins_by, own_specs, pair_by, spec_on};
 use crate::line::{Line, even_claim, weighted_claim};
 use crate::running::{Greatest, Total, Weights, greater};
 use geom_core::{Size, Spec, WRAP, child_spec, resolve};
@@ -76,9 +76,24 @@ impl FirstPass {
         }
     }
 
-    /// The specs of a child, or `None` if it is left out.
+    /// The specs of a child, or `None` if it is left out. Many children have a number of pixels on both axes and no
+    /// weight, and then nothing else is read.
     #[inline(always)]
     pub fn ask(&self, line: &Line, kid: &Facts, size: Size) -> Option<(Spec, Spec)>
+        ensures { (kids : List Measured)
+            → IsFirstPass self.now (own_in line.now) (specs_in line.now) kids
+            → result ≡ option_map pair_of
+            (first_pass (own_in line.now) (specs_in line.now) kids (kid_with kid.now size)) }
+    {
+        if is_sized(kid) {
+            return Some(own_specs(kid));
+        }
+        self.ask_unsized(line, kid, size)
+    }
+
+    /// The same of any child.
+    #[inline(always)]
+    fn ask_unsized(&self, line: &Line, kid: &Facts, size: Size) -> Option<(Spec, Spec)>
         ensures { (kids : List Measured)
             → IsFirstPass self.now (own_in line.now) (specs_in line.now) kids
             → result ≡ option_map pair_of

@@ -27,7 +27,8 @@ pub enum Phase {
 }
 
 /// The measuring of one linear layout. In each phase the children that take part in layout are passed in order: `ask`,
-/// measuring, `take`; `turn` ends it. The locals of these three leave the stack before what is below is measured.
+/// measuring, `take`; `turn` ends it. What is long and rare in these three has functions of its own, whose locals leave
+/// the stack before what is below is measured.
 #[derive(Clone, Copy)]
 pub struct LinearPlan {
     line: Line,
@@ -38,7 +39,7 @@ pub struct LinearPlan {
 impl LinearPlan {
     ghost use Rattle.linear_layout.specs.Line.{own_in, specs_in};
     ghost use Rattle.linear_layout.specs.LinearPlan.{LeavesAll, RepresentsLinear, TurnsLinear, leaves_all, weighed_by};
-    ghost use Rattle.linear_layout.specs.declared.plan.Phase.TheVariants.{Uniform};
+    ghost use Rattle.linear_layout.specs.declared.plan.Phase.TheVariants.{Uniform, Weight};
     ghost use Rattle.linear_layout.specs.Passes.{IsFirstPass, IsWeightPass};
 
     /// The plan of a group with these facts under these specs, before its first child.
@@ -83,7 +84,7 @@ impl LinearPlan {
     }
 
     /// Takes the size that a child has got; if `ask` returned `None`, the one that was passed to it.
-    #[inline(never)]
+    #[inline(always)]
     pub fn take(&mut self, kid: &Facts, size: Size)
         ensures { (own : FactsValue) (specs : Specs) (past : List (List Measured)) (taken : List Measured)
             → RepresentsLinear self.old own specs past taken
@@ -91,13 +92,29 @@ impl LinearPlan {
             → RepresentsLinear self.new own specs past
             (taken ++ taken_as (linear_rule own specs) past taken (layout_facts kid.now) size ∷ []) }
     {
-        match self.phase {
+        match &self.phase {
             Phase::First => {
                 let counted = counted(self.line.skips(kid), size);
                 self.first = self.first.with(&self.line, kid, counted);
             }
-            Phase::Weight(pass) => self.phase = Phase::Weight(pass.with(&self.line, kid, size)),
+            Phase::Weight(_) => self.take_weighed(kid, size),
             Phase::Uniform(_) => (),
+        }
+    }
+
+    /// The same in the weight pass, and nothing in the others.
+    #[inline(never)]
+    fn take_weighed(&mut self, kid: &Facts, size: Size)
+        ensures { (pass : WeightPassValue)
+            → (own : FactsValue) (specs : Specs) (past : List (List Measured)) (taken : List Measured)
+            → self.old.phase ≡ Weight pass
+            → RepresentsLinear self.old own specs past taken
+            → length taken < MAX_VIEWS
+            → RepresentsLinear self.new own specs past
+            (taken ++ taken_as (linear_rule own specs) past taken (layout_facts kid.now) size ∷ []) }
+    {
+        if let Phase::Weight(pass) = self.phase {
+            self.phase = Phase::Weight(pass.with(&self.line, kid, size));
         }
     }
 
