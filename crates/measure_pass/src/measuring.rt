@@ -39,6 +39,7 @@ use view_tree::{Key, ViewTree};
 /// laid out. Otherwise what is below it is measured, its size is remembered, and the measuring is counted. An exact
 /// spec that is the measured size is no reason to skip it. Views below it that are gone are not measured.
 #[cycle(measure)]
+#[inline(always)]
 pub fn measure(tree: &mut ViewTree, view: Key, ws: Spec, hs: Spec, work: &mut Work) -> Size
     requires ready { IsReady tree.old view }
     ensures size { result ≡ size_under (part_from view tree.old.tree) (record { across = ws; down = hs }) }
@@ -68,6 +69,39 @@ pub fn measure(tree: &mut ViewTree, view: Key, ws: Spec, hs: Spec, work: &mut Wo
     if is_current(&state, ws, hs) {
         return state.measured;
     }
+    measure_changed(tree, view, ws, hs, work)
+}
+
+/// Measures a view that is forced or was last measured under other specs. Most calls of `measure` do not get here, and
+/// cost no call.
+#[cycle(measure)]
+#[inline(never)]
+fn measure_changed(tree: &mut ViewTree, view: Key, ws: Spec, hs: Spec, work: &mut Work) -> Size
+    requires ready { IsReady tree.old view }
+    requires is_tree { IsTree tree.old }
+    requires changed { current (state_of tree.old view) (record { across = ws; down = hs }) ≡ false }
+    ensures size { result ≡ size_under (part_from view tree.old.tree) (record { across = ws; down = hs }) }
+    ensures width { IsSide result.w }
+    ensures height { IsSide result.h }
+    ensures same { SameTree tree.old tree.new }
+    ensures measured { IsMeasured tree.new view (record { across = ws; down = hs }) }
+    ensures keeps { Keeps (held_of tree.old) (held_of tree.new) }
+    ensures others { KeepsOutside (held_of tree.old) (held_of tree.new) (first_tree (part_from view tree.old.tree)) }
+    ensures counted { Counted 0 tree.old tree.new work.old work.new }
+    ensures costs { Costs (first_tree (part_from view tree.old.tree)) (held_of tree.old)
+        (held_of tree.new) work.old.measured
+        (calls_under (part_from view tree.old.tree) (record { across = ws; down = hs })) work.new.measured }
+    ensures caches { Grown (λ place other. other ≡ (record { across = ws; down = hs })) (held_of tree.old)
+        (held_of tree.new) (first_tree (part_from view tree.old.tree)) }
+    ensures idle { IsKnown (held_of tree.old view) (record { across = ws; down = hs })
+        → (work.new ≡ work.old)
+        × (cache_of tree.new view ≡ cache_of tree.old view)
+        × (tree.new.counts ≡ tree.old.counts) }
+    ensures busy { (IsKnown (held_of tree.old view) (record { across = ws; down = hs }) → ⊥)
+        → Counted 1 tree.old tree.new work.old work.new
+        × (cache_of tree.new view ≡ put_in (cache_of tree.old view)
+        (entry_for (record { across = ws; down = hs }) result)) }
+{
     if let Some(size) = tree.cache(view).find(ws, hs) {
         hit(tree, view, ws, hs, size);
         return size;
@@ -75,9 +109,9 @@ pub fn measure(tree: &mut ViewTree, view: Key, ws: Spec, hs: Spec, work: &mut Wo
     measure_anew(tree, view, ws, hs, work)
 }
 
-/// Measures a view through what is below it. Most calls of `measure` don't get here.
+/// Measures a view through what is below it.
 #[cycle(measure)]
-#[inline(never)]
+#[inline(always)]
 fn measure_anew(tree: &mut ViewTree, view: Key, ws: Spec, hs: Spec, work: &mut Work) -> Size
     requires ready { IsReady tree.old view }
     requires miss { found (cache_of tree.old view) (record { across = ws; down = hs }) ≡ None }

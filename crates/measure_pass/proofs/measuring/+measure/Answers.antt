@@ -91,7 +91,7 @@ measure-returns-then-is_current-clause-caches t c = (own_skipped t c).caches
 pub measure-returns-then-is_current-clause-busy : goal.measure-returns-then-is_current-clause-busy
 measure-returns-then-is_current-clause-busy t c = λ unknown. absurd (unknown (inl (skipped t c)))
 
-own_hit : (t : ℕ) (c : goal.measure-After-hit t) → (let specs : Specs = record { across = c.args.ws; down = c.args.hs } in
+own_hit : (t : ℕ) (c : goal.measure_changed-After-hit t) → (let specs : Specs = record { across = c.args.ws; down = c.args.hs } in
     Own (part_from c.args.view c.args.tree.now.tree) c.args.view specs (held_of c.args.tree.now) (held_of c.hit.new.tree) c.args.work.now.measured c.args.work.now.measured
     c.in-Some.size)
 own_hit t c =
@@ -99,44 +99,44 @@ own_hit t c =
     let r = c.requires.ready in
     let there : found (cache_of c.args.tree.now c.args.view) specs ≡ Some c.in-Some.size =
     ap (λ cache. found cache specs) (sym c.cache.ensures) ∙ sym c.find.ensures ∙ c.in-Some.is in
-    hit_at c.args.tree.now.tree c.args.view (held_of c.args.tree.now) (held_of c.hit.new.tree) specs c.in-Some.size c.args.work.now.measured c.state-state.ensures.is_tree.keys
+    hit_at c.args.tree.now.tree c.args.view (held_of c.args.tree.now) (held_of c.hit.new.tree) specs c.in-Some.size c.args.work.now.measured c.requires.is_tree.keys
     r.live r.shown r.ready there (record { at = c.hit.ensures.held; others = c.hit.ensures.others })
 
-pub measure-returns-in-Some-clause-size : goal.measure-returns-in-Some-clause-size
-measure-returns-in-Some-clause-size t c = (own_hit t c).size
+pub measure_changed-returns-in-Some-clause-size : goal.measure_changed-returns-in-Some-clause-size
+measure_changed-returns-in-Some-clause-size t c = (own_hit t c).size
 
-pub measure-returns-in-Some-clause-width : goal.measure-returns-in-Some-clause-width
-measure-returns-in-Some-clause-width t c = (sides_at c.args.tree.now.tree c.args.view _ c.in-Some.size c.requires.ready.live (own_hit t c).size).0
+pub measure_changed-returns-in-Some-clause-width : goal.measure_changed-returns-in-Some-clause-width
+measure_changed-returns-in-Some-clause-width t c = (sides_at c.args.tree.now.tree c.args.view _ c.in-Some.size c.requires.ready.live (own_hit t c).size).0
 
-pub measure-returns-in-Some-clause-height : goal.measure-returns-in-Some-clause-height
-measure-returns-in-Some-clause-height t c = (sides_at c.args.tree.now.tree c.args.view _ c.in-Some.size c.requires.ready.live (own_hit t c).size).1
+pub measure_changed-returns-in-Some-clause-height : goal.measure_changed-returns-in-Some-clause-height
+measure_changed-returns-in-Some-clause-height t c = (sides_at c.args.tree.now.tree c.args.view _ c.in-Some.size c.requires.ready.live (own_hit t c).size).1
 
-pub measure-returns-in-Some-clause-measured : goal.measure-returns-in-Some-clause-measured
-measure-returns-in-Some-clause-measured t c = measured_at c.args.tree.now c.hit.new.tree c.args.view _ _ _ _ _ c.hit.ensures.same.tree (own_hit t c)
+pub measure_changed-returns-in-Some-clause-measured : goal.measure_changed-returns-in-Some-clause-measured
+measure_changed-returns-in-Some-clause-measured t c = measured_at c.args.tree.now c.hit.new.tree c.args.view _ _ _ _ _ c.hit.ensures.same.tree (own_hit t c)
 
-pub measure-returns-in-Some-clause-keeps : goal.measure-returns-in-Some-clause-keeps
-measure-returns-in-Some-clause-keeps t c = (own_hit t c).keeps
+pub measure_changed-returns-in-Some-clause-keeps : goal.measure_changed-returns-in-Some-clause-keeps
+measure_changed-returns-in-Some-clause-keeps t c = (own_hit t c).keeps
 
-pub measure-returns-in-Some-clause-others : goal.measure-returns-in-Some-clause-others
-measure-returns-in-Some-clause-others t c = (own_hit t c).others
+pub measure_changed-returns-in-Some-clause-others : goal.measure_changed-returns-in-Some-clause-others
+measure_changed-returns-in-Some-clause-others t c = (own_hit t c).others
 
-pub measure-returns-in-Some-clause-counted : goal.measure-returns-in-Some-clause-counted
-measure-returns-in-Some-clause-counted t c = counted_none c.args.tree.now c.hit.new.tree c.args.work.now c.args.work.now c.hit.ensures.counts refl
+pub measure_changed-returns-in-Some-clause-counted : goal.measure_changed-returns-in-Some-clause-counted
+measure_changed-returns-in-Some-clause-counted t c = counted_none c.args.tree.now c.hit.new.tree c.args.work.now c.args.work.now c.hit.ensures.counts refl
 
-pub measure-returns-in-Some-clause-costs : goal.measure-returns-in-Some-clause-costs
-measure-returns-in-Some-clause-costs t c = (own_hit t c).costs
+pub measure_changed-returns-in-Some-clause-costs : goal.measure_changed-returns-in-Some-clause-costs
+measure_changed-returns-in-Some-clause-costs t c = (own_hit t c).costs
 
-pub measure-returns-in-Some-clause-caches : goal.measure-returns-in-Some-clause-caches
-measure-returns-in-Some-clause-caches t c = (own_hit t c).caches
+pub measure_changed-returns-in-Some-clause-caches : goal.measure_changed-returns-in-Some-clause-caches
+measure_changed-returns-in-Some-clause-caches t c = (own_hit t c).caches
 
-pub measure-returns-clause-width : goal.measure-returns-clause-width
-measure-returns-clause-width t c = (sides_at c.args.tree.now.tree c.args.view _ c.measure_anew.result c.requires.ready.live c.measure_anew.ensures.size).0
+pub measure_changed-returns-clause-width : goal.measure_changed-returns-clause-width
+measure_changed-returns-clause-width t c = (sides_at c.args.tree.now.tree c.args.view _ c.measure_anew.result c.requires.ready.live c.measure_anew.ensures.size).0
 
-pub measure-returns-clause-height : goal.measure-returns-clause-height
-measure-returns-clause-height t c = (sides_at c.args.tree.now.tree c.args.view _ c.measure_anew.result c.requires.ready.live c.measure_anew.ensures.size).1
+pub measure_changed-returns-clause-height : goal.measure_changed-returns-clause-height
+measure_changed-returns-clause-height t c = (sides_at c.args.tree.now.tree c.args.view _ c.measure_anew.result c.requires.ready.live c.measure_anew.ensures.size).1
 
-pub measure-returns-clause-counted : goal.measure-returns-clause-counted
-measure-returns-clause-counted t c = counted_fewer 0 1 c.args.tree.now c.measure_anew.new.tree c.args.work.now c.measure_anew.new.work (omega arith) c.measure_anew.ensures.counted
+pub measure_changed-returns-clause-counted : goal.measure_changed-returns-clause-counted
+measure_changed-returns-clause-counted t c = counted_fewer 0 1 c.args.tree.now c.measure_anew.new.tree c.args.work.now c.measure_anew.new.work (omega arith) c.measure_anew.ensures.counted
 
 pub measure_anew-measure_below-outcome-requires : goal.measure_anew-measure_below-outcome-requires
 measure_anew-measure_below-outcome-requires t c =

@@ -17,25 +17,28 @@ use Rattle.measure_pass.proofs.measuring.+measure.Given as goal
 
 -- one round from a view to its child goes through these functions
 abbrev pub decreases-measure : goal.decreases-measure
-decreases-measure l = 11 * count_of (tree_from l.view l.tree.now.tree) + 9
+decreases-measure l = 12 * count_of (tree_from l.view l.tree.now.tree) + 10
+
+abbrev pub decreases-measure_changed : goal.decreases-measure_changed
+decreases-measure_changed l = 12 * count_of (tree_from l.view l.tree.now.tree) + 9
 
 abbrev pub decreases-measure_anew : goal.decreases-measure_anew
-decreases-measure_anew l = 11 * count_of (tree_from l.view l.tree.now.tree) + 8
+decreases-measure_anew l = 12 * count_of (tree_from l.view l.tree.now.tree) + 8
 
 abbrev pub decreases-measure_below : goal.decreases-measure_below
-decreases-measure_below l = 11 * count_of (tree_from l.view l.tree.now.tree) + 7
+decreases-measure_below l = 12 * count_of (tree_from l.view l.tree.now.tree) + 7
 
 abbrev pub decreases-frame::measure_frame : goal.decreases-frame::measure_frame
-decreases-frame::measure_frame l = 11 * count_of (tree_from l.view l.tree.now.tree) + 6
+decreases-frame::measure_frame l = 12 * count_of (tree_from l.view l.tree.now.tree) + 6
 
 abbrev pub decreases-frame::measure_more : goal.decreases-frame::measure_more
-decreases-frame::measure_more l = 11 * count_of (tree_from l.view l.tree.now.tree) + 2 + 2 * l.left
+decreases-frame::measure_more l = 12 * count_of (tree_from l.view l.tree.now.tree) + 2 + 2 * l.left
 
 abbrev pub decreases-frame::measure_phases : goal.decreases-frame::measure_phases
-decreases-frame::measure_phases l = 11 * count_of (tree_from l.view l.tree.now.tree) + 1 + 2 * l.left
+decreases-frame::measure_phases l = 12 * count_of (tree_from l.view l.tree.now.tree) + 1 + 2 * l.left
 
 abbrev pub decreases-frame::measure_kids : goal.decreases-frame::measure_kids
-decreases-frame::measure_kids l = 11 * count_of (tree_from l.view l.tree.now.tree)
+decreases-frame::measure_kids l = 12 * count_of (tree_from l.view l.tree.now.tree)
 
 abbrev pub invariant-frame::measure_kids-loop-next : goal.invariant-frame::measure_kids-loop-next
 invariant-frame::measure_kids-loop-next l =
@@ -45,19 +48,19 @@ abbrev pub decreases-frame::measure_kids-loop-next : goal.decreases-frame::measu
 decreases-frame::measure_kids-loop-next l = count_of (rest_from l.next l.tree.tree)
 
 abbrev pub decreases-frame::measure_kid : goal.decreases-frame::measure_kid
-decreases-frame::measure_kid l = 11 * count_of (tree_from l.kid l.tree.now.tree) + 10
+decreases-frame::measure_kid l = 12 * count_of (tree_from l.kid l.tree.now.tree) + 11
 
 abbrev pub decreases-linear::measure_linear : goal.decreases-linear::measure_linear
-decreases-linear::measure_linear l = 11 * count_of (tree_from l.view l.tree.now.tree) + 6
+decreases-linear::measure_linear l = 12 * count_of (tree_from l.view l.tree.now.tree) + 6
 
 abbrev pub decreases-linear::measure_more : goal.decreases-linear::measure_more
-decreases-linear::measure_more l = 11 * count_of (tree_from l.view l.tree.now.tree) + 2 + 2 * l.left
+decreases-linear::measure_more l = 12 * count_of (tree_from l.view l.tree.now.tree) + 2 + 2 * l.left
 
 abbrev pub decreases-linear::measure_phases : goal.decreases-linear::measure_phases
-decreases-linear::measure_phases l = 11 * count_of (tree_from l.view l.tree.now.tree) + 1 + 2 * l.left
+decreases-linear::measure_phases l = 12 * count_of (tree_from l.view l.tree.now.tree) + 1 + 2 * l.left
 
 abbrev pub decreases-linear::measure_kids : goal.decreases-linear::measure_kids
-decreases-linear::measure_kids l = 11 * count_of (tree_from l.view l.tree.now.tree)
+decreases-linear::measure_kids l = 12 * count_of (tree_from l.view l.tree.now.tree)
 
 abbrev pub invariant-linear::measure_kids-loop-next : goal.invariant-linear::measure_kids-loop-next
 invariant-linear::measure_kids-loop-next l =
@@ -67,19 +70,19 @@ abbrev pub decreases-linear::measure_kids-loop-next : goal.decreases-linear::mea
 decreases-linear::measure_kids-loop-next l = count_of (rest_from l.next l.tree.tree)
 
 abbrev pub decreases-linear::measure_kid : goal.decreases-linear::measure_kid
-decreases-linear::measure_kid l = 11 * count_of (tree_from l.kid l.tree.now.tree) + 10
+decreases-linear::measure_kid l = 12 * count_of (tree_from l.kid l.tree.now.tree) + 11
 
 abbrev pub decreases-scroll::measure_scroll : goal.decreases-scroll::measure_scroll
-decreases-scroll::measure_scroll l = 11 * count_of (tree_from l.view l.tree.now.tree) + 6
+decreases-scroll::measure_scroll l = 12 * count_of (tree_from l.view l.tree.now.tree) + 6
 
 abbrev pub decreases-scroll::measure_more : goal.decreases-scroll::measure_more
-decreases-scroll::measure_more l = 11 * count_of (tree_from l.view l.tree.now.tree) + 2 + 2 * l.left
+decreases-scroll::measure_more l = 12 * count_of (tree_from l.view l.tree.now.tree) + 2 + 2 * l.left
 
 abbrev pub decreases-scroll::measure_phases : goal.decreases-scroll::measure_phases
-decreases-scroll::measure_phases l = 11 * count_of (tree_from l.view l.tree.now.tree) + 1 + 2 * l.left
+decreases-scroll::measure_phases l = 12 * count_of (tree_from l.view l.tree.now.tree) + 1 + 2 * l.left
 
 abbrev pub decreases-scroll::measure_kids : goal.decreases-scroll::measure_kids
-decreases-scroll::measure_kids l = 11 * count_of (tree_from l.view l.tree.now.tree)
+decreases-scroll::measure_kids l = 12 * count_of (tree_from l.view l.tree.now.tree)
 
 abbrev pub invariant-scroll::measure_kids-loop-next : goal.invariant-scroll::measure_kids-loop-next
 invariant-scroll::measure_kids-loop-next l =
@@ -89,13 +92,13 @@ abbrev pub decreases-scroll::measure_kids-loop-next : goal.decreases-scroll::mea
 decreases-scroll::measure_kids-loop-next l = count_of (rest_from l.next l.tree.tree)
 
 abbrev pub decreases-scroll::measure_kid : goal.decreases-scroll::measure_kid
-decreases-scroll::measure_kid l = 11 * count_of (tree_from l.kid l.tree.now.tree) + 10
+decreases-scroll::measure_kid l = 12 * count_of (tree_from l.kid l.tree.now.tree) + 11
 
 abbrev pub decreases-relative::measure_siblings : goal.decreases-relative::measure_siblings
-decreases-relative::measure_siblings l = 11 * count_of (tree_from l.view l.tree.now.tree) + 6
+decreases-relative::measure_siblings l = 12 * count_of (tree_from l.view l.tree.now.tree) + 6
 
 abbrev pub decreases-relative::measure_turns : goal.decreases-relative::measure_turns
-decreases-relative::measure_turns l = 11 * count_of (tree_from l.view l.tree.now.tree)
+decreases-relative::measure_turns l = 12 * count_of (tree_from l.view l.tree.now.tree)
 
 abbrev pub invariant-relative::measure_turns-loop-turn : goal.invariant-relative::measure_turns-loop-turn
 invariant-relative::measure_turns-loop-turn l =
@@ -113,4 +116,4 @@ invariant-relative::measure_turns-loop-turn l =
     }
 
 abbrev pub decreases-relative::measure_in_turn : goal.decreases-relative::measure_in_turn
-decreases-relative::measure_in_turn l = 11 * count_of (tree_from l.turn.kid l.tree.now.tree) + 10
+decreases-relative::measure_in_turn l = 12 * count_of (tree_from l.turn.kid l.tree.now.tree) + 11
