@@ -85,7 +85,28 @@ impl Cursor {
             → PlacesLinear self.new own room total
             (before ++ record { facts = layout_facts kid.now; size = size } ∷ []) }
     {
-        let vertical = self.vertical;
+        if self.vertical {
+            return self.place_on(true, kid, size);
+        }
+        self.place_on(false, kid, size)
+    }
+
+    /// The same in a line on this axis, which is a constant where it is called: each axis has code of its own.
+    #[inline(always)]
+    fn place_on(&mut self, vertical: bool, kid: &Facts, size: Size) -> Rect
+        requires axis { vertical ≡ self.old.vertical }
+        requires width { IsSide size.w }
+        requires height { IsSide size.h }
+        ensures extent { size_of_rect result ≡ size }
+        ensures place { (own : FactsValue) (room : SizeValue) (total : ℤ) (before : List Measured)
+            → PlacesLinear self.old own room total before
+            → result ≡ linear_place own room total before (record { facts = layout_facts kid.now; size = size }) }
+        ensures next { (own : FactsValue) (room : SizeValue) (total : ℤ) (before : List Measured)
+            → PlacesLinear self.old own room total before
+            → length before < MAX_VIEWS
+            → PlacesLinear self.new own room total
+            (before ++ record { facts = layout_facts kid.now; size = size } ∷ []) }
+    {
         let along = self.mark.edge(low_margin(vertical, kid));
         let beside = self.edge_beside(kid, size);
         self.mark = self
