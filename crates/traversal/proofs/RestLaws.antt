@@ -2,9 +2,12 @@
 use Rattle.std.proofs.Common.{◌≡◌, ℤ, Bool, true, false, Option, Some, refl, sym, ◌∙◌, ap}
 use Rattle.std.proofs.lemmas.Bool.Decides.{Decides-int_eq}
 use Rattle.std.specs.Ordering.{int_eq}
-use Rattle.std.specs.Prelude.{if◌then◌else◌}
+use Rattle.std.specs.Prelude.{if◌then◌else◌, ◌&&◌, ◌||◌, not}
 use Rattle.geom_core.specs.declared.geometry.Rect.{Rect}
 use Rattle.kept_views.specs.Laying.{same_place}
+use Rattle.kept_views.proofs.LaidRows.{moved_is}
+use Rattle.view_tree.specs.Views.{Held}
+use Rattle.traversal.specs.Resting.{IsAtPlace, is_at_place}
 
 pub calm_of : (moved forced needed : Bool) → (if moved then false else (if forced then false else (if needed then false else true))) ≡ true → (moved ≡ false) × (forced ≡ false) × (needed ≡ false)
 calm_of true forced needed e = let no : false ≡ true = e in absurd (cc)
@@ -25,3 +28,20 @@ unmoved bounds rect true lies e = absurd (let no : true ≡ false = sym there �
 
     there : same_place (Some rect) rect ≡ true
     there = rw (self rect.left, self rect.top, self rect.right) (self rect.bottom)
+
+-- a view that passes the test
+pub is_at_place-IsAtPlace : (own : Held) (rect : Rect) → is_at_place own.state rect ≡ true → IsAtPlace own.state rect
+is_at_place-IsAtPlace own rect there =
+    let quiet = none_of own.state.forced own.state.layout_needed own.state.measure_first _ there in
+    record {
+      forced = quiet.0;
+      needed = quiet.1;
+      marked = quiet.2;
+      bounds = ap (λ (h : Held). h.state.bounds) (moved_is own own rect false quiet.3 refl);
+    }
+  where
+    none_of : (forced needed marked lies : Bool) → (not ((forced || needed) || marked) && lies) ≡ true → (forced ≡ false) × (needed ≡ false) × (marked ≡ false) × (lies ≡ true)
+    none_of true needed marked lies e = let no : false ≡ true = e in absurd (cc)
+    none_of false true marked lies e = let no : false ≡ true = e in absurd (cc)
+    none_of false false true lies e = let no : false ≡ true = e in absurd (cc)
+    none_of false false false lies e = (refl, refl, refl, e)

@@ -1,7 +1,8 @@
 -- Trees in which a frame has nothing left to do.
-use Rattle.std.specs.Prelude.{◌≡◌, ℕ, pos, true, false, Some}
+use Rattle.std.specs.Prelude.{◌≡◌, ◌&&◌, ◌||◌, not, ℕ, pos, true, false, Bool, Some}
 use Rattle.geom_core.specs.declared.geometry.Rect.{Rect}
 use Rattle.geom_core.specs.declared.geometry.Size.{Size}
+use Rattle.kept_views.specs.Laying.{same_place}
 use Rattle.view_model.specs.declared.facts.Facts.{Facts}
 use Rattle.view_model.specs.Facts.{is_shown}
 use Rattle.view_model.specs.Geometry.{rect_at}
@@ -16,6 +17,10 @@ pub record IsAtPlace (state : State) (rect : Rect) : Type 0 where
   pub needed : state.layout_needed ≡ false
   pub marked : state.measure_first ≡ false
   pub bounds : state.bounds ≡ Some rect
+
+abbrev pub is_at_place : State → Rect → Bool
+is_at_place state rect =
+    not ((state.forced || state.layout_needed) || state.measure_first) && same_place state.bounds rect
 
 -- nor of a root of this state and these facts, which was measured for a window of this size and is at its origin
 pub record IsRootAtRest (state : State) (facts : Facts) (window : Size) : Type 0 where

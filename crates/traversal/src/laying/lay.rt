@@ -27,7 +27,7 @@ ghost use Rattle.traversal.specs.Counting.{IsMeasuringCounted};
 ghost use Rattle.traversal.specs.Laying.{AreFitToLay, HasLaid, stage_of};
 ghost use Rattle.traversal.specs.Narrow.{IsNarrow, IsNarrowFor, IsStretch};
 ghost use Rattle.traversal.specs.Placing.{LaidKids, PlacesAs, Unmarked};
-ghost use Rattle.traversal.specs.Resting.{IsAtPlace};
+ghost use Rattle.traversal.specs.Resting.{IsAtPlace, is_at_place};
 ghost use Rattle.traversal.specs.Subtrees.{children_at, spot_at, subtree_at};
 
 use super::placer::{Placer, places_backwards};
@@ -37,7 +37,7 @@ use measure_pass::remeasure;
 use scroll_offsets::bring_one;
 use seen_parts::{Canvas, follow, part_seen};
 use view_model::{Facts, Work};
-use view_tree::{Key, ViewTree};
+use view_tree::{Key, State, ViewTree};
 
 /// What the children of a view are laid in: the size of the view, and the canvas in which they are seen, if they are.
 #[derive(Clone, Copy)]
@@ -70,8 +70,22 @@ pub fn lay(
         (subtree_at tree.old view) }
     ensures put { IsPut (held_of tree.old) (held_of tree.new) view (part_from view tree.old.tree) rect }
 {
+    let _in_range = context.work.measured;
+    if is_at_place(&tree.state(view), rect) {
+        return;
+    }
     lay_open(tree, view, rect, canvas, context);
     settle(tree, view);
+}
+
+/// Whether nothing was asked of a view of this state, and it has this rectangle. Most views of a frame that follows a
+/// small change are such.
+#[inline(always)]
+fn is_at_place(state: &State, rect: Rect) -> bool
+    ensures { result ≡ is_at_place state.now rect }
+{
+    let asked = state.forced | state.layout_needed | state.measure_first;
+    !asked && lies_at(state.bounds, rect)
 }
 
 /// The same, but that the view itself has not settled: what was asked of it stays until then.

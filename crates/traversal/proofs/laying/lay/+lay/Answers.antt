@@ -24,6 +24,7 @@ use Rattle.view_tree.specs.declared.counts.Counts.{Counts}
 use Rattle.view_tree.proofs.forest.Walks.{count_few, count_one, fewer_below}
 use Rattle.view_tree.proofs.forest.Forests.{count_alone, live_after}
 use Rattle.traversal.specs.Placing.{LaidKids}
+use Rattle.traversal.specs.Resting.{is_at_place}
 use Rattle.measure_pass.specs.Caches.{Grown}
 use Rattle.measure_pass.proofs.Grows.{Grown-trans}
 use Rattle.measure_pass.proofs.Rests.{same_then}
@@ -32,12 +33,12 @@ use Rattle.traversal.specs.Laying.{HasLaid, LayingStage, stage_of}
 use Rattle.traversal.proofs.CountedLaws.{counted_still, counted_then}
 use Rattle.traversal.proofs.GrownLaid.{grown_caches, grown_kid, grown_view}
 use Rattle.traversal.proofs.LastAsked.{kids_asked}
-use Rattle.traversal.proofs.LaidAt.{alone_outside, below_at, calm_at, differ_at, kid_at, kid_gone, outside_at, put_at, put_same, settled_bounds, settled_cache, settled_is, sides_at}
+use Rattle.traversal.proofs.LaidAt.{alone_outside, below_at, calm_at, differ_at, kid_at, kid_gone, outside_at, put_at, put_same, settled_bounds, settled_cache, settled_is, settled_same, sides_at}
 use Rattle.traversal.proofs.FollowedViews.{covers_along, covers_at, covers_end, covers_on, covers_start, settled_places, sight_along, sight_at, sight_same, steps_by, walks_end, walks_on, walks_start}
 use Rattle.traversal.proofs.BackWalk.{WalkTo, back_few, back_fit, back_narrow, back_on, back_start, backwards_is, fewer_back}
 use Rattle.traversal.proofs.LaidStages.{laid_none}
 use Rattle.traversal.proofs.LaidWalk.{laid_on, laid_start, next_narrow, quiet_none}
-use Rattle.traversal.proofs.RestLaws.{calm_is, calm_of, unmoved}
+use Rattle.traversal.proofs.RestLaws.{calm_is, calm_of, is_at_place-IsAtPlace, unmoved}
 use Rattle.traversal.proofs.laying.lay.+lay.Goals as goal
 
 -- lay_kid
@@ -552,6 +553,21 @@ lay_open-returns-then-is_bare-clause-still t c = λ place.
     absurd (let no : true ≡ false = sym calm ∙ sym c.is_calm.ensures ∙ c.if-is_calm.false in cc)
 
 -- lay
+
+pub lay-returns-then-is_at_place-clause-put : goal.lay-returns-then-is_at_place-clause-put
+lay-returns-then-is_at_place-clause-put t c =
+    let tree = c.args.tree.now.tree in
+    let view = c.args.view in
+    let r = c.requires.fit in
+    let held = held_of c.args.tree.now in
+    let place = is_at_place-IsAtPlace (held view) c.args.rect (ap (λ (state : State). is_at_place state c.args.rect) (sym c.state.ensures.value) ∙ sym c.is_at_place.ensures ∙ c.if-is_at_place.true) in
+    put_same held (settled_at view held) held view (part_from view tree) c.args.rect (λ key. sym (settled_same view held place.forced place.needed key))
+    (calm_at tree view held held c.args.rect r.live r.shown (record { ready = r.ready; sized = r.sized })
+    (record { forced = place.forced; needed = place.needed; bounds = place.bounds; specs = refl; edges = refl }) (λ key. refl))
+
+pub lay-returns-then-is_at_place-clause-done : goal.lay-returns-then-is_at_place-clause-done
+lay-returns-then-is_at_place-clause-done t c =
+    laid_none c.args.canvas.now (stage_of c.args.tree.now c.args.context.now) (first_tree (part_from c.args.view c.args.tree.now.tree))
 
 pub lay-returns-clause-put : goal.lay-returns-clause-put
 lay-returns-clause-put t c =
