@@ -12,7 +12,7 @@ MODULES = (
     "tools", "starts", "many", "golden", "hostile", "plugin", "grammar", "apps", "apps_report", "app_goldens",
     "fuzz_apps", "resources", "fuzz_resources", "driving", "facts", "serving", "lints", "lint_rules", "lint_formats",
     "browser", "previews", "languages", "farms", "installed", "packages", "shells", "release_checks", "package",
-    "house", "edits", "words", "spelling", "stored", "native", "native_sessions",
+    "house", "edits", "additions", "words", "spelling", "stored", "native", "native_sessions",
     "web_module", "play", "play_use",
 )
 # those that are run only where they are asked for
