@@ -13,8 +13,11 @@ TOP = os.path.dirname(os.path.dirname(os.path.realpath(__file__)))
 SECONDS = 60
 
 sys.path.insert(0, os.path.join(TOP, "tools"))
-# tools that checks call keep their compiled modules, since they start in half of the time then
+# tools that checks call start in a third of the time where they keep their compiled modules, and where their Python is
+# that of the checks and not what pyenv has on PATH, which is a script
 os.environ.pop("PYTHONDONTWRITEBYTECODE", None)
+if os.path.realpath(shutil.which("python3") or "") != os.path.realpath(sys.executable):
+    os.environ["PATH"] = os.pathsep.join([os.path.dirname(sys.executable), os.environ.get("PATH", os.defpath)])
 
 from vindaesk.common.failures import Failure
 from vindaesk.program import process
