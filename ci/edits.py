@@ -4,9 +4,9 @@ printed, and writes the lines `# clause:`.
 
 A place is the file, its function, and the clause, as `src/links.rt unlink kept`; or the file of a law, and the law.
 Where a function is refused for another reason than a clause with a name, the last word is the kind of the goal:
-`returns` for what it promises, `requires` for what a call asks, `loop`, `invariant_of` for a type. An edit that is
-refused at several places has a line for each, since `rt ci` prints one of them. A line without a last word is met by
-each goal of the function."""
+`returns` for what it promises, `requires` for what a call asks, `loop`, `invariant_of` for a type, `overflow_sub`. An
+edit that is refused at several places has a line for each, since `rt ci` prints one of them. A line without a last word
+is met by each goal of the function."""
 import glob
 import os
 import re
@@ -29,7 +29,7 @@ GOAL = re.compile(r"\(`([^`]+)`\)")
 ITEM = re.compile(r"(?:error: )?`([^`]+)`: ")
 # what the name of a goal has of the clause, or of the kind; between them are the branches on the way to it
 CLAUSE_OF_GOAL = re.compile(r"-clause-(\w+)$")
-KIND_OF_GOAL = re.compile(r"(returns|requires|loop|invariant_of)(?![a-z_])")
+KIND_OF_GOAL = re.compile(r"(returns|requires|loop|invariant_of|overflow_[a-z]+)(?![a-z_])")
 
 
 class Edit(NamedTuple):

@@ -44,9 +44,11 @@ class Refusals(unittest.TestCase):
         self.assertEqual(found, ["first", "first", "second", "second", "second"])
 
     def test_of_a_goal_the_branches_do_not_count(self) -> None:
-        kept = {"returns-else-dim-eq-MATCH-clause-value": "value", "returns-clause-value": "value", "returns-in-Ok": "returns",
-                "then-put-2-requires-clause-room": "room", "else-get-requires": "requires", "left_of_is_0": "left_of_is_0",
-                "loop-next-preserved": "loop", "invariant_of-self-2": "invariant_of"}
+        kept = {
+            "returns-else-dim-eq-MATCH-clause-value": "value", "returns-clause-value": "value", "returns-in-Ok": "returns",
+            "then-put-2-requires-clause-room": "room", "else-get-requires": "requires", "loop-next-preserved": "loop",
+            "invariant_of-self-2": "invariant_of", "overflow_sub-depth": "overflow_sub", "left_of_is_0": "left_of_is_0",
+        }
         self.assertEqual({it: edits.of_goal(it) for it in kept}, kept)
 
 
