@@ -8,6 +8,8 @@
     twice               a record or a data type whose name another one has too
     many parameters     a function with more than five, `self` not counted
     wide clause         a function with a line of its contract above 120 columns
+    repeated clause     a formula in more than four clauses, in place of a name. A predicate of names is no formula, and
+                        `result ≡ []` and `self.new ≡ self.old` are as short as a name
     wide definition     a file of definitions with a line above 120 columns
     long file           a file of more than 800 lines
     long function       a function whose body has more than 40 lines; of JavaScript too
@@ -21,6 +23,7 @@ import glob
 import os
 import re
 import sys
+from collections import Counter
 from typing import Dict, Iterable, Iterator, List, Set, Tuple
 
 sys.dont_write_bytecode = True
@@ -29,7 +32,7 @@ import definitions
 from running import TOP, Checks
 
 KNOWN = os.path.join(TOP, "ci", "house.txt")
-MOST_PARAMETERS, MOST_COLUMNS, MOST_LINES, MOST_IN_BODY = 5, 120, 800, 40
+MOST_PARAMETERS, MOST_COLUMNS, MOST_LINES, MOST_IN_BODY, MOST_CLAUSES = 5, 120, 800, 40, 4
 SHOWN = 12
 USE = re.compile(r"^[ \t]*(pub(?:\([a-z]+\))? )?(ghost )?use ([^;]+);", re.M)
 ANTT_USE = re.compile(r"^use (\S+?)(?:\.\{([^}]*)\}| as (\S+))?$", re.M)
@@ -41,6 +44,10 @@ FUNCTION = re.compile(r"^( *)(?:pub(?:\([a-z]+\))? )?(?:const )?fn (\w+)", re.M)
 WORD = re.compile(r"[\w']+")
 CLAUSE = re.compile(r"\b(?:requires|ensures)\*?(?: [\w-]+)? \{")
 TEXT = re.compile(r'"(\\.|[^"\\\n])*"')
+# what a predicate of names does not have: an operator or a number
+FORMULA = re.compile(r"[≡≢≤<>→↔⊎×¬λ∷+*/%^&|∙-]|(?<![\w.])\d")
+# a value that is another one, or has nothing in it
+SAME = re.compile(r"(?:result|self\.new) ≡ (?:\[\]|\w+(?:\.(?:now|old))?)")
 # the end of a line of a clause at which a record begins
 RECORD = re.compile(r"\brecord( [^{}]*)? \{$")
 # traits of libraries, which calls of their methods use without the name
@@ -138,6 +145,18 @@ def clauses(text: str) -> Iterator[str]:
         yield text[found.start() : place]
 
 
+def formula(clause: str) -> str:
+    """The formula of a clause, in one line; nothing if it is one predicate of names."""
+    text = re.sub(r"\s+", " ", clause[clause.index("{") + 1 : -1]).strip()
+    return text if FORMULA.search(text) and not SAME.fullmatch(text) else ""
+
+
+def repeated(texts: Iterable[str]) -> Iterator[str]:
+    """The formulas in too many clauses of all code."""
+    counts = Counter(formula(clause) for text in texts for clause in clauses(text))
+    yield from ("repeated clause: " + text for text, count in counts.items() if text and count > MOST_CLAUSES)
+
+
 def unused_in_code(path: str, text: str) -> Iterator[str]:
     plain = COMMENT.sub("", text)
     heads = [line for it in functions(plain) for line in it.head]
@@ -229,6 +248,7 @@ def found() -> List[str]:
     proofs = list(definitions.files_below(".antt", ("proofs",)))
     files = definitions.all_files()
     every = [line for path in code for line in of_code(path)]
+    every += repeated(COMMENT.sub("", read(path)) for path in code)
     every += [line for path in specs for line in unused_in_definitions(path, read(path))]
     every += [line for path in specs for line in wide_definition(path)]
     every += [line for path in code + specs + proofs for line in long_file(path)]
@@ -261,8 +281,12 @@ def example() -> str:
     names = [line.rpartition(" ")[2] for line in unused_in_code(os.path.join(TOP, "x.rt"), text)]
     script = "class A {\n    b(c) {\n        if (c) {\n        }\n        c((d) => {\n            d;\n        });\n    }\n}\n"
     sizes = [count for _, count in scripted(script)]
-    right = ([("f", 2, 1), ("g", 0, 0)], ["D"], [5, 1])
-    return "" if (counts, names, sizes) == right else "found %s, %s, %s" % (counts, names, sizes)
+    kinds = ("requires live { IsLive tree.old view }", "ensures { OnOk result (AreOf self.new) }", "ensures { result ≡ [] }",
+             "requires few { length kids.now\n    ≤ max_views }", "ensures a { IfOk result (λ n. Is n) }", "requires { Is (2 ^ 3) x }")
+    often = [line.partition(": ")[2] for line in repeated(["\n".join(kinds)] * 5 + [kinds[5]])]
+    right = ([("f", 2, 1), ("g", 0, 0)], ["D"], [5, 1],
+             ["length kids.now ≤ max_views", "IfOk result (λ n. Is n)", "Is (2 ^ 3) x"])
+    return "" if (counts, names, sizes, often) == right else "found %s, %s, %s, %s" % (counts, names, sizes, often)
 
 
 def checks() -> Checks:

@@ -191,7 +191,7 @@ def example_of_help() -> str:
 
 def refusals() -> Set[Tuple[str, str]]:
     """The number and the name of each refusal that the program has."""
-    with open(os.path.join(TOP, "crates/whole_tool/src/names.rt")) as file:
+    with open(os.path.join(TOP, "crates/tool_replies/src/names.rt")) as file:
         names = re.findall(r'^    b"(\w*)",$', file.read(), re.M)
     with open(os.path.join(TOP, "crates/axml_chunks/src/cause.rt")) as file:
         faults = re.findall(r"^ +Cause::\w+ => (\d+),$", file.read(), re.M)

@@ -12,7 +12,7 @@ use Rattle.axml_reader.specs.Numbers.{pool_kind}
 use Rattle.arsc_reader.specs.declared.held.Entry.{Entry}
 use Rattle.arsc_reader.specs.declared.listing.Listing.{Listing}
 use Rattle.arsc_reader.specs.Entries.{listing_of, entries_upto}
-use Rattle.arsc_reader.specs.Numbers.{max_entries, max_package, package_kind, type_kind}
+use Rattle.arsc_reader.specs.Numbers.{max_entries, max_package, package_head, package_kind, package_offset, type_kind}
 
 -- what was read so far: the strings, the entries in the order of the file, and how many of these its types declare
 pub record Found : Type 0 where
@@ -63,9 +63,9 @@ all_chunks step bytes end place s = chunks_from step end bytes end place s
 -- the id of the package whose chunk is at a place
 unfoldable pub package_of : List ℕ → ℕ → Chunk → Result ℕ Fault
 package_of bytes place chunk =
-    if nat_lt chunk.head 284 then Err (bad_chunk place)
-    else (if nat_lt max_package (number32 bytes (place + 8)) then Err (bad_chunk place)
-    else Ok (number32 bytes (place + 8)))
+    if nat_lt chunk.head package_head then Err (bad_chunk place)
+    else (if nat_lt max_package (number32 bytes (place + package_offset)) then Err (bad_chunk place)
+    else Ok (number32 bytes (place + package_offset)))
 
 unfoldable pub package_read : List ℕ → ℕ → Chunk → Found → Result Found Fault
 package_read bytes place chunk s = do

@@ -5,21 +5,21 @@ use Rattle.axml_chunks.specs.declared.chunk.Chunk.{Chunk}
 use Rattle.axml_chunks.specs.declared.fault.Fault.{Fault}
 use Rattle.axml_chunks.specs.Chunks.{chunk_of}
 use Rattle.axml_chunks.specs.Faults.{truncated, bad_chunk, not_table}
-use Rattle.axml_chunks.specs.Numbers.{number16}
+use Rattle.axml_chunks.specs.Numbers.{least_head, number16}
 use Rattle.axml_chunks.specs.Pool.{StringPool}
 use Rattle.axml_chunks.specs.Steps.{◌>>=◌}
 use Rattle.arsc_reader.specs.declared.held.Entry.{Entry}
 use Rattle.arsc_reader.specs.declared.held.Held.{Held}
 use Rattle.arsc_reader.specs.declared.held.Held.TheVariants as held
 use Rattle.arsc_reader.specs.Contents.{Contents}
-use Rattle.arsc_reader.specs.Numbers.{max_references, reference_kind, table_kind}
+use Rattle.arsc_reader.specs.Numbers.{max_references, reference_kind, table_head, table_kind}
 use Rattle.arsc_reader.specs.Reading.{start, in_table, all_chunks}
 
 -- the chunk that holds the table; what comes after it is not looked at
 unfoldable pub whole_of : List ℕ → Result Chunk Fault
 whole_of bytes = do
   chunk ← chunk_of bytes 0 (length bytes)
-  if nat_lt chunk.head 12 then Err (bad_chunk 0) else Ok chunk
+  if nat_lt chunk.head table_head then Err (bad_chunk 0) else Ok chunk
 
 -- what the chunks of a table hold
 unfoldable pub inside_of : List ℕ → Result Contents Fault
@@ -31,7 +31,7 @@ inside_of bytes = do
 -- the table of a file, its entries in the order of the file, or the first fault
 unfoldable pub table_of : List ℕ → Result Contents Fault
 table_of bytes =
-    if nat_lt (length bytes) 8 then Err (truncated 0)
+    if nat_lt (length bytes) least_head then Err (truncated 0)
     else (if not (number16 bytes 0 == table_kind) then Err (not_table 0)
     else inside_of bytes)
 

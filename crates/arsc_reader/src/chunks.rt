@@ -1,6 +1,6 @@
 //! A table chunk by chunk, to its end or the first fault.
 ghost use Rattle.std.specs.Prelude.{◌≡◌, ◌+◌, ◌<◌, ◌≤◌, length, IfOk};
-ghost use Rattle.axml_chunks.specs.Chunks.{IsChunk};
+ghost use Rattle.axml_chunks.specs.Chunks.{IsChunk, EndsIn};
 ghost use Rattle.axml_chunks.specs.Steps.{Does, Gives};
 ghost use Rattle.arsc_reader.specs.Entries.{IfListed};
 ghost use Rattle.arsc_reader.specs.Meaning.{found};
@@ -116,7 +116,7 @@ impl Reading {
     ) -> Result<usize, ReadFault>
         requires package_id { package_id ≤ max_package }
         requires place { place ≤ end }
-        requires end { end ≤ length bytes.now }
+        requires end { EndsIn bytes.now end }
         ensures value { Gives (λ next. (next, found self.new)) result
             (one_chunk (in_package bytes.now package_id) bytes.now end place (found self.old)) }
         ensures bounds { IfOk result (λ next. (place < next) × (next ≤ end)) }
@@ -137,7 +137,7 @@ impl Reading {
     ) -> Result<(), ReadFault>
         requires package_id { package_id ≤ max_package }
         requires place { place ≤ end }
-        requires end { end ≤ length bytes.now }
+        requires end { EndsIn bytes.now end }
         ensures { Does (found self.new) result
             (all_chunks (in_package bytes.now package_id) bytes.now end place (found self.old)) }
     {
@@ -209,7 +209,7 @@ impl Reading {
         end: usize,
     ) -> Result<usize, ReadFault>
         requires place { place ≤ end }
-        requires end { end ≤ length bytes.now }
+        requires end { EndsIn bytes.now end }
         ensures value { Gives (λ next. (next, found self.new)) result
             (one_chunk (in_table bytes.now) bytes.now end place (found self.old)) }
         ensures bounds { IfOk result (λ next. (place < next) × (next ≤ end)) }
@@ -229,7 +229,7 @@ impl Reading {
         end: usize,
     ) -> Result<(), ReadFault>
         requires place { place ≤ end }
-        requires end { end ≤ length bytes.now }
+        requires end { EndsIn bytes.now end }
         ensures { Does (found self.new) result (all_chunks (in_table bytes.now) bytes.now end place (found self.old)) }
     {
         let mut at = place;

@@ -1,6 +1,6 @@
 //! The entries of one type, each from its place.
 ghost use Rattle.std.specs.Prelude.{◌≡◌, ◌+◌, ◌*◌, ◌^◌, ◌<◌, ◌≤◌, length, IfOk};
-ghost use Rattle.axml_chunks.specs.Chunks.{IsChunk};
+ghost use Rattle.axml_chunks.specs.Chunks.{IsChunk, EndsIn};
 ghost use Rattle.axml_chunks.specs.Steps.{Does};
 ghost use Rattle.arsc_reader.specs.Entries.{are_zeros, listing_of, IfListed, IsListing, plain_at, entry_at, held_at, entry_after, entries_upto};
 ghost use Rattle.arsc_reader.specs.Numbers.{max_package};
@@ -76,7 +76,7 @@ pub(crate) fn listing_of(
 /// The plain value of the entry at a place, whose offset is at `own`.
 #[tactic(auto, unfolding(crate::specs::Entries::plain_at))]
 fn plain_at(bytes: &[u8], own: usize, end: usize, place: usize) -> Result<Held, Fault>
-    requires end { end ≤ length bytes.now }
+    requires end { EndsIn bytes.now end }
     requires place { place + 8 ≤ end }
     ensures { result ≡ plain_at bytes.now own end place }
 {
@@ -96,7 +96,7 @@ fn plain_at(bytes: &[u8], own: usize, end: usize, place: usize) -> Result<Held, 
 /// What the entry at a place holds, whose offset is at `own`; nothing if it is written in another form.
 #[tactic(auto, unfolding(crate::specs::Entries::entry_at))]
 fn entry_at(bytes: &[u8], own: usize, end: usize, place: usize) -> Result<Held, Fault>
-    requires end { end ≤ length bytes.now }
+    requires end { EndsIn bytes.now end }
     requires place { place < 2 ^ 63 + 2 ^ 32 }
     ensures { result ≡ entry_at bytes.now own end place }
 {

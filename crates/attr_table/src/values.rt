@@ -1,11 +1,12 @@
 //! What the value of an attribute means, by what the attribute takes.
-ghost use Rattle.std.specs.Prelude.{◌≡◌, ◌<◌, ◌^◌, IfOk, Some, chars, length, option_map, slice_get};
+ghost use Rattle.std.specs.Prelude.{◌≡◌, ◌<◌, IfOk, Some, chars, option_map, slice_get};
 ghost use Rattle.geom_core.specs.Numbers.{wrap_content};
 ghost use Rattle.view_model.specs.Numbers.{max_size};
 ghost use Rattle.res_values.specs.Values.{resource};
 ghost use Rattle.attr_table.specs.declared.given.Given.TheVariants as says;
 ghost use Rattle.attr_table.specs.Taken.{FoundAs};
 ghost use Rattle.attr_table.specs.Values.{below_given, boolean_given, color_of, dimension_of, extent_given, found_of, given_of, is_color, is_nothing, is_whole, pixels_within, reference_given, signed, takes_reference, text_of, weight_given, whole_given};
+ghost use Rattle.view_model.specs.Texts.{IsShortText};
 
 use crate::given::Given;
 use crate::source::Source;
@@ -265,7 +266,7 @@ fn string(alloc: Global, pool: &Pool, number: u32) -> Result<Option<Given>, Allo
 }
 
 fn characters(alloc: Global, text: &str) -> Result<Text, AllocError>
-    requires { length text.now < 2 ^ 31 }
+    requires { IsShortText text.now }
     ensures { IfOk result (λ made. made ≡ chars text.now) }
 {
     Ok(Text::new(alloc, text)?)

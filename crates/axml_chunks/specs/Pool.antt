@@ -7,7 +7,8 @@ use Rattle.axml_chunks.specs.declared.fault.Fault.{Fault}
 use Rattle.axml_chunks.specs.declared.pool.Header.{Header}
 use Rattle.axml_chunks.specs.Faults.{bad_pool, bad_string, too_big}
 use Rattle.axml_chunks.specs.Limits.{max_strings, max_text}
-use Rattle.axml_chunks.specs.Numbers.{number32}
+use Rattle.axml_chunks.specs.Numbers.{first_offset, flags_offset, number32, pool_head, strings_offset, styles_offset}
+use Rattle.axml_chunks.specs.Numbers.{utf8_flag}
 use Rattle.axml_chunks.specs.Spelled.{IsString}
 use Rattle.axml_chunks.specs.Strings.{utf8_text, utf16_text}
 use Rattle.axml_chunks.specs.Steps.{◌>>=◌, upto}
@@ -22,21 +23,21 @@ pub record StringPool : Type 0 where
 
 -- how many strings there are, how many styles, the flag of UTF-8, and where the strings begin
 abbrev pub string_count : List ℕ → ℕ
-string_count chunk = number32 chunk 8
+string_count chunk = number32 chunk strings_offset
 
 abbrev pub style_count : List ℕ → ℕ
-style_count chunk = number32 chunk 12
+style_count chunk = number32 chunk styles_offset
 
 abbrev pub is_in_utf8 : List ℕ → Bool
-is_in_utf8 chunk = number32 chunk 16 / 256 % 2 == 1
+is_in_utf8 chunk = number32 chunk flags_offset / utf8_flag % 2 == 1
 
 abbrev pub strings_start : List ℕ → ℕ
-strings_start chunk = number32 chunk 20
+strings_start chunk = number32 chunk first_offset
 
 -- the header of the pool whose chunk is at a place of the file
 unfoldable pub header_of : List ℕ → ℕ → ℕ → Result Header Fault
 header_of chunk place head =
-    if nat_lt head 28 || nat_lt (length chunk) (head + 4 * (string_count chunk + style_count chunk))
+    if nat_lt head pool_head || nat_lt (length chunk) (head + 4 * (string_count chunk + style_count chunk))
     || nat_lt (length chunk) (strings_start chunk)
     then Err (bad_pool place)
     else (if nat_lt max_strings (string_count chunk) then Err (too_big place)
@@ -93,7 +94,7 @@ pool_of bytes place chunk = pool_in (bytes_of bytes place chunk) place chunk.hea
 
 -- a pool is that of a chunk: the header and the lists of offsets lie in it, and each string is the one at its offset
 pub record IsPoolIn (chunk : List ℕ) (head : ℕ) (pool : StringPool) : Type 0 where
-  pub header : 28 ≤ head
+  pub header : pool_head ≤ head
   pub lists : head + 4 * (string_count chunk + style_count chunk) ≤ length chunk
   pub start : strings_start chunk ≤ length chunk
   pub utf8_is : pool.utf8 ≡ is_in_utf8 chunk

@@ -3,20 +3,20 @@ use Rattle.std.specs.Prelude.{◌≡◌, ℕ, ◌+◌, ◌*◌, ◌<◌, ◌≤�
 use Rattle.std.specs.Prelude.{slice_range, Some}
 use Rattle.std.specs.Str.{IsUtf8, encode_utf8_all}
 use Rattle.std.specs.Char.Utf16.{utf16_chars}
-use Rattle.axml_chunks.specs.Numbers.{number16}
+use Rattle.axml_chunks.specs.Numbers.{long_byte, long_unit, number16}
 use Rattle.axml_chunks.specs.Strings.{units_at}
 
--- a length in one byte below 128
+-- a length in one byte
 pub record IsShortLength (chunk : List ℕ) (i n following : ℕ) : Type 0 where
   pub byte_is : slice_get chunk i ≡ Some n
-  pub low : n < 128
+  pub low : n < long_byte
   pub after_is : following ≡ i + 1
 
 -- a length in two bytes, of which the first has its high bit set
 pub record IsLongLength (chunk : List ℕ) (i n following : ℕ) : Type 0 where
   pub high : ℕ
   pub low : ℕ
-  pub first_is : slice_get chunk i ≡ Some (128 + high)
+  pub first_is : slice_get chunk i ≡ Some (long_byte + high)
   pub second_is : slice_get chunk (i + 1) ≡ Some low
   pub n_is : n ≡ high * 256 + low
   pub after_is : following ≡ i + 2
@@ -35,18 +35,18 @@ pub record IsUtf8String (chunk : List ℕ) (i : ℕ) (text : List ℕ) : Type 0 
   pub bytes_are : slice_range chunk place (place + length text) ≡ text
   pub is_text : IsUtf8 text
 
--- a length in one unit below 32768
+-- a length in one unit
 pub record IsShortUnitLength (chunk : List ℕ) (i n following : ℕ) : Type 0 where
   pub fits : i + 2 ≤ length chunk
   pub unit_is : n ≡ number16 chunk i
-  pub low : n < 32768
+  pub low : n < long_unit
   pub after_is : following ≡ i + 2
 
 -- a length in two units, of which the first has its high bit set
 pub record IsLongUnitLength (chunk : List ℕ) (i n following : ℕ) : Type 0 where
   pub high : ℕ
   pub fits : i + 4 ≤ length chunk
-  pub first_is : number16 chunk i ≡ 32768 + high
+  pub first_is : number16 chunk i ≡ long_unit + high
   pub n_is : n ≡ high * 65536 + number16 chunk (i + 2)
   pub after_is : following ≡ i + 4
 

@@ -3,7 +3,7 @@ use Rattle.std.specs.Prelude.{ℕ, zero, suc, ◌++◌, ◌+◌, ◌-◌, ◌*�
 use Rattle.std.specs.Prelude.{Option, Some, None, nat_lt, ◌==◌, if◌then◌else◌}
 use Rattle.std.specs.Str.{is_utf8, encode_utf8_all}
 use Rattle.std.specs.Char.Utf16.{utf16_lossy_chars, has_unpaired_surrogate}
-use Rattle.axml_chunks.specs.Numbers.{number16}
+use Rattle.axml_chunks.specs.Numbers.{long_byte, long_unit, number16}
 
 infixl 10 ◌>>=◌
 abbrev pub ◌>>=◌ : {A B : Type 0} → Option A → (A → Option B) → Option B
@@ -14,17 +14,17 @@ None >>= f = None
 unfoldable pub utf8_length : List ℕ → ℕ → Option (ℕ × ℕ)
 utf8_length chunk i =
     if not (nat_lt i (length chunk)) then None
-    else (if nat_lt (slice_index chunk i) 128 then Some (slice_index chunk i, i + 1)
+    else (if nat_lt (slice_index chunk i) long_byte then Some (slice_index chunk i, i + 1)
     else (if not (nat_lt (i + 1) (length chunk)) then None
-    else Some ((slice_index chunk i - 128) * 256 + slice_index chunk (i + 1), i + 2)))
+    else Some ((slice_index chunk i - long_byte) * 256 + slice_index chunk (i + 1), i + 2)))
 
 -- a length in one unit, or in two if the first has its high bit set, and the place after it
 unfoldable pub utf16_length : List ℕ → ℕ → Option (ℕ × ℕ)
 utf16_length chunk i =
     if nat_lt (length chunk) (i + 2) then None
-    else (if nat_lt (number16 chunk i) 32768 then Some (number16 chunk i, i + 2)
+    else (if nat_lt (number16 chunk i) long_unit then Some (number16 chunk i, i + 2)
     else (if nat_lt (length chunk) (i + 4) then None
-    else Some ((number16 chunk i - 32768) * 65536 + number16 chunk (i + 2), i + 4)))
+    else Some ((number16 chunk i - long_unit) * 65536 + number16 chunk (i + 2), i + 4)))
 
 -- the bytes, if they are a text
 unfoldable pub text_of_bytes : List ℕ → Option (List ℕ)

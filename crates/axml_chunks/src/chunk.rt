@@ -1,6 +1,6 @@
 //! Chunks, and numbers at a place.
 ghost use Rattle.std.specs.Prelude.{◌≡◌, ◌+◌, ◌≤◌, length, IfOk, Ok};
-ghost use Rattle.axml_chunks.specs.Chunks.{IsChunk, IsChunkAt, chunk_of};
+ghost use Rattle.axml_chunks.specs.Chunks.{IsChunk, IsChunkAt, chunk_of, EndsIn};
 ghost use Rattle.axml_chunks.specs.Numbers.{number16, number32};
 
 use crate::cause::Cause;
@@ -38,7 +38,7 @@ pub fn u32_at(bytes: &[u8], at: usize) -> u32
 #[tactic(auto, unfolding(crate::specs::Chunks::chunk_of), using(crate::proofs::Chunks::chunk_found, crate::proofs::Chunks::chunk_again))]
 pub fn chunk_at(bytes: &[u8], at: usize, end: usize) -> Result<Chunk, Fault>
     requires at { at ≤ end }
-    requires end { end ≤ length bytes.now }
+    requires end { EndsIn bytes.now end }
     ensures value { result ≡ chunk_of bytes.now at end }
     ensures bounds { IfOk result (λ chunk. IsChunk at end chunk) }
     ensures found { IfOk result (λ chunk. IsChunkAt bytes.now at end chunk) }

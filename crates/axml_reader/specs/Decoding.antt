@@ -5,7 +5,7 @@ use Rattle.axml_chunks.specs.declared.chunk.Chunk.{Chunk}
 use Rattle.axml_chunks.specs.declared.fault.Fault.{Fault}
 use Rattle.axml_chunks.specs.Chunks.{chunk_of}
 use Rattle.axml_chunks.specs.Faults.{truncated, not_xml, unbalanced, no_element}
-use Rattle.axml_chunks.specs.Numbers.{number16}
+use Rattle.axml_chunks.specs.Numbers.{least_head, number16}
 use Rattle.axml_chunks.specs.Pool.{StringPool}
 use Rattle.axml_chunks.specs.Steps.{◌>>=◌}
 use Rattle.axml_reader.specs.Brackets.{nothing_open}
@@ -20,7 +20,7 @@ start = record { pool = None; map = []; nodes = []; attrs = []; stack = nothing_
 -- the chunk that holds the document
 unfoldable pub document_of : List ℕ → Result Chunk Fault
 document_of bytes =
-    if nat_lt (length bytes) 8 then Err (truncated 0)
+    if nat_lt (length bytes) least_head then Err (truncated 0)
     else (if not (number16 bytes 0 == document_kind) then Err (not_xml 0)
     else chunk_of bytes 0 (length bytes))
 

@@ -8,7 +8,8 @@ use Rattle.axml_chunks.specs.Numbers.{number32}
 use Rattle.axml_chunks.specs.Pool.{StringPool}
 use Rattle.axml_chunks.specs.Steps.{◌>>=◌, upto}
 use Rattle.axml_reader.specs.declared.doc.Attr.{Attr}
-use Rattle.axml_reader.specs.Numbers.{no_string, string_kind}
+use Rattle.axml_reader.specs.Numbers.{attr_kind_offset, kind_offset, no_string, raw_offset, second_offset, string_kind}
+use Rattle.axml_reader.specs.Numbers.{value_offset, word_offset}
 
 -- how many strings there are; none before a pool was read
 abbrev pub strings : Option StringPool → ℕ
@@ -44,17 +45,17 @@ name_at bytes count place =
 -- the word of the value at a place, which for a string is its number
 unfoldable pub word_at : List ℕ → ℕ → ℕ → Result ℕ Fault
 word_at bytes count place =
-    if slice_index bytes (place + 3) == string_kind then name_at bytes count (place + 4)
-    else Ok (number32 bytes (place + 4))
+    if slice_index bytes (place + kind_offset) == string_kind then name_at bytes count (place + word_offset)
+    else Ok (number32 bytes (place + word_offset))
 
 -- the attribute at a place
 unfoldable pub attr_at : List ℕ → ℕ → ℕ → Result Attr Fault
 attr_at bytes count place = do
   ns ← reference_at bytes count place
-  name ← name_at bytes count (place + 4)
-  raw ← reference_at bytes count (place + 8)
-  word ← word_at bytes count (place + 12)
-  Ok (record { ns = ns; name = name; raw = raw; kind = slice_index bytes (place + 15); word = word })
+  name ← name_at bytes count (place + second_offset)
+  raw ← reference_at bytes count (place + raw_offset)
+  word ← word_at bytes count (place + value_offset)
+  Ok (record { ns = ns; name = name; raw = raw; kind = slice_index bytes (place + attr_kind_offset); word = word })
 
 -- attributes, each of `step` bytes from a place on, with the one of number k after those so far
 abbrev pub attr_after : List ℕ → ℕ → ℕ → ℕ → List Attr → ℕ → Result (List Attr) Fault

@@ -13,12 +13,14 @@ use Rattle.axml_reader.specs.Brackets.{is_closed_by}
 use Rattle.axml_reader.specs.Document.{State}
 use Rattle.axml_reader.specs.Fields.{reference_at, name_at, attrs_upto, words_at, strings, same_text}
 use Rattle.axml_reader.specs.Numbers.{chars_kind, end_kind, map_kind, max_attrs, max_elements, namespace_end_kind}
-use Rattle.axml_reader.specs.Numbers.{namespace_start_kind, pool_kind, start_kind}
+use Rattle.axml_reader.specs.Numbers.{namespace_start_kind, pool_kind, start_kind, attr_bytes, attrs_offset, chars_form}
+use Rattle.axml_reader.specs.Numbers.{chars_kind_offset, chars_word_offset, count_offset, line_offset, names_form}
+use Rattle.axml_reader.specs.Numbers.{node_head, second_offset, start_form, step_offset}
 use Rattle.axml_reader.specs.Parts.{Part, Strings, Ids, Item, Other, with_part}
 
 -- a node's header is too short, or its body is shorter than its form
 abbrev pub is_short : Chunk → ℕ → Bool
-is_short chunk form = nat_lt chunk.head 16 || nat_lt (chunk.size - chunk.head) form
+is_short chunk form = nat_lt chunk.head node_head || nat_lt (chunk.size - chunk.head) form
 
 -- where the body of a node is
 unfoldable pub body_at : ℕ → Chunk → ℕ → Result ℕ Fault
@@ -26,56 +28,56 @@ body_at place chunk form = if is_short chunk form then Err (bad_chunk place) els
 
 -- the line of a node's source
 abbrev pub line_at : List ℕ → ℕ → ℕ
-line_at bytes place = number32 bytes (place + 8)
+line_at bytes place = number32 bytes (place + line_offset)
 
 -- the prefix and the address of a namespace
 unfoldable pub pair_at : List ℕ → ℕ → Chunk → ℕ → Result (ℕ × ℕ) Fault
 pair_at bytes place chunk count = do
-  body ← body_at place chunk 8
+  body ← body_at place chunk names_form
   prefix ← reference_at bytes count body
-  uri ← reference_at bytes count (body + 4)
+  uri ← reference_at bytes count (body + second_offset)
   Ok (prefix, uri)
 
 -- the namespace and the name of an element that ends
 unfoldable pub names_at : List ℕ → ℕ → Chunk → ℕ → Result (ℕ × ℕ) Fault
 names_at bytes place chunk count = do
-  body ← body_at place chunk 8
+  body ← body_at place chunk names_form
   ns ← reference_at bytes count body
-  name ← name_at bytes count (body + 4)
+  name ← name_at bytes count (body + second_offset)
   Ok (ns, name)
 
 -- the string of character data
 unfoldable pub chars_at : List ℕ → ℕ → Chunk → ℕ → Result ℕ Fault
 chars_at bytes place chunk count = do
-  body ← body_at place chunk 12
+  body ← body_at place chunk chars_form
   reference_at bytes count body
 
 -- attributes leave a body of this length: where the first begins, how many bytes each has, and how many there are
 abbrev pub is_outside : ℕ → ℕ → ℕ → ℕ → Bool
 is_outside body first step count =
     if count == 0 then false
-    else (nat_lt first 20 || nat_lt step 20 || nat_lt body (first + count * step))
+    else (nat_lt first start_form || nat_lt step attr_bytes || nat_lt body (first + count * step))
 
 -- an element that begins, without its attributes: whether an outermost one has ended, and how many have begun, decide
 -- too
 unfoldable pub start_at : List ℕ → ℕ → Chunk → ℕ → Bool → ℕ → Result StartHead Fault
 start_at bytes place chunk count closed starts = do
-  body ← body_at place chunk 20
+  body ← body_at place chunk start_form
   if closed then Err (two_roots place)
-      else (if not (nat_lt starts max_elements) || nat_lt max_attrs (number16 bytes (body + 12))
+      else (if not (nat_lt starts max_elements) || nat_lt max_attrs (number16 bytes (body + count_offset))
       then Err (too_big place)
       else (do
         ns ← reference_at bytes count body
-        name ← name_at bytes count (body + 4)
-        if is_outside (chunk.size - chunk.head) (number16 bytes (body + 8)) (number16 bytes (body + 10))
-            (number16 bytes (body + 12))
+        name ← name_at bytes count (body + second_offset)
+        if is_outside (chunk.size - chunk.head) (number16 bytes (body + attrs_offset))
+            (number16 bytes (body + step_offset)) (number16 bytes (body + count_offset))
             then Err (bad_chunk place)
             else Ok (record {
               ns = ns;
               name = name;
-              place = body + number16 bytes (body + 8);
-              step = number16 bytes (body + 10);
-              count = number16 bytes (body + 12);
+              place = body + number16 bytes (body + attrs_offset);
+              step = number16 bytes (body + step_offset);
+              count = number16 bytes (body + count_offset);
             })))
 
 unfoldable pub pool_part : List ℕ → ℕ → Chunk → State → Result Part Fault
@@ -110,8 +112,8 @@ unfoldable pub chars_part : List ℕ → ℕ → Chunk → State → Result Part
 chars_part bytes place chunk s = do
   text ← chars_at bytes place chunk (strings s.pool)
   Ok
-      (Item (Chars (line_at bytes place) text (slice_index bytes (place + chunk.head + 7))
-      (number32 bytes (place + chunk.head + 8))) [])
+      (Item (Chars (line_at bytes place) text (slice_index bytes (place + chunk.head + chars_kind_offset))
+      (number32 bytes (place + chunk.head + chars_word_offset))) [])
 
 -- what a chunk is, after what was read before it
 unfoldable pub part_at : List ℕ → ℕ → Chunk → State → Result Part Fault
@@ -131,14 +133,14 @@ joined s part = part >>= λ p. Ok (with_part s p)
 
 -- a header and a body are long enough
 pub record IsBody (place : ℕ) (chunk : Chunk) (form body : ℕ) : Type 0 where
-  pub header : 16 ≤ chunk.head
+  pub header : node_head ≤ chunk.head
   pub room : chunk.head + form ≤ chunk.size
   pub body_is : body ≡ place + chunk.head
 
 -- the attributes of an element fit in n bytes, and the element is not one too many
 pub record StartFits (len begun : ℕ) (chunk : Chunk) (head : StartHead) : Type 0 where
-  pub header : 16 ≤ chunk.head
+  pub header : node_head ≤ chunk.head
   pub begun_few : begun < max_elements
   pub count : head.count ≤ max_attrs
   pub step : head.step < 2 ^ 16
-  pub last : 0 < head.count → (20 ≤ head.step) × (head.place + head.count * head.step ≤ len)
+  pub last : 0 < head.count → (attr_bytes ≤ head.step) × (head.place + head.count * head.step ≤ len)

@@ -13,7 +13,10 @@ use Rattle.axml_reader.specs.Document.{Document}
 use Rattle.axml_reader.specs.Fields.{strings, same_text, words_at}
 use Rattle.axml_reader.specs.Numbers.{chars_kind, document_kind, end_kind, map_kind, max_attrs, max_elements}
 use Rattle.axml_reader.specs.Numbers.{namespace_end_kind, namespace_start_kind, no_string, pool_kind, start_kind}
-use Rattle.axml_reader.specs.Numbers.{string_kind}
+use Rattle.axml_reader.specs.Numbers.{string_kind, attr_bytes, attr_kind_offset, attr_word_offset, attrs_offset}
+use Rattle.axml_reader.specs.Numbers.{chars_form}
+use Rattle.axml_reader.specs.Numbers.{chars_kind_offset, chars_word_offset, count_offset, line_offset, names_form}
+use Rattle.axml_reader.specs.Numbers.{node_head, raw_offset, second_offset, start_form, step_offset}
 use Rattle.axml_reader.specs.Parts.{Part, Strings, Ids, Item, Other, token, starts_in}
 
 -- a number names one of n strings, or none
@@ -33,10 +36,10 @@ pub record IsNameAt (bytes : List ℕ) (count place n : ℕ) : Type 0 where
 -- the attribute at a place
 pub record IsAttr (bytes : List ℕ) (count place : ℕ) (attr : Attr) : Type 0 where
   pub ns : IsReferenceAt bytes count place attr.ns
-  pub name : IsNameAt bytes count (place + 4) attr.name
-  pub raw : IsReferenceAt bytes count (place + 8) attr.raw
-  pub kind_is : attr.kind ≡ slice_index bytes (place + 15)
-  pub word_is : attr.word ≡ number32 bytes (place + 16)
+  pub name : IsNameAt bytes count (place + second_offset) attr.name
+  pub raw : IsReferenceAt bytes count (place + raw_offset) attr.raw
+  pub kind_is : attr.kind ≡ slice_index bytes (place + attr_kind_offset)
+  pub word_is : attr.word ≡ number32 bytes (place + attr_word_offset)
   pub string : attr.kind ≡ string_kind → attr.word < count
 
 -- attributes, each of `step` bytes, from a place on
@@ -47,51 +50,52 @@ pub record AreAttrs (bytes : List ℕ) (count place step n : ℕ) (attrs : List 
 -- a chunk is a node of this kind, and its body is long enough for its form
 pub record IsForm (kind form : ℕ) (chunk : Chunk) : Type 0 where
   pub kind_is : chunk.kind ≡ kind
-  pub header : 16 ≤ chunk.head
+  pub header : node_head ≤ chunk.head
   pub body : form ≤ chunk.size - chunk.head
 
 -- a namespace begins or ends
 pub record IsNamespace (bytes : List ℕ) (count place kind : ℕ) (chunk : Chunk) (prefix uri : ℕ) (attrs : List Attr) :
     Type 0 where
-  pub form : IsForm kind 8 chunk
+  pub form : IsForm kind names_form chunk
   pub prefix_at : IsReferenceAt bytes count (place + chunk.head) prefix
-  pub uri_at : IsReferenceAt bytes count (place + chunk.head + 4) uri
+  pub uri_at : IsReferenceAt bytes count (place + chunk.head + second_offset) uri
   pub no_attrs : attrs ≡ []
 
 -- an element begins, of which these are the attributes; n elements came before it
 pub record IsStartNode (bytes : List ℕ) (count before place : ℕ) (chunk : Chunk) (line ns name first n : ℕ)
     (attrs : List Attr) : Type 0 where
-  pub form : IsForm start_kind 20 chunk
-  pub line_is : line ≡ number32 bytes (place + 8)
+  pub form : IsForm start_kind start_form chunk
+  pub line_is : line ≡ number32 bytes (place + line_offset)
   pub ns_at : IsReferenceAt bytes count (place + chunk.head) ns
-  pub name_at : IsNameAt bytes count (place + chunk.head + 4) name
+  pub name_at : IsNameAt bytes count (place + chunk.head + second_offset) name
   pub first_is : first ≡ before
-  pub n_is : n ≡ number16 bytes (place + chunk.head + 12)
+  pub n_is : n ≡ number16 bytes (place + chunk.head + count_offset)
   pub few : n ≤ max_attrs
-  pub begin : 0 < n → 20 ≤ number16 bytes (place + chunk.head + 8)
-  pub step : 0 < n → 20 ≤ number16 bytes (place + chunk.head + 10)
+  pub begin : 0 < n → start_form ≤ number16 bytes (place + chunk.head + attrs_offset)
+  pub step : 0 < n → attr_bytes ≤ number16 bytes (place + chunk.head + step_offset)
   pub within : 0 < n
-      → number16 bytes (place + chunk.head + 8) + n * number16 bytes (place + chunk.head + 10) ≤ chunk.size - chunk.head
-  pub attrs_at : AreAttrs bytes count (place + chunk.head + number16 bytes (place + chunk.head + 8))
-      (number16 bytes (place + chunk.head + 10)) n attrs
+      → number16 bytes (place + chunk.head + attrs_offset) + n * number16 bytes (place + chunk.head + step_offset)
+      ≤ chunk.size - chunk.head
+  pub attrs_at : AreAttrs bytes count (place + chunk.head + number16 bytes (place + chunk.head + attrs_offset))
+      (number16 bytes (place + chunk.head + step_offset)) n attrs
 
 -- an element ends
 pub record IsEndNode (bytes : List ℕ) (count place : ℕ) (chunk : Chunk) (line ns name : ℕ) (attrs : List Attr) : Type 0
   where
-    pub form : IsForm end_kind 8 chunk
-    pub line_is : line ≡ number32 bytes (place + 8)
+    pub form : IsForm end_kind names_form chunk
+    pub line_is : line ≡ number32 bytes (place + line_offset)
     pub ns_at : IsReferenceAt bytes count (place + chunk.head) ns
-    pub name_at : IsNameAt bytes count (place + chunk.head + 4) name
+    pub name_at : IsNameAt bytes count (place + chunk.head + second_offset) name
     pub no_attrs : attrs ≡ []
 
 -- character data
 pub record IsCharsNode (bytes : List ℕ) (count place : ℕ) (chunk : Chunk) (line text kind word : ℕ) (attrs : List Attr)
     : Type 0 where
-  pub form : IsForm chars_kind 12 chunk
-  pub line_is : line ≡ number32 bytes (place + 8)
+  pub form : IsForm chars_kind chars_form chunk
+  pub line_is : line ≡ number32 bytes (place + line_offset)
   pub text_at : IsReferenceAt bytes count (place + chunk.head) text
-  pub kind_is : kind ≡ slice_index bytes (place + chunk.head + 7)
-  pub word_is : word ≡ number32 bytes (place + chunk.head + 8)
+  pub kind_is : kind ≡ slice_index bytes (place + chunk.head + chars_kind_offset)
+  pub word_is : word ≡ number32 bytes (place + chunk.head + chars_word_offset)
   pub no_attrs : attrs ≡ []
 
 -- the node of the chunk at a place, with its attributes

@@ -1,6 +1,6 @@
 //! A document chunk by chunk, to its end or the first fault.
 ghost use Rattle.std.specs.Prelude.{◌≡◌, ◌+◌, ◌<◌, ◌≤◌, length, IfOk, Ok};
-ghost use Rattle.axml_chunks.specs.Chunks.{IsChunk};
+ghost use Rattle.axml_chunks.specs.Chunks.{IsChunk, EndsIn};
 ghost use Rattle.axml_chunks.specs.Steps.{Gives};
 ghost use Rattle.axml_reader.specs.Decoding.{start, document_of, one_chunk, chunks_from, finished, decoded};
 ghost use Rattle.axml_reader.specs.Document.{Document};
@@ -64,7 +64,7 @@ impl Reading {
         end: usize,
     ) -> Result<usize, ReadFault>
         requires at { at ≤ end }
-        requires end { end ≤ length bytes.now }
+        requires end { EndsIn bytes.now end }
         ensures value { Gives (λ place. (place, reading self.new)) result
             (one_chunk bytes.now end at (reading self.old)) }
         ensures bounds { IfOk result (λ place. (at < place) × (place ≤ end)) }

@@ -1,6 +1,7 @@
 //! Where the lines of a text begin.
 ghost use Rattle.std.specs.Prelude.{◌≡◌, ◌≢◌, ℕ, ◌+◌, ◌<◌, ◌≤◌, length, take, drop, get_or, slice_get};
 ghost use Rattle.view_model.specs.CellText.{cell_of, newline};
+ghost use Rattle.cell_text.specs.Rows.{HasCells};
 
 use crate::lines::NEWLINE;
 
@@ -14,7 +15,7 @@ pub struct Break {
 /// Where the first line of a text in lines of `n` cells ends: at a newline, which belongs to it, at the first character
 /// that has no cell left, or with the text.
 pub fn first_line(text: &[char], n: u32) -> Break
-    requires { 0 < n }
+    requires { HasCells n }
     ensures within { (result.end ≤ result.next) × (result.next ≤ length text.now) }
     ensures goes_on { 0 < length text.now → 0 < result.next }
     ensures first { (place : ℕ) → cell_of n text.now 0 place ≡ slice_get (take result.end text.now) place }

@@ -1,13 +1,14 @@
 //! The cells of a text.
 ghost use Rattle.std.specs.Prelude.{◌≡◌, ◌<◌, ◌^◌, nat_lt, if◌then◌else◌, length, None};
 ghost use Rattle.view_model.specs.CellText.{cell_in, cell_of, lines_for};
+ghost use Rattle.cell_text.specs.Rows.{HasCells};
 
 use crate::lines::{NEWLINE, lines_for};
 use view_model::Text;
 
 /// The character of a cell of a text in lines of `n` cells, if there is one. Lines, and places in a line, count from 0.
 pub fn cell(text: &Text, n: u32, line: u32, place: u32) -> Option<char>
-    requires { 0 < n }
+    requires { HasCells n }
     ensures { result ≡ cell_of n text.now line place }
 {
     let characters = text.characters();
@@ -30,7 +31,7 @@ pub fn cell(text: &Text, n: u32, line: u32, place: u32) -> Option<char>
 /// The character of a cell of the last segment, if there is one.
 #[tactic(auto, unfolding(view_model::specs::CellText::cell_in))]
 fn last_cell(segment: &[char], n: u32, line: u32, place: u32) -> Option<char>
-    requires cells { 0 < n }
+    requires cells { HasCells n }
     requires few { length segment.now < 2 ^ 31 }
     ensures { result ≡ (if nat_lt line (lines_for n (length segment.now))
         then cell_in n segment.now line place else None) }

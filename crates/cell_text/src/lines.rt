@@ -2,6 +2,7 @@
 ghost use Rattle.std.specs.Prelude.{◌≡◌, ◌<◌, ◌≤◌, ◌+◌, ◌^◌, ◌≤ℤ◌, pos};
 ghost use Rattle.view_model.specs.CellText.{count_of_lines, lines_for, widest_of};
 ghost use Rattle.view_model.specs.TextView.{cells_in};
+ghost use Rattle.cell_text.specs.Rows.{HasCells};
 
 use view_model::Text;
 use view_model::limits::CELL_WIDTH;
@@ -41,7 +42,7 @@ pub fn cells_in(room: i64) -> u32
 
 /// How many lines of `n` cells a text takes.
 pub fn count(text: &Text, n: u32) -> u32
-    requires { 0 < n }
+    requires { HasCells n }
     ensures { result ≡ count_of_lines n text.now }
 {
     let mut lines = 0;
@@ -60,7 +61,7 @@ pub fn count(text: &Text, n: u32) -> u32
 /// How many lines of `n` cells a segment of this many characters takes.
 #[tactic(auto, unfolding(view_model::specs::CellText::lines_for))]
 pub fn lines_for(length: u32, n: u32) -> u32
-    requires { 0 < n }
+    requires { HasCells n }
     ensures value { result ≡ lines_for n length }
     ensures most { result ≤ length + 1 }
 {

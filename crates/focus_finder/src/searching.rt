@@ -1,11 +1,11 @@
 //! The search for the candidate with the least key.
 
-ghost use Rattle.std.specs.Prelude.{◌≡◌, ◌^◌, IfSome};
+ghost use Rattle.std.specs.Prelude.{◌≡◌, IfSome};
 ghost use Rattle.std.specs.Option.{option_map};
 ghost use Rattle.focus_finder.specs.Focus.{candidate_of, is_candidate, least, lesser, next_focus, takes_clicks};
 ghost use Rattle.focus_finder.specs.declared.searching.Candidate.{Candidate};
 ghost use Rattle.focus_finder.specs.Sights.{candidates_in, own_candidate, sights};
-ghost use Rattle.seen_parts.specs.Frames.{IsCanvas};
+ghost use Rattle.seen_parts.specs.Frames.{IsNearCanvas};
 ghost use Rattle.seen_parts.specs.Meeting.{as_seen};
 ghost use Rattle.view_model.specs.Painting.{is_drawn};
 ghost use Rattle.view_tree.specs.Rows.{children_of_first, first_tree, part_from};
@@ -39,7 +39,7 @@ pub fn next(tree: &ViewTree, window: Size, view: Key, side: Side) -> Option<Key>
     requires { IsLive tree.now view }
     ensures value { option_map (number_of tree.now) result
         ≡ next_focus (plain_of tree.now) (geometry_of tree.now) window (number_of tree.now view) side }
-    ensures live { IfSome result (λ key. IsLive tree.now key) }
+    ensures live { IfSome result (IsLive tree.now) }
 {
     let from = seen(tree, window, view);
     let root = tree.root()?;
@@ -68,7 +68,7 @@ fn best_in_view(
     best: Option<Candidate>,
 ) -> Option<Candidate>
     requires live { IsLive tree.now view }
-    requires canvas { IsCanvas (2 ^ 37) canvas }
+    requires canvas { IsNearCanvas canvas }
     ensures { result ≡ lesser best (least (candidates_in search
         (sights (held_of tree.now) (as_seen canvas) (first_tree (part_from view tree.now.tree))))) }
 {
@@ -99,7 +99,7 @@ fn best_in_children(
     best: Option<Candidate>,
 ) -> Option<Candidate>
     requires live { IsLive tree.now view }
-    requires canvas { IsCanvas (2 ^ 37) canvas }
+    requires canvas { IsNearCanvas canvas }
     ensures { result ≡ lesser best (least (candidates_in search
         (sights (held_of tree.now) (as_seen canvas) (children_of_first (part_from view tree.now.tree))))) }
 {

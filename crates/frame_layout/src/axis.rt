@@ -4,6 +4,7 @@ ghost use Rattle.std.specs.Int.{int_max};
 ghost use Rattle.geom_core.specs.Limits.{IsSide};
 ghost use Rattle.geom_core.specs.Spec.{child_spec_of, resolve_of};
 ghost use Rattle.view_model.specs.FrameLayout.{second_spec};
+ghost use Rattle.view_model.specs.Sums.{IsNoLessThanTwo, IsNoMoreThanTwo};
 
 use geom_core::{MATCH, Mode, Spec, remaining};
 use view_model::{child_spec_within, greater_need, own_side};
@@ -25,8 +26,8 @@ pub struct Axis {
 impl Axis {
     /// The axis before its first child.
     pub fn start(spec: Spec, min: i32, padding: i64) -> Axis
-        requires low { negsuc 4294967295 ≤ℤ padding }
-        requires high { padding ≤ℤ pos 4294967294 }
+        requires low { IsNoLessThanTwo padding }
+        requires high { IsNoMoreThanTwo padding }
         ensures spec { result.spec ≡ spec }
         ensures min { result.min ≡ min }
         ensures padding { result.padding ≡ padding }
@@ -42,8 +43,8 @@ impl Axis {
 
     /// Takes in a child of this size.
     pub fn take(&mut self, size: i32, margins: i64)
-        requires low { negsuc 4294967295 ≤ℤ margins }
-        requires high { margins ≤ℤ pos 4294967294 }
+        requires low { IsNoLessThanTwo margins }
+        requires high { IsNoMoreThanTwo margins }
         ensures spec { self.new.spec ≡ self.old.spec }
         ensures min { self.new.min ≡ self.old.min }
         ensures padding { self.new.padding ≡ self.old.padding }
@@ -54,8 +55,8 @@ impl Axis {
 
     /// The spec of a child's first measuring.
     pub fn first_spec(&self, dim: i32, margins: i64) -> Spec
-        requires low { negsuc 4294967295 ≤ℤ margins }
-        requires high { margins ≤ℤ pos 4294967294 }
+        requires low { IsNoLessThanTwo margins }
+        requires high { IsNoMoreThanTwo margins }
         ensures { result ≡ child_spec_of self.now.spec (self.now.padding +ℤ margins) dim }
     {
         child_spec_within(self.spec, self.padding, margins, dim)
@@ -64,8 +65,8 @@ impl Axis {
     /// The spec of a child's second measuring, in a group of this size.
     #[tactic(auto, unfolding(view_model::specs::FrameLayout::second_spec))]
     pub fn second_spec(&self, dim: i32, margins: i64, size: i32) -> Spec
-        requires low { negsuc 4294967295 ≤ℤ margins }
-        requires high { margins ≤ℤ pos 4294967294 }
+        requires low { IsNoLessThanTwo margins }
+        requires high { IsNoMoreThanTwo margins }
         ensures { result ≡ second_spec
             (child_spec_of self.now.spec (self.now.padding +ℤ margins) dim) dim size (self.now.padding +ℤ margins) }
     {

@@ -1,3 +1,4 @@
+mod NameLaws
 mod PlaceLaws
 mod RowLaws
 mod RootLaws

@@ -5,17 +5,21 @@ ghost use Rattle.inflater.specs.ClassNames.{class_of};
 use view_model::Class;
 
 /// The class that an element's name means: its name alone, or with its package before it.
-#[tactic(auto, unfolding(crate::specs::ClassNames::class_of))]
 pub fn class_of(name: &str) -> Option<Class>
     ensures { result ≡ class_of name.now }
 {
-    match name {
-        "View" | "android.view.View" => Some(Class::View),
-        "TextView" | "android.widget.TextView" => Some(Class::TextView),
-        "FrameLayout" | "android.widget.FrameLayout" => Some(Class::FrameLayout),
-        "LinearLayout" | "android.widget.LinearLayout" => Some(Class::LinearLayout),
-        "RelativeLayout" | "android.widget.RelativeLayout" => Some(Class::RelativeLayout),
-        "ScrollView" | "android.widget.ScrollView" => Some(Class::ScrollView),
-        _ => None,
+    let name = name.as_bytes();
+    if let Some(word) = name.strip_prefix(b"android.widget.") {
+        return match Class::named(word)? {
+            Class::View => None,
+            class => Some(class),
+        };
     }
+    if let Some(word) = name.strip_prefix(b"android.view.") {
+        return match Class::named(word)? {
+            Class::View => Some(Class::View),
+            _ => None,
+        };
+    }
+    Class::named(name)
 }

@@ -8,6 +8,7 @@ ghost use Rattle.view_model.specs.Refusals.{plain_refusal};
 ghost use Rattle.inflater.specs.ClassNames.{class_in};
 ghost use Rattle.inflater.specs.Inflating.{refused_in, view_with};
 ghost use Rattle.inflater.specs.Answers.{ViewedAs};
+ghost use Rattle.view_model.specs.RefusalNumbers.{IsFirstOrLater, IsLastOrEarlier};
 
 use crate::classes::class_of;
 use crate::fault::GrowFault;
@@ -25,8 +26,8 @@ pub(crate) struct ElementView {
 
 /// A refusal that is reported for an element.
 fn refused_in(element: u32, number: u8) -> Refusal
-    requires first { 1 ≤ number }
-    requires last { number ≤ 43 }
+    requires first { IsFirstOrLater number }
+    requires last { IsLastOrEarlier number }
     ensures { plain_refusal result ≡ refused_in element number }
 {
     Refusal {

@@ -152,6 +152,10 @@ pub record IsKept (held : ℕ → Held) (tree : Forest Row) : Type 0 where
 abbrev pub IsConsistent : Views → Type 0
 IsConsistent views = IsKept (held_of views) views.tree
 
+-- what is kept of views fits together after a change if it did before
+abbrev pub StaysConsistent : Views → Views → Type 0
+StaysConsistent old new = IsConsistent old → IsConsistent new
+
 -- what a measuring may begin with
 pub record Ready (held : ℕ → Held) (list : Forest Row) : Type 0 where
   pub kept : Kept [] held loose list

@@ -17,5 +17,5 @@
 //!
 //! As `apply` of `tree_edits` has it:
 //!
-//!     ensures consistent { IsConsistent tree.old → IsConsistent tree.new }
+//!     ensures consistent { StaysConsistent tree.old tree.new }
 #![tactic(auto)]

@@ -4,6 +4,7 @@ ghost use Rattle.linear_layout.specs.Line.{exact_specs, is_sized};
 ghost use Rattle.view_model.specs.Facts.{layout_facts};
 ghost use Rattle.view_model.specs.LinearLayout.{alignment_on, dim_on, exactly, high_margin, high_padding, low_margin, low_padding, margins_on, size_by, size_on, spec_on, specs_by};
 ghost use Rattle.view_model.specs.Measuring.{pair_of};
+ghost use Rattle.view_model.specs.Sums.{IsNoLessThanTwo, IsNoMoreThanTwo};
 
 use geom_core::{Mode, Size, Spec, to_size};
 use view_model::{Alignment, Facts, Gravity};
@@ -33,8 +34,8 @@ pub fn dim_on(vertical: bool, facts: &Facts) -> i32
 #[tactic(auto, unfolding(view_model::specs::LinearLayout::margins_on))]
 pub fn margins_on(vertical: bool, facts: &Facts) -> i64
     ensures value { result ≡ margins_on vertical (layout_facts facts.now) }
-    ensures low { negsuc 4294967295 ≤ℤ result }
-    ensures high { result ≤ℤ pos 4294967294 }
+    ensures low { IsNoLessThanTwo result }
+    ensures high { IsNoMoreThanTwo result }
 {
     if vertical {
         return facts.margins_down();

@@ -2,7 +2,7 @@
 //!
 //! The uniform pass follows whenever the breadth of the group was not given, even if no child is asked, and then its
 //! owner may leave it out; what children take of the line stays that of the pass before.
-ghost use Rattle.std.specs.Prelude.{◌≡◌, ◌≤ℤ◌, ◌+ℤ◌, ◌^◌, pos, negsuc, List, Some, None};
+ghost use Rattle.std.specs.Prelude.{◌≡◌, ◌≤ℤ◌, ◌+ℤ◌, ◌^◌, pos, List, Some, None};
 ghost use Rattle.std.specs.Option.{option_map};
 ghost use Rattle.geom_core.specs.Limits.{IsSide};
 ghost use Rattle.geom_core.specs.Spec.{remaining_of};
@@ -12,6 +12,8 @@ ghost use Rattle.linear_layout.specs.Line.{kid_with, own_in, specs_in};
 ghost use Rattle.linear_layout.specs.Passes.{IsFirstPass, IsWeightPass};
 ghost use Rattle.view_model.specs.LinearLayout.{breadth_for, breadth_once, breadth_twice, needed_breadth, resolved_breadth, uniform_pass};
 ghost use Rattle.view_model.specs.Measuring.{Measured, pair_of};
+ghost use Rattle.linear_layout.specs.Shares.{IsShareOfOne};
+ghost use Rattle.view_model.specs.Sums.{IsNoLessThanTwo, IsNoMoreThanTwo};
 
 use crate::axis::{exactly, margins_on, pair_by, size_on};
 use crate::first_pass::FirstPass;
@@ -58,7 +60,7 @@ fn needed_breadth(line: &Line, first: &FirstPass, weighed: Option<WeightPass>) -
         → IsWeightPass pass (own_in line.now) (specs_in line.now) kids second
         → result ≡ breadth_twice (own_in line.now) (specs_in line.now) kids second }
     ensures low { pos 0 ≤ℤ result }
-    ensures high { result ≤ℤ pos (2 ^ 33) }
+    ensures high { IsShareOfOne result }
 {
     let by_breadth = line.is_exact_beside() || first.all_match;
     match weighed {
@@ -80,8 +82,8 @@ fn needed_breadth(line: &Line, first: &FirstPass, weighed: Option<WeightPass>) -
 /// The breadth of a group whose children need this.
 #[tactic(auto, unfolding(view_model::specs::LinearLayout::resolved_breadth))]
 fn resolved_breadth(least: i32, padding: i64, needed: i64, spec: Spec) -> i32
-    requires padding_low { negsuc 4294967295 ≤ℤ padding }
-    requires padding_high { padding ≤ℤ pos 4294967294 }
+    requires padding_low { IsNoLessThanTwo padding }
+    requires padding_high { IsNoMoreThanTwo padding }
     requires needed_low { pos 0 ≤ℤ needed }
     requires needed_high { needed ≤ℤ pos (2 ^ 33) }
     ensures value { result ≡ resolved_breadth least padding needed spec }
@@ -108,10 +110,10 @@ pub fn ask_uniform(line: &Line, breadth: i32, kid: &Facts, size: Size) -> Option
 
 /// The spec of exactly what padding and margins leave of a breadth.
 fn exact_rest(breadth: i32, padding: i64, margins: i64) -> Spec
-    requires padding_low { negsuc 4294967295 ≤ℤ padding }
-    requires padding_high { padding ≤ℤ pos 4294967294 }
-    requires margins_low { negsuc 4294967295 ≤ℤ margins }
-    requires margins_high { margins ≤ℤ pos 4294967294 }
+    requires padding_low { IsNoLessThanTwo padding }
+    requires padding_high { IsNoMoreThanTwo padding }
+    requires margins_low { IsNoLessThanTwo margins }
+    requires margins_high { IsNoMoreThanTwo margins }
     ensures { result ≡ record { mode = Exactly; size = remaining_of breadth (padding +ℤ margins) } }
 {
     Spec {

@@ -1,5 +1,5 @@
 //! The first pass: every child is measured, except those that get their length by weight alone. Lengths are in pixels.
-ghost use Rattle.std.specs.Prelude.{◌≡◌, ◌<◌, ◌≤◌, ◌≤ℤ◌, ◌+◌, ◌+ℤ◌, ◌^◌, pos, negsuc, unsigned_abs, [], ◌∷◌, ◌++◌, List, length};
+ghost use Rattle.std.specs.Prelude.{◌≡◌, ◌<◌, ◌≤◌, ◌≤ℤ◌, ◌+◌, ◌+ℤ◌, ◌^◌, pos, unsigned_abs, [], ◌∷◌, ◌++◌, List, length};
 ghost use Rattle.std.specs.Option.{option_map};
 ghost use Rattle.geom_core.specs.Limits.{IsSide};
 ghost use Rattle.geom_core.specs.Spec.{child_spec_of};
@@ -8,6 +8,7 @@ ghost use Rattle.view_model.specs.declared.limits.TheConstants.{MAX_VIEWS};
 ghost use Rattle.view_model.specs.Facts.{layout_facts};
 ghost use Rattle.view_model.specs.LinearLayout.{first_along, first_dim, first_pass, full_length, has_weight_pass, margins_on, own_length, spare_of, spec_beside, specs_by, used_before, whole_weight};
 ghost use Rattle.view_model.specs.Measuring.{Measured, Specs, pair_of};
+ghost use Rattle.view_model.specs.Sums.{IsNoLessThanTwo, IsNoMoreThanTwo};
 
 use crate::axis::{dim_on, is_sized, margins_by, own_specs, pair_by, spec_on};
 use crate::line::{Line, even_claim, weighted_claim};
@@ -132,8 +133,8 @@ impl FirstPass {
     fn spec_along(&self, vertical: bool, line: &Line, kid: &Facts, margins: i64) -> Spec
         requires axis { vertical ≡ line.now.vertical }
         requires margins { margins ≡ margins_on line.now.vertical (layout_facts kid.now) }
-        requires low { negsuc 4294967295 ≤ℤ margins }
-        requires high { margins ≤ℤ pos 4294967294 }
+        requires low { IsNoLessThanTwo margins }
+        requires high { IsNoMoreThanTwo margins }
         ensures { (kids : List Measured)
             → IsFirstPass self.now (own_in line.now) (specs_in line.now) kids
             → result ≡ first_along (own_in line.now) (specs_in line.now) kids (layout_facts kid.now) }
@@ -165,7 +166,7 @@ impl FirstPass {
         ensures value { (kids : List Measured)
             → IsFirstPass self.now (own_in line.now) (specs_in line.now) kids
             → result ≡ full_length (own_in line.now) kids }
-        ensures low { negsuc 4294967295 ≤ℤ result }
+        ensures low { IsNoLessThanTwo result }
         ensures high { result ≤ℤ pos (2 ^ 45 + 2 ^ 32) }
     {
         self.extents.sum + line.padding_on(line.vertical())
@@ -217,10 +218,10 @@ impl FirstPass {
 
 /// The spec of a child of this dimension after others that count as `used`.
 fn spec_after(spec: Spec, padding: i64, margins: i64, used: i64, dim: i32) -> Spec
-    requires padding_low { negsuc 4294967295 ≤ℤ padding }
-    requires padding_high { padding ≤ℤ pos 4294967294 }
-    requires margins_low { negsuc 4294967295 ≤ℤ margins }
-    requires margins_high { margins ≤ℤ pos 4294967294 }
+    requires padding_low { IsNoLessThanTwo padding }
+    requires padding_high { IsNoMoreThanTwo padding }
+    requires margins_low { IsNoLessThanTwo margins }
+    requires margins_high { IsNoMoreThanTwo margins }
     requires used_low { pos 0 ≤ℤ used }
     requires used_high { used ≤ℤ pos (2 ^ 45) }
     ensures { result ≡ child_spec_of spec (padding +ℤ margins +ℤ used) dim }

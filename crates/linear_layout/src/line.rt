@@ -1,7 +1,9 @@
 //! A group whose children form a line, under its specs, and what a child takes of it. Lengths are in pixels.
-ghost use Rattle.std.specs.Prelude.{◌≡◌, ◌≤ℤ◌, ◌+ℤ◌, ◌^◌, pos, negsuc, not};
+ghost use Rattle.std.specs.Prelude.{◌≡◌, ◌≤ℤ◌, ◌+ℤ◌, ◌^◌, pos, not};
 ghost use Rattle.view_model.specs.Facts.{is_match, layout_facts};
 ghost use Rattle.view_model.specs.LinearLayout.{breadth_of, claim, claim_of, dim_on, extent, extent_of, is_exact_beside, is_skipped, margins_on, min_on, padding_on, skips, spec_beside, spec_on, where_even, where_weighted};
+ghost use Rattle.view_model.specs.Sums.{IsNoLessThanTwo, IsNoMoreThanTwo};
+ghost use Rattle.linear_layout.specs.Shares.{IsShareOfOne};
 
 use crate::axis::{dim_on, margins_by, size_on, spec_on};
 use geom_core::{Insets, MATCH, Size, Spec};
@@ -63,8 +65,8 @@ impl Line {
     #[tactic(auto, unfolding(view_model::specs::LinearLayout::padding_on))]
     pub fn padding_on(&self, vertical: bool) -> i64
         ensures value { result ≡ padding_on vertical (own_in self.now) }
-        ensures low { negsuc 4294967295 ≤ℤ result }
-        ensures high { result ≤ℤ pos 4294967294 }
+        ensures low { IsNoLessThanTwo result }
+        ensures high { IsNoMoreThanTwo result }
     {
         if vertical {
             return i64::from(self.padding.top) + i64::from(self.padding.bottom);
@@ -125,8 +127,8 @@ impl Line {
     pub fn kid_spec_beside(&self, vertical: bool, kid: &Facts, margins: i64) -> Spec
         requires axis { vertical ≡ self.now.vertical }
         requires margins { margins ≡ margins_on (not self.now.vertical) (layout_facts kid.now) }
-        requires low { negsuc 4294967295 ≤ℤ margins }
-        requires high { margins ≤ℤ pos 4294967294 }
+        requires low { IsNoLessThanTwo margins }
+        requires high { IsNoMoreThanTwo margins }
         ensures { result ≡ spec_beside (own_in self.now) (specs_in self.now) (layout_facts kid.now) }
     {
         let beside = !vertical;
@@ -175,11 +177,11 @@ impl Line {
     #[inline(always)]
     fn claim(&self, vertical: bool, kid: &Facts, size: i32, margins: i64) -> i64
         requires axis { vertical ≡ self.now.vertical }
-        requires low { negsuc 4294967295 ≤ℤ margins }
-        requires high { margins ≤ℤ pos 4294967294 }
+        requires low { IsNoLessThanTwo margins }
+        requires high { IsNoMoreThanTwo margins }
         ensures value { result ≡ claim (is_exact_beside (own_in self.now) (specs_in self.now))
             (dim_on (not self.now.vertical) (layout_facts kid.now)) size margins }
-        ensures high { result ≤ℤ pos (2 ^ 33) }
+        ensures high { IsShareOfOne result }
     {
         if !is_exact(spec_on(!vertical, self.ws, self.hs)) && dim_on(!vertical, kid) == MATCH {
             return margins;
@@ -191,10 +193,10 @@ impl Line {
 /// The breadth of a child with its margins.
 #[inline(always)]
 fn breadth(size: i32, margins: i64) -> i64
-    requires low { negsuc 4294967295 ≤ℤ margins }
-    requires high { margins ≤ℤ pos 4294967294 }
+    requires low { IsNoLessThanTwo margins }
+    requires high { IsNoMoreThanTwo margins }
     ensures value { result ≡ size +ℤ margins }
-    ensures high { result ≤ℤ pos (2 ^ 33) }
+    ensures high { IsShareOfOne result }
 {
     i64::from(size) + margins
 }
@@ -203,9 +205,9 @@ fn breadth(size: i32, margins: i64) -> i64
 #[tactic(auto, unfolding(view_model::specs::LinearLayout::where_even))]
 #[inline(always)]
 pub fn even_claim(weight: u32, claim: i64) -> i64
-    requires { claim ≤ℤ pos (2 ^ 33) }
+    requires { IsShareOfOne claim }
     ensures value { result ≡ where_even weight claim }
-    ensures high { result ≤ℤ pos (2 ^ 33) }
+    ensures high { IsShareOfOne result }
 {
     if weight == 0 {
         return claim;
@@ -217,9 +219,9 @@ pub fn even_claim(weight: u32, claim: i64) -> i64
 #[tactic(auto, unfolding(view_model::specs::LinearLayout::where_weighted))]
 #[inline(always)]
 pub fn weighted_claim(weight: u32, claim: i64) -> i64
-    requires { claim ≤ℤ pos (2 ^ 33) }
+    requires { IsShareOfOne claim }
     ensures value { result ≡ where_weighted weight claim }
-    ensures high { result ≤ℤ pos (2 ^ 33) }
+    ensures high { IsShareOfOne result }
 {
     if weight == 0 {
         return 0;
@@ -229,11 +231,11 @@ pub fn weighted_claim(weight: u32, claim: i64) -> i64
 
 #[tactic(auto, unfolding(view_model::specs::LinearLayout::extent))]
 fn extent(size: i32, margins: i64) -> i64
-    requires low { negsuc 4294967295 ≤ℤ margins }
-    requires high { margins ≤ℤ pos 4294967294 }
+    requires low { IsNoLessThanTwo margins }
+    requires high { IsNoMoreThanTwo margins }
     ensures value { result ≡ extent size margins }
     ensures low { pos 0 ≤ℤ result }
-    ensures high { result ≤ℤ pos (2 ^ 33) }
+    ensures high { IsShareOfOne result }
 {
     (i64::from(size) + margins).max(0)
 }

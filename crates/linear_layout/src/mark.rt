@@ -1,7 +1,8 @@
 //! A place on the line, which moves on with each child. Lengths are in pixels.
-ghost use Rattle.std.specs.Prelude.{◌≡◌, ◌<◌, ◌≤◌, ◌+◌, ◌*◌, ◌^◌, ◌+ℤ◌, ◌≤ℤ◌, pos, negsuc, unsigned_abs};
+ghost use Rattle.std.specs.Prelude.{◌≡◌, ◌<◌, ◌≤◌, ◌+◌, ◌*◌, ◌^◌, ◌+ℤ◌, unsigned_abs};
 ghost use Rattle.geom_core.specs.Limits.{IsCoordinate, clamp_coordinate};
 ghost use Rattle.view_model.specs.declared.limits.TheConstants.{MAX_VIEWS};
+ghost use Rattle.view_model.specs.Sums.{IsNoLessThanTwo, IsNoMoreThanTwo};
 
 use crate::wide::wide_to_coordinate;
 use view_model::limits::MAX_VIEWS;
@@ -27,8 +28,8 @@ impl Mark {
 
     /// The place after one child more, of this size and with both these margins.
     pub fn past(self, size: i32, margins: i64) -> Mark
-        requires low { negsuc 4294967295 ≤ℤ margins }
-        requires high { margins ≤ℤ pos 4294967294 }
+        requires low { IsNoLessThanTwo margins }
+        requires high { IsNoMoreThanTwo margins }
         ensures count { self.count < MAX_VIEWS → result.count ≡ self.count + 1 }
         ensures at { self.count < MAX_VIEWS → result.at ≡ self.at +ℤ (size +ℤ margins) }
     {

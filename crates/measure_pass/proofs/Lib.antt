@@ -1,27 +1,7 @@
-pub mod AnchorKeys
-pub mod AtPlace
-pub mod Calm
-pub mod Edged
-mod Examples
 pub mod Counts
-pub mod FrameLaws
-pub mod Frames
-pub mod Grows
-pub mod Lawful
-pub mod Laws
-pub mod LeafLaws
-pub mod LeftPhase
-pub mod LinearLaws
-pub mod MeasureKid
-pub mod Own
-pub mod Parts
-pub mod Places
-pub mod PlanPhases
-pub mod PlanTurns
-pub mod PlanWalk
-pub mod Rests
-pub mod SettledLaws
-pub mod SiblingTurns
-pub mod Turns
-pub mod Walk
-pub mod Whole
+mod Examples
+pub mod Shares
+pub mod held
+pub mod relatives
+pub mod rules
+pub mod walks

@@ -3,10 +3,11 @@ use Rattle.std.specs.Prelude.{◌≡◌, ℤ, ℕ, ◌+◌, zero, suc, Bool, tru
 use Rattle.std.specs.Prelude.{◌∷◌, ◌++◌, sum_by}
 use Rattle.geom_core.specs.Limits.{IsSide}
 use Rattle.geom_core.specs.declared.geometry.Size.{Size}
-use Rattle.measure_pass.specs.Caches.{AskedAt, Grown, asked_under}
+use Rattle.measure_pass.specs.Caches.{AskedAt, asked_under}
 use Rattle.kept_views.specs.Kept.{IsSized, Sized, last_edges, last_specs}
 use Rattle.measure_pass.specs.Measured.{Costs, calls_under, edges_under, finals_under, size_under, total_under}
-use Rattle.measure_pass.specs.Plans.{Group, GroupPlan, Represents, rule_in}
+use Rattle.measure_pass.specs.Plans.{RuledView, GroupPlan, Represents, rule_in}
+use Rattle.measure_pass.specs.Sharing.{MeasuringTrace}
 use Rattle.view_model.specs.declared.class.Class.TheVariants.{RelativeLayout}
 use Rattle.view_model.specs.Course.{Child, MeasuringProgress, Requested, after_phase, after_turn, last_of, measured_of}
 use Rattle.view_model.specs.Course.{one_phase, phases_on, size_after, size_in, sizes_of}
@@ -97,24 +98,25 @@ pub record IsMeasuredBelow (part : Forest Row) (specs : Specs) (before held : �
   pub edges : (head_view part).class ≡ RelativeLayout
       → last_edges held (children_of_first part) ≡ edges_under part specs
   pub costs : Costs (children_of_first part) before held old (calls_under part specs) (new + 1)
-  pub caches : Grown (asked_under part specs) before held (children_of_first part)
+  pub trace : MeasuringTrace (asked_under part specs) (λ place. 3) before held (children_of_first part) old new
 
 -- a plan has taken the views of a list, which are these children, after others of the same phase
-pub record AfterPhase (plan : GroupPlan) (group : Group) (past : List (List Measured)) (taken : List Measured)
+pub record AfterPhase (plan : GroupPlan) (group : RuledView) (past : List (List Measured)) (taken : List Measured)
     (kids : List Requested)
     (before held : ℕ → Held) (list : Forest Row) (old new : ℕ) : Type 0 where
   pub plan_represents : Represents plan group past
       (taken ++ sizes_of (after_phase ((rule_in group).ask past) taken kids))
   pub course : InCourse held list (after_phase ((rule_in group).ask past) taken kids)
   pub costs : Costs list before held old (phase_calls ((rule_in group).ask past) taken kids) new
-  pub caches : Grown (AskedAt (after_phase ((rule_in group).ask past) taken kids)) before held list
+  pub trace : MeasuringTrace (AskedAt (after_phase ((rule_in group).ask past) taken kids)) (λ place. 1) before held list
+      old new
 
 -- what follows for the children of a group from completed phases and the next one, up to n more
-abbrev pub from_here : Group → ℕ → MeasuringProgress → MeasuringProgress
+abbrev pub from_here : RuledView → ℕ → MeasuringProgress → MeasuringProgress
 from_here group left progress = phases_on left (rule_in group) (one_phase (rule_in group) progress)
 
 -- a group's whole measuring, from completed phases
-pub record AfterAll (group : Group) (left : ℕ) (progress : MeasuringProgress) (before held : ℕ → Held)
+pub record AfterAll (group : RuledView) (left : ℕ) (progress : MeasuringProgress) (before held : ℕ → Held)
     (list : Forest Row) (answer : Size) (total : ℤ)
     (old new : ℕ) : Type 0 where
   pub size : answer ≡ (rule_in group).size (from_here group left progress).past
@@ -123,4 +125,5 @@ pub record AfterAll (group : Group) (left : ℕ) (progress : MeasuringProgress) 
   pub more : ℕ
   pub calls : calls_of (from_here group left progress).kids ≡ calls_of progress.kids + more
   pub costs : Costs list before held old more new
-  pub caches : Grown (AskedAt (from_here group left progress).kids) before held list
+  pub trace : MeasuringTrace (AskedAt (from_here group left progress).kids) (λ place. 1 + left) before held list
+      old new

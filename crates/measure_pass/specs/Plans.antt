@@ -21,16 +21,16 @@ use Rattle.view_model.specs.PlainTree.{PlainView}
 use Rattle.view_model.specs.ScrollView.{scroll_rule}
 
 -- a view that is measured by a rule: its facts, its specs, and the rule
-pub record Group : Type 0 where
+pub record RuledView : Type 0 where
   pub own : Facts
   pub specs : Specs
   pub rule : Rule
 
-abbrev pub rule_in : Group → Rule
+abbrev pub rule_in : RuledView → Rule
 rule_in group = group.rule
 
 -- a view with this rule under these specs
-abbrev pub group_by : Rule → PlainView → Specs → Group
+abbrev pub group_by : Rule → PlainView → Specs → RuledView
 group_by rule view specs = record { own = view.facts; specs = specs; rule = rule }
 
 -- how a group measures its children: in each phase they come in order
@@ -40,7 +40,7 @@ pub data GroupPlan : Type 0 where
   Scroll : ScrollPlan → GroupPlan
 
 -- the plan of a view, once these phases are over and it has taken these children in the next
-abbrev pub Represents : GroupPlan → Group → List (List Measured) → List Measured → Type 0
+abbrev pub Represents : GroupPlan → RuledView → List (List Measured) → List Measured → Type 0
 Represents (Frame plan) group past taken =
     (rule_in group ≡ frame_rule group.own group.specs) × RepresentsFrame plan group.own group.specs past taken
 Represents (Linear plan) group past taken =
@@ -59,7 +59,7 @@ pub record IsLeaf (view : PlainView) (specs : Specs) (size : Size) : Type 0 wher
   pub alone : is_group view.class ≡ false
 
 -- a plan at the end of a phase: whether another follows, and then the plan is at its start
-pub record Turned (plan : GroupPlan) (group : Group) (past : List (List Measured)) (taken : List Measured)
+pub record Turned (plan : GroupPlan) (group : RuledView) (past : List (List Measured)) (taken : List Measured)
     (answer : Bool) : Type 0 where
   pub answers : answer ≡ (rule_in group).turns (past ++ taken ∷ [])
   pub follows : answer ≡ true → Represents plan group (past ++ taken ∷ []) []
@@ -68,35 +68,35 @@ pub record Turned (plan : GroupPlan) (group : Group) (past : List (List Measured
 -- the specs that a plan asks for a child of these facts and this size, if it does
 abbrev pub Asks : GroupPlan → Facts → Size → Option (Spec × Spec) → Type 0
 Asks plan kid size answer =
-    (group : Group) (past : List (List Measured)) (taken : List Measured) → Represents plan group past taken
+    (group : RuledView) (past : List (List Measured)) (taken : List Measured) → Represents plan group past taken
     → answer ≡ option_map pair_of ((rule_in group).ask past taken (record { facts = kid; size = size }))
 
 -- a plan takes such a child
 abbrev pub Takes : GroupPlan → GroupPlan → Facts → Size → Type 0
 Takes old new kid size =
-    (group : Group) (past : List (List Measured)) (taken : List Measured) → Represents old group past taken
+    (group : RuledView) (past : List (List Measured)) (taken : List Measured) → Represents old group past taken
     → length taken < max_views
     → Represents new group past (taken ++ taken_as (rule_in group) past taken kid size ∷ [])
 
 -- a plan ends a phase, and answers whether another follows
 abbrev pub Turns : GroupPlan → GroupPlan → Bool → Type 0
 Turns old new answer =
-    (group : Group) (past : List (List Measured)) (taken : List Measured) → Represents old group past taken
+    (group : RuledView) (past : List (List Measured)) (taken : List Measured) → Represents old group past taken
     → Turned new group past taken answer
 
 -- a plan at the start of a phase that asks none of the children of the phase before: taking them changes nothing, and
 -- no phase follows
 pub record HasIdlePhase (plan : GroupPlan) : Type 0 where
-  pub asks : (group : Group) (past : List (List Measured)) (last : List Measured)
+  pub asks : (group : RuledView) (past : List (List Measured)) (last : List Measured)
       → Represents plan group (past ++ last ∷ []) [] → AsksNone ((rule_in group).ask (past ++ last ∷ [])) last
-  pub takes : (group : Group) (past : List (List Measured)) (taken more : List Measured)
+  pub takes : (group : RuledView) (past : List (List Measured)) (taken more : List Measured)
       → Represents plan group past taken → Represents plan group past more
-  pub turns : (group : Group) (past : List (List Measured)) (taken : List Measured) → Represents plan group past taken
-      → (rule_in group).turns (past ++ taken ∷ []) ≡ false
+  pub turns : (group : RuledView) (past : List (List Measured)) (taken : List Measured)
+      → Represents plan group past taken → (rule_in group).turns (past ++ taken ∷ []) ≡ false
 
 -- the size of a group by its plan after the last phase, and what its children took along its axis
 pub record Ends (plan : GroupPlan) (own : Size) (along : ℤ) : Type 0 where
-  pub size : (group : Group) (past : List (List Measured)) (taken : List Measured) → Represents plan group past taken
-      → own ≡ (rule_in group).size (past ++ taken ∷ [])
-  pub total : (group : Group) (past : List (List Measured)) (taken : List Measured) → Represents plan group past taken
-      → along ≡ (rule_in group).total (past ++ taken ∷ [])
+  pub size : (group : RuledView) (past : List (List Measured)) (taken : List Measured)
+      → Represents plan group past taken → own ≡ (rule_in group).size (past ++ taken ∷ [])
+  pub total : (group : RuledView) (past : List (List Measured)) (taken : List Measured)
+      → Represents plan group past taken → along ≡ (rule_in group).total (past ++ taken ∷ [])

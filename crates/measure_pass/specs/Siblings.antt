@@ -4,7 +4,7 @@ use Rattle.std.specs.Prelude.{◌≡◌, ℕ, ◌<◌, ℤ, true, false, if◌th
 use Rattle.std.specs.Prelude.{None, sum_by}
 use Rattle.geom_core.specs.Limits.{IsSide}
 use Rattle.geom_core.specs.declared.geometry.Rect.{Rect}
-use Rattle.measure_pass.specs.Caches.{Grown}
+use Rattle.measure_pass.specs.Sharing.{MeasuringTrace}
 use Rattle.kept_views.specs.Kept.{IsSized, Sized}
 use Rattle.measure_pass.specs.Measured.{Costs}
 use Rattle.relative_layout.specs.plan.RelativePlan.{RepresentsRelative, spanned_in}
@@ -21,7 +21,7 @@ use Rattle.view_model.specs.Measuring.{Specs}
 use Rattle.view_model.specs.RelativeCourse.{anchors_by, arranged, asked_across, asked_down, child_at, edges_at}
 use Rattle.view_model.specs.RelativeCourse.{no_child, span_across, span_down, spans_across, spans_down}
 use Rattle.view_model.specs.RelativeLayout.{Spanned, edges_with, span_or_none}
-use Rattle.view_tree.specs.groups.Ordering.{PlainOrders}
+use Rattle.view_tree.specs.sibling_orders.Ordering.{PlainOrders}
 use Rattle.view_tree.specs.Rows.{Row, count_of_key, first_tree, part_from, siblings_from, views_of}
 use Rattle.view_tree.specs.Views.{Held, specs_of}
 
@@ -156,7 +156,7 @@ pub record AfterTurn (plan : RelativePlan) (own : Facts) (specs : Specs) (past :
   pub plan_represents : RepresentsRelative plan own specs past (taken ++ spanned_in kids phase.spans (place ∷ []))
   pub over : FirstHasEdges held (phase.asks place) (edges_with phase.axis (phase.spans place) (phase.before place)) part
   pub costs : Costs (first_tree part) before held old (calls_in_turn phase kids place) new
-  pub caches : Grown (λ i. asked_in phase kids place) before held (first_tree part)
+  pub trace : MeasuringTrace (λ i. asked_in phase kids place) (λ i. 1) before held (first_tree part) old new
 
 -- the children of a list after a phase in which these were the turns, and the plan
 pub record AfterTurns (plan : RelativePlan) (own : Facts) (specs : Specs) (past : List (List Spanned)) (phase : Phase)
@@ -165,7 +165,7 @@ pub record AfterTurns (plan : RelativePlan) (own : Facts) (specs : Specs) (past 
   pub plan_represents : RepresentsRelative plan own specs past (spanned_in (kids_in list) phase.spans order)
   pub over : (place : ℕ) → place < length (kids_in list) → TurnIsOver phase held list place
   pub costs : Costs list before held old (sum_by (calls_in_turn phase (kids_in list)) order) new
-  pub caches : Grown (asked_in phase (kids_in list)) before held list
+  pub trace : MeasuringTrace (asked_in phase (kids_in list)) (λ place. 1) before held list old new
 
 -- a key is that of the child of a place, if there is one
 abbrev pub IsKidAt : Forest Row → Forest Row → Option ℕ → Option ℕ → Type 0

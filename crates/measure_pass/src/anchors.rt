@@ -179,7 +179,7 @@ fn anchor_key(
         (anchor_of search.rtl search.axis search.tie (links_of (kids_in (kids_from search.view tree.now.tree)))
         (λ sibling. is_shown (child_at (kids_in (kids_from search.view tree.now.tree)) sibling).facts)
         place) result }
-    ensures live { IfSome result (λ kid. IsLive tree.now kid) }
+    ensures live { IfSome result (IsLive tree.now) }
     ensures last { IfSome last.new (IsReplaced tree.now.tree search) }
 {
     let Some(named) = named_sibling(tree, search, kid) else {
@@ -221,7 +221,7 @@ fn past_gone(tree: &ViewTree, search: Search, gone: Key) -> Option<Key>
         → part_from gone tree.now.tree ≡ siblings_from place (kids_from search.view tree.now.tree)
         → IsKidAt tree.now.tree (kids_from search.view tree.now.tree)
         (instead_of search (kids_in (kids_from search.view tree.now.tree)) place) result }
-    ensures live { IfSome result (λ kid. IsLive tree.now kid) }
+    ensures live { IfSome result (IsLive tree.now) }
 {
     let mut at = gone;
     let mut left = turns(tree, search.view).saturating_sub(1);
@@ -246,7 +246,7 @@ fn named_sibling(tree: &ViewTree, search: Search, kid: Key) -> Option<Key>
         → IsKidAt tree.now.tree (kids_from search.view tree.now.tree)
         (named_sibling search.rtl search.axis search.tie (links_of (kids_in (kids_from search.view tree.now.tree)))
         place) result }
-    ensures live { IfSome result (λ kid. IsLive tree.now kid) }
+    ensures live { IfSome result (IsLive tree.now) }
 {
     let id = search
         .tie

@@ -10,6 +10,7 @@ ghost use Rattle.measure_cache.specs.Entries.{found, put_in};
 ghost use Rattle.measure_pass.specs.Caches.{Grown};
 ghost use Rattle.measure_pass.specs.Courses.{IsMeasuredBelow};
 ghost use Rattle.measure_pass.specs.Measured.{Costs, Counted, IsFit, IsKnown, IsMeasured, IsReady, Keeps, KeepsRest, calls_under, current, entry_for, kids_from, size_under, total_under};
+ghost use Rattle.measure_pass.specs.Sharing.{SharesOut};
 ghost use Rattle.view_tree.specs.Rows.{first_tree, part_from};
 ghost use Rattle.view_tree.specs.Views.{IsLive, IsTree, KeepsOutside, SameTree, cache_of, held_of, specs_of, state_of};
 
@@ -23,7 +24,7 @@ mod scroll;
 use frame::measure_frame;
 use geom_core::{Size, Spec};
 use keeping::{Outcome, finish, hit, is_current, make_up};
-use leaf::{minimal_size, text_size};
+use leaf::leaf_size;
 use linear::measure_linear;
 use measure_cache::Entry;
 use relative::measure_siblings;
@@ -55,6 +56,9 @@ pub fn measure(tree: &mut ViewTree, view: Key, ws: Spec, hs: Spec, work: &mut Wo
         (calls_under (part_from view tree.old.tree) (record { across = ws; down = hs })) work.new.measured }
     ensures caches { Grown (λ place other. other ≡ (record { across = ws; down = hs })) (held_of tree.old)
         (held_of tree.new) (first_tree (part_from view tree.old.tree)) }
+    ensures shares { SharesOut (λ place other. other ≡ (record { across = ws; down = hs })) (λ place. 1)
+        (held_of tree.old) (held_of tree.new) (first_tree (part_from view tree.old.tree))
+        work.old.measured work.new.measured }
     ensures still { current (state_of tree.old view) (record { across = ws; down = hs }) ≡ true → tree.new ≡ tree.old }
     ensures idle { IsKnown (held_of tree.old view) (record { across = ws; down = hs })
         → (work.new ≡ work.old)
@@ -93,6 +97,9 @@ fn measure_changed(tree: &mut ViewTree, view: Key, ws: Spec, hs: Spec, work: &mu
         (calls_under (part_from view tree.old.tree) (record { across = ws; down = hs })) work.new.measured }
     ensures caches { Grown (λ place other. other ≡ (record { across = ws; down = hs })) (held_of tree.old)
         (held_of tree.new) (first_tree (part_from view tree.old.tree)) }
+    ensures shares { SharesOut (λ place other. other ≡ (record { across = ws; down = hs })) (λ place. 1)
+        (held_of tree.old) (held_of tree.new) (first_tree (part_from view tree.old.tree))
+        work.old.measured work.new.measured }
     ensures idle { IsKnown (held_of tree.old view) (record { across = ws; down = hs })
         → (work.new ≡ work.old)
         × (cache_of tree.new view ≡ cache_of tree.old view)
@@ -114,6 +121,7 @@ fn measure_changed(tree: &mut ViewTree, view: Key, ws: Spec, hs: Spec, work: &mu
 #[inline(always)]
 fn measure_anew(tree: &mut ViewTree, view: Key, ws: Spec, hs: Spec, work: &mut Work) -> Size
     requires ready { IsReady tree.old view }
+    requires changed { current (state_of tree.old view) (record { across = ws; down = hs }) ≡ false }
     requires miss { found (cache_of tree.old view) (record { across = ws; down = hs }) ≡ None }
     ensures size { result ≡ size_under (part_from view tree.old.tree) (record { across = ws; down = hs }) }
     ensures same { SameTree tree.old tree.new }
@@ -126,6 +134,9 @@ fn measure_anew(tree: &mut ViewTree, view: Key, ws: Spec, hs: Spec, work: &mut W
         (calls_under (part_from view tree.old.tree) (record { across = ws; down = hs })) work.new.measured }
     ensures caches { Grown (λ place other. other ≡ (record { across = ws; down = hs })) (held_of tree.old)
         (held_of tree.new) (first_tree (part_from view tree.old.tree)) }
+    ensures shares { SharesOut (λ place other. other ≡ (record { across = ws; down = hs })) (λ place. 1)
+        (held_of tree.old) (held_of tree.new) (first_tree (part_from view tree.old.tree))
+        work.old.measured work.new.measured }
     ensures cache { cache_of tree.new view
         ≡ put_in (cache_of tree.old view) (entry_for (record { across = ws; down = hs }) result) }
 {
@@ -139,7 +150,7 @@ fn measure_anew(tree: &mut ViewTree, view: Key, ws: Spec, hs: Spec, work: &mut W
     outcome.size
 }
 
-/// Measures what is below a view under these specs. A view without children has its size at once.
+/// Measures what is below a view under these specs. A class that is not named has no children, and its size at once.
 #[cycle(measure)]
 #[inline(always)]
 fn measure_below(tree: &mut ViewTree, view: Key, ws: Spec, hs: Spec, work: &mut Work) -> Outcome
@@ -151,20 +162,15 @@ fn measure_below(tree: &mut ViewTree, view: Key, ws: Spec, hs: Spec, work: &mut 
         result.size result.total work.old.measured work.new.measured }
     ensures rest { KeepsRest tree.old tree.new (kids_from view tree.old.tree) work.old work.new }
 {
-    let facts = tree.facts(view);
     match tree.class(view) {
-        Class::View => Outcome {
-            size: minimal_size(facts, ws, hs),
-            total: 0,
-        },
-        Class::TextView => Outcome {
-            size: text_size(facts, tree.text(view), ws, hs),
-            total: 0,
-        },
         Class::FrameLayout => measure_frame(tree, view, ws, hs, work),
         Class::LinearLayout => measure_linear(tree, view, ws, hs, work),
         Class::ScrollView => measure_scroll(tree, view, ws, hs, work),
         Class::RelativeLayout => measure_siblings(tree, view, ws, hs, work),
+        _ => Outcome {
+            size: leaf_size(tree, view, ws, hs),
+            total: 0,
+        },
     }
 }
 
@@ -187,6 +193,9 @@ pub fn remeasure(tree: &mut ViewTree, view: Key, work: &mut Work)
     ensures counted { Counted 1 tree.old tree.new work.old work.new }
     ensures caches { Grown (λ place other. other ≡ specs_of (state_of tree.old view)) (held_of tree.old)
         (held_of tree.new) (first_tree (part_from view tree.old.tree)) }
+    ensures shares { SharesOut (λ place other. other ≡ specs_of (state_of tree.old view)) (λ place. 0)
+        (held_of tree.old) (held_of tree.new) (first_tree (part_from view tree.old.tree))
+        work.old.measured work.new.measured }
     ensures back { work.new.measured + owed (held_of tree.new) (first_tree (part_from view tree.old.tree))
         ≤ work.old.measured + owed (held_of tree.old) (first_tree (part_from view tree.old.tree)) }
     ensures spent { work.new.measured

@@ -12,9 +12,9 @@ ghost use Rattle.view_model.specs.Measuring.{Specs};
 ghost use Rattle.view_model.specs.RelativeCourse.{arranged};
 ghost use Rattle.view_model.specs.RelativeLayout.{Spanned, final_rect, relative_size};
 ghost use Rattle.view_model.specs.Cycles.{links_in};
-ghost use Rattle.view_tree.specs.groups.Ordering.{AreOrders};
+ghost use Rattle.view_tree.specs.sibling_orders.Ordering.{AreOrders};
 ghost use Rattle.view_tree.specs.Rows.{part_from, siblings_from, views_of};
-ghost use Rattle.view_tree.specs.Views.{IsLive, IsTree, KeepsOthers, KeepsOutside, SameTree, class_of, held_of, orders_of, state_of};
+ghost use Rattle.view_tree.specs.Views.{IsLive, IsTree, KeepsOthers, KeepsOutside, SameTree, class_of, held_of, orders_of, state_of, KeepsCounts};
 
 use geom_core::Rect;
 use relative_layout::RelativePlan;
@@ -86,7 +86,7 @@ pub fn keep_edges(tree: &mut ViewTree, kid: Key, edges: Edges)
     ensures held { held_of tree.new kid
         ≡ record (held_of tree.old kid) { state = record (held_of tree.old kid).state { edges = edges } } }
     ensures others { KeepsOthers tree.old tree.new kid }
-    ensures counts { tree.new.counts ≡ tree.old.counts }
+    ensures counts { KeepsCounts tree.old tree.new }
 {
     let mut state = tree.state(kid);
     state.edges = edges;
@@ -115,7 +115,7 @@ pub fn settle(tree: &mut ViewTree, view: Key, plan: &RelativePlan)
     ensures edged { KeepsAllButEdges (held_of tree.old) (held_of tree.new) }
     ensures ready { Ready (held_of tree.old) (kids_from view tree.old.tree)
         → Ready (held_of tree.new) (kids_from view tree.old.tree) }
-    ensures counts { tree.new.counts ≡ tree.old.counts }
+    ensures counts { KeepsCounts tree.old tree.new }
 {
     for place in 0..turns(tree, view) {
         let kid = tree.child_at(view, place);
@@ -139,7 +139,7 @@ fn settle_kid(tree: &mut ViewTree, kid: Key, plan: &RelativePlan)
     ensures edged { KeepsAllButEdges (held_of tree.old) (held_of tree.new) }
     ensures ready { Ready (held_of tree.old) (tree_from kid tree.old.tree)
         → Ready (held_of tree.new) (tree_from kid tree.old.tree) }
-    ensures counts { tree.new.counts ≡ tree.old.counts }
+    ensures counts { KeepsCounts tree.old tree.new }
 {
     if !tree.facts(kid).is_shown() {
         return;

@@ -1,12 +1,13 @@
 -- What contracts see of a picture in memory.
-use Rattle.std.specs.Prelude.{ℕ, ℤ, pos, ◌≡◌, ◌<◌, ◌≤◌, ◌<ℤ◌, ◌≤ℤ◌, ◌+◌, ◌-◌, ◌*◌, ◌^◌, min, List, [], length}
-use Rattle.std.specs.Prelude.{replicate, slice_index_or, if◌then◌else◌}
+use Rattle.std.specs.Prelude.{ℕ, ℤ, pos, ◌≡◌, ◌≢◌, ◌⊎◌, ◌<◌, ◌≤◌, ◌<ℤ◌, ◌≤ℤ◌, ◌+◌, ◌-◌, ◌*◌, ◌^◌, min, List, []}
+use Rattle.std.specs.Prelude.{length, replicate, slice_index_or, if◌then◌else◌}
 use Rattle.geom_core.specs.Color.{alpha_of, blend_of}
 use Rattle.geom_core.specs.Numbers.{unpainted}
 use Rattle.geom_core.specs.Rects.{holds}
 use Rattle.geom_core.specs.declared.color.Argb.{Argb}
 use Rattle.geom_core.specs.declared.geometry.Rect.{Rect}
 use Rattle.geom_core.specs.declared.geometry.Size.{Size}
+use Rattle.view_model.specs.declared.work.Work.{Work}
 use Rattle.pixel_raster.specs.Cuts.{area_within, from_zero}
 
 pub record Raster : Type 0 where
@@ -59,6 +60,13 @@ pub record IsPointOf (raster : Raster) (x y : ℤ) : Type 0 where
   pub above : y <ℤ pos raster.height
 
 -- a colour is blended over the pixels of a rectangle
+pub record Blends (rect : Rect) (color : Argb) (old new : Raster) : Type 0 where
+  pub width : new.width ≡ old.width
+  pub height : new.height ≡ old.height
+  pub colors : (x y : ℕ) → x < old.width → y < old.height
+      → color_at new x y ≡ (if holds rect (pos x) (pos y) then blend_of color (color_at old x y) else color_at old x y)
+
+-- the same, and the picture counts them
 pub record Fills (rect : Rect) (color : Argb) (old new : Raster) : Type 0 where
   pub width : new.width ≡ old.width
   pub height : new.height ≡ old.height
@@ -66,3 +74,15 @@ pub record Fills (rect : Rect) (color : Argb) (old new : Raster) : Type 0 where
       → color_at new x y ≡ (if holds rect (pos x) (pos y) then blend_of color (color_at old x y) else color_at old x y)
   pub filled : new.filled ≡ min (old.filled + area_within old.width old.height rect) (2 ^ 64 - 1)
   pub grew : old.filled ≤ new.filled
+
+-- these pixels were counted as work
+abbrev pub IsAreaCounted : Rect → Raster → Work → Work → Type 0
+IsAreaCounted rect picture before after = after ≡ record before {
+  painted = min (before.painted + area_within picture.width picture.height rect) (2 ^ 64 - 1);
+}
+
+-- a colour that covers nothing leaves all as it is, and the pixels under any other one are counted
+abbrev pub FillsUnlessClear : Rect → Argb → Raster → Raster → Work → Work → Type 0
+FillsUnlessClear rect color old new before after =
+    ((alpha_of color ≡ 0) × (new ≡ old) × (after ≡ before))
+    ⊎ ((alpha_of color ≢ 0) × Fills rect color old new × IsAreaCounted rect old before after)

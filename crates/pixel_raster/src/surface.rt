@@ -2,12 +2,14 @@
 //!
 //! A pixel is a word of 32 bits with the alpha 255, and not three bytes: a fill writes words. A fill counts the pixels
 //! that it goes over, and not those that it changes: so work follows from rectangles, not from colours.
-ghost use Rattle.std.specs.Prelude.{◌≡◌, ◌<◌, ◌≤◌, ◌+◌, ◌-◌, ◌*◌, ◌^◌, IfOk, IsOk, OnErr, OnOk, length, min, replicate, true};
+ghost use Rattle.std.specs.Prelude.{◌≡◌, ◌<◌, ◌≤◌, ◌+◌, ◌-◌, ◌*◌, ◌^◌, IfOk, IsOk, OnOk, length, min, replicate, true};
 ghost use Rattle.geom_core.specs.Numbers.{unpainted};
 ghost use Rattle.pixel_raster.specs.Bytes.{digest_of};
 ghost use Rattle.pixel_raster.specs.Cuts.{area_within, from_zero};
-ghost use Rattle.pixel_raster.specs.Raster.{Fills, IsPointOf, IsRaster, black_raster, color_at, empty_raster, size_of};
+ghost use Rattle.pixel_raster.specs.Raster.{Blends, Fills, FillsUnlessClear, IsPointOf, IsRaster, black_raster, color_at, empty_raster, size_of};
 ghost use Rattle.pixel_raster.specs.Strips.{InksStrip, set_bits};
+ghost use Rattle.view_model.specs.Failing.{KeepsOnErr};
+ghost use Rattle.view_model.specs.Works.{KeepsPainted};
 
 use crate::cut::{Cut, from_zero};
 use crate::digest::digest_of;
@@ -85,7 +87,7 @@ impl Surface {
     /// before, and no time if they are as many and still black.
     pub fn reset(&mut self, size: Size) -> Result<(), AllocError>
         ensures value { OnOk result (self.new ≡ black_raster size) }
-        ensures unchanged { OnErr result (self.new ≡ self.old) }
+        ensures unchanged { KeepsOnErr result self.old self.new }
         ensures fits { from_zero size.w * from_zero size.h ≤ length self.old.pixels → IsOk result }
         ensures raster { IsRaster self.new }
     {
@@ -146,7 +148,7 @@ impl Surface {
         ensures counted { work.new ≡ record work.old {
           painted = min (work.old.painted + area_within self.old.width self.old.height rect) (2 ^ 64 - 1);
         } }
-        ensures grew { work.old.painted ≤ work.new.painted }
+        ensures grew { KeepsPainted work.old work.new }
     {
         let stays = self.stays_black(color);
         let cut = Cut::of(self.width, self.height, rect);
@@ -168,6 +170,21 @@ impl Surface {
         fill_part(&mut self.pixels, self.width, cut, color);
     }
 
+    /// Blends a colour over the pixels of a rectangle as `fill` does, and counts them, unless it covers nothing of them.
+    #[inline]
+    pub fn blend(&mut self, rect: Rect, color: Argb, work: &mut Work)
+        ensures blends { Blends rect color self.old self.new }
+        ensures raster { IsRaster self.new }
+        ensures counted { FillsUnlessClear rect color self.old self.new work.old work.new }
+        ensures grew { work.old.painted ≤ work.new.painted }
+    {
+        let _ = &self.width;
+        if color.alpha() == 0 {
+            return;
+        }
+        self.fill(rect, color, work);
+    }
+
     /// Blends a colour over those pixels of a strip whose bits are set; the lowest bit is that of its top row. Both counts
     /// rise by the number of these pixels.
     pub fn ink(&mut self, strip: Strip, bits: u8, color: Argb, work: &mut Work)
@@ -180,7 +197,7 @@ impl Surface {
         ensures counted { work.new ≡ record work.old {
           painted = min (work.old.painted + set_bits bits (strip.bottom - strip.top)) (2 ^ 64 - 1);
         } }
-        ensures grew { work.old.painted ≤ work.new.painted }
+        ensures grew { KeepsPainted work.old work.new }
     {
         self.digest = None;
         self.black = false;

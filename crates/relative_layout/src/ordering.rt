@@ -1,12 +1,11 @@
 //! The orders in which the children of a relative layout are measured.
-ghost use Rattle.std.specs.Prelude.{◌≡◌, ◌<◌, ◌≤◌, ℕ, IfErr, IfOk, OnOk, length, nat_eq};
-ghost use Rattle.indexmap.specs.IndexMap.{get as place_in};
-ghost use Rattle.relative_layout.specs.ordering.Naming.{IsNaming};
+ghost use Rattle.std.specs.Prelude.{◌≡◌, ◌<◌, IfErr, IfOk, OnOk, length};
+ghost use Rattle.relative_layout.specs.ordering.Naming.{IsNaming, AreFewKids, FindsLast};
 ghost use Rattle.relative_layout.specs.ordering.Components.{members_with};
 ghost use Rattle.relative_layout.specs.ordering.Sorting.{IsFaultOf, IsLongest, IsSorting};
 ghost use Rattle.view_model.specs.declared.relative.Axis.TheVariants.{Horizontal, Vertical};
 ghost use Rattle.view_model.specs.Orders.{AreMembers, IsAcyclic, IsOrder};
-ghost use Rattle.view_model.specs.SiblingRules.{last_with_id, leads};
+ghost use Rattle.view_model.specs.SiblingRules.{leads};
 ghost use Rattle.view_model.specs.Numbers.{max_views};
 
 pub mod components;
@@ -50,7 +49,7 @@ enum Sorting {
 
 /// The orders of a relative layout's children.
 pub fn order(alloc: Global, kids: &[Link]) -> Result<Orders, OrderFault>
-    requires few { length kids.now ≤ max_views }
+    requires few { AreFewKids kids.now }
     ensures across { IfOk result (λ orders. IsOrder (leads Horizontal kids.now) (length kids.now) orders.across.items) }
     ensures down { IfOk result (λ orders. IsOrder (leads Vertical kids.now) (length kids.now) orders.down.items) }
     ensures acyclic_across { IfOk result (λ orders. IsAcyclic (leads Horizontal kids.now)) }
@@ -65,8 +64,8 @@ pub fn order(alloc: Global, kids: &[Link]) -> Result<Orders, OrderFault>
 
 /// The same, by the last child with each id.
 fn order_by(alloc: Global, kids: &[Link], lasts: &IndexMap<u32, u32>) -> Result<Orders, OrderFault>
-    requires few { length kids.now ≤ max_views }
-    requires table { (id : ℕ) → place_in nat_eq lasts.now id ≡ last_with_id kids.now id }
+    requires few { AreFewKids kids.now }
+    requires table { FindsLast kids.now lasts.now }
     ensures across { IfOk result (λ orders. IsOrder (leads Horizontal kids.now) (length kids.now) orders.across.items) }
     ensures down { IfOk result (λ orders. IsOrder (leads Vertical kids.now) (length kids.now) orders.down.items) }
     ensures acyclic_across { IfOk result (λ orders. IsAcyclic (leads Horizontal kids.now)) }
@@ -101,8 +100,8 @@ fn sorted_on(
     kids: &[Link],
     lasts: &IndexMap<u32, u32>,
 ) -> Result<Sorting, AllocError>
-    requires few { length kids.now ≤ max_views }
-    requires table { (id : ℕ) → place_in nat_eq lasts.now id ≡ last_with_id kids.now id }
+    requires few { AreFewKids kids.now }
+    requires table { FindsLast kids.now lasts.now }
     ensures { IfOk result (λ sorting. IsSorting axis kids.now sorting) }
 {
     if leads_back(axis, kids, lasts) {
@@ -114,7 +113,7 @@ fn sorted_on(
 
 /// The same for any children.
 fn sorted_by_names(alloc: Global, axis: Axis, kids: &[Link]) -> Result<Sorting, AllocError>
-    requires few { length kids.now ≤ max_views }
+    requires few { AreFewKids kids.now }
     ensures { IfOk result (λ sorting. IsSorting axis kids.now sorting) }
 {
     let naming = Naming::new(alloc, axis, kids)?;
@@ -123,7 +122,7 @@ fn sorted_by_names(alloc: Global, axis: Axis, kids: &[Link]) -> Result<Sorting, 
 
 /// The same, by which children name which ids.
 fn sorted_with(alloc: Global, kids: &[Link], naming: &Naming) -> Result<Sorting, AllocError>
-    requires few { length kids.now ≤ max_views }
+    requires few { AreFewKids kids.now }
     requires naming { IsNaming kids.now naming.now }
     ensures { IfOk result (λ sorting. IsSorting naming.now.axis kids.now sorting) }
 {
@@ -137,7 +136,7 @@ fn sorted_with(alloc: Global, kids: &[Link], naming: &Naming) -> Result<Sorting,
 
 /// The children in order, as many as can be taken.
 fn longest_order(alloc: Global, kids: &[Link], naming: &Naming) -> Result<Vec<u32>, AllocError>
-    requires few { length kids.now ≤ max_views }
+    requires few { AreFewKids kids.now }
     requires naming { IsNaming kids.now naming.now }
     ensures { IfOk result (λ order. IsLongest (leads naming.now.axis kids.now) (length kids.now) order.items) }
 {
@@ -149,7 +148,7 @@ fn longest_order(alloc: Global, kids: &[Link], naming: &Naming) -> Result<Vec<u3
 
 /// The children that reach themselves, in list order.
 fn members(alloc: Global, kids: &[Link], naming: &Naming) -> Result<Vec<u32>, AllocError>
-    requires few { length kids.now ≤ max_views }
+    requires few { AreFewKids kids.now }
     requires naming { IsNaming kids.now naming.now }
     ensures { IfOk result (λ members. AreMembers (leads naming.now.axis kids.now) (length kids.now) members.items) }
 {

@@ -1,9 +1,10 @@
 //! The table of resources by their ids.
-ghost use Rattle.std.specs.Prelude.{◌≡◌, ℕ, Some, [], OnErr, OnOk, if◌then◌else◌, nat_eq};
+ghost use Rattle.std.specs.Prelude.{◌≡◌, ℕ, Some, [], OnOk, if◌then◌else◌, nat_eq};
 ghost use Rattle.std.specs.Option.{option_map};
 ghost use Rattle.view_model.specs.Refusals.{IsRefusedExactlyFor, RefusesExactlyFor};
 ghost use Rattle.view_model.specs.Resources.{definition_refusal, definition_refusal_of, resource_of, with_resource};
 ghost use Rattle.res_values.specs.Values.{resource};
+ghost use Rattle.view_model.specs.Failing.{KeepsOnErr};
 
 use crate::fault::ResFault;
 use crate::value::Value;
@@ -45,7 +46,7 @@ impl Resources {
         ensures value { OnOk result ((other : ℕ) → resource_of self.new other
             ≡ (if nat_eq id other then Some (resource value) else resource_of self.old other)) }
         ensures refused { IsRefusedExactlyFor (definition_refusal_of self.old id) result }
-        ensures unchanged { OnErr result (self.new ≡ self.old) }
+        ensures unchanged { KeepsOnErr result self.old self.new }
     {
         may_define(self.values.len(), self.values.get(&id).is_some())?;
         self.values.insert(id, value)?;

@@ -5,9 +5,9 @@ use Rattle.std.proofs.lemmas.List.Elements.{All-head, All-tail, All-weaker}
 use Rattle.std.specs.List.{All, fold}
 use Rattle.std.specs.Prelude.{◌==◌, if◌then◌else◌, is_some}
 use mathlib.Core.Path.{fun_ext}
-use Rattle.kept_views.proofs.AskedViews.{asked_same, off_path}
-use Rattle.kept_views.proofs.Lines.{SameButOffset, put_kept}
-use Rattle.kept_views.proofs.Requested.{pressed_in, pressed_out}
+use Rattle.kept_views.proofs.edits.AskedViews.{asked_same, off_path}
+use Rattle.kept_views.proofs.edits.Lines.{SameButOffset, put_kept}
+use Rattle.kept_views.proofs.edits.Requested.{pressed_in, pressed_out}
 use Rattle.kept_views.specs.Kept.{IsKept}
 use Rattle.kept_views.specs.Pressing.{path_of}
 use Rattle.saved_state.proofs.RestatedLaws.{put_once}

@@ -141,3 +141,7 @@ entries_of version (suc n) before place rest =
 -- the state of bytes, or the place of the first field that is cut short or wrong, or that follows the state
 unfoldable pub decoded : List ℕ → Result (List StateEntry) ℕ
 decoded bytes = head_of bytes >>= λ (head : ℕ × ℕ). entries_of head.0 head.1 0 head_bytes (drop head_bytes bytes)
+
+-- a place in these bytes, or right after them
+abbrev pub IsPlaceIn : List ℕ → ℕ → Type 0
+IsPlaceIn bytes place = place ≤ length bytes

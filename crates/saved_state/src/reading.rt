@@ -1,7 +1,7 @@
 //! Reading of saved states.
 ghost use Rattle.std.specs.Prelude.{◌≡◌, ℕ, ◌≤◌, ◌+◌, List, Ok, drop, encode_utf8_all, length, slice_index, IfOk};
 ghost use Rattle.saved_state.specs.Answers.{ReadAs};
-ghost use Rattle.saved_state.specs.State.{IsState, decoded, encoded_as, entries_of, entry_of, entry_size, has_kind, head_of, id_of, kind_of, offset_of, text_of, value_of, value_size, words_of};
+ghost use Rattle.saved_state.specs.State.{IsState, decoded, encoded_as, entries_of, entry_of, entry_size, has_kind, head_of, id_of, kind_of, offset_of, text_of, value_of, value_size, words_of, IsPlaceIn};
 ghost use Rattle.saved_state.specs.Numbers.{head_bytes, last_version};
 ghost use Rattle.saved_state.specs.declared.value.Value.{Value};
 ghost use Rattle.saved_state.specs.declared.value.Value.TheVariants.{Text as TextValue};
@@ -80,7 +80,7 @@ fn entry_at(
     place: usize,
     before: u32,
 ) -> Result<(u32, Value), StateFault>
-    requires { place ≤ length bytes.now }
+    requires { IsPlaceIn bytes.now place }
     ensures value { ReadAs (entry_of version before place (drop place bytes.now)) result }
     ensures there { IfOk result (λ entry. place + entry_size entry.1 ≤ length bytes.now) }
 {
@@ -93,7 +93,7 @@ fn entry_at(
 /// The id at a place, which is above the one `before`.
 #[tactic(auto, unfolding(crate::specs::State::id_of))]
 fn id_at(bytes: &[u8], place: usize, before: u32) -> Result<u32, StateFault>
-    requires { place ≤ length bytes.now }
+    requires { IsPlaceIn bytes.now place }
     ensures value { ReadAs (id_of before place (drop place bytes.now)) result }
     ensures there { IfOk result (λ _. place + 4 ≤ length bytes.now) }
 {
@@ -111,7 +111,7 @@ fn id_at(bytes: &[u8], place: usize, before: u32) -> Result<u32, StateFault>
 /// The kind at a place of an entry of this version.
 #[tactic(auto, unfolding(crate::specs::State::kind_of))]
 fn kind_at(bytes: &[u8], place: usize, version: u8) -> Result<u8, StateFault>
-    requires { place ≤ length bytes.now }
+    requires { IsPlaceIn bytes.now place }
     ensures value { ReadAs (kind_of version place (drop place bytes.now)) result }
     ensures there { IfOk result (λ _. place + 1 ≤ length bytes.now) }
 {
@@ -131,7 +131,7 @@ fn has_kind(version: u8, kind: u8) -> bool
 
 /// The value of this kind at a place.
 fn value_at(alloc: Global, bytes: &[u8], place: usize, kind: u8) -> Result<Value, StateFault>
-    requires { place ≤ length bytes.now }
+    requires { IsPlaceIn bytes.now place }
     ensures value { ReadAs (value_of kind place (drop place bytes.now)) result }
     ensures there { IfOk result (λ value. place + value_size value ≤ length bytes.now) }
 {
@@ -146,7 +146,7 @@ fn value_at(alloc: Global, bytes: &[u8], place: usize, kind: u8) -> Result<Value
 /// The offset at a place, in pixels.
 #[tactic(auto, unfolding(crate::specs::State::offset_of))]
 fn offset_at(bytes: &[u8], place: usize) -> Result<u32, StateFault>
-    requires { place ≤ length bytes.now }
+    requires { IsPlaceIn bytes.now place }
     ensures value { ReadAs (offset_of place (drop place bytes.now)) result }
     ensures there { IfOk result (λ _. place + 4 ≤ length bytes.now) }
 {
@@ -164,7 +164,7 @@ fn offset_at(bytes: &[u8], place: usize) -> Result<u32, StateFault>
 /// The text whose length is at a place.
 #[tactic(auto, unfolding(crate::specs::State::text_of))]
 fn text_at(alloc: Global, bytes: &[u8], place: usize) -> Result<Text, StateFault>
-    requires { place ≤ length bytes.now }
+    requires { IsPlaceIn bytes.now place }
     ensures value { ReadAs (text_of place (drop place bytes.now)) result }
     ensures there { IfOk result (λ text. place + value_size (TextValue text) ≤ length bytes.now) }
 {
@@ -179,7 +179,7 @@ fn text_at(alloc: Global, bytes: &[u8], place: usize) -> Result<Text, StateFault
 /// The text of `count` bytes at a place.
 #[tactic(auto, unfolding(crate::specs::State::words_of))]
 fn words_at(alloc: Global, bytes: &[u8], place: usize, count: u16) -> Result<Text, StateFault>
-    requires { place ≤ length bytes.now }
+    requires { IsPlaceIn bytes.now place }
     ensures value { ReadAs (words_of count place (drop place bytes.now)) result }
     ensures there { IfOk result (λ _. place + count ≤ length bytes.now) }
     ensures count { IfOk result (λ text. length (encode_utf8_all text) ≡ count) }
@@ -197,7 +197,7 @@ fn words_at(alloc: Global, bytes: &[u8], place: usize, count: u16) -> Result<Tex
 
 /// The bytes from a place on.
 fn following(bytes: &[u8], place: usize) -> &[u8]
-    requires { place ≤ length bytes.now }
+    requires { IsPlaceIn bytes.now place }
     ensures { result.now ≡ drop place bytes.now }
 {
     &bytes[place..]

@@ -2,16 +2,17 @@
 //!
 //! Layout is requested at each view whose offset or text is set. What is restored does not become the state that is
 //! kept, and an offset is brought into its range by the next frame.
-ghost use Rattle.std.specs.Prelude.{◌≡◌, ℕ, ◌++◌, All, Some, false, fold, is_some, IfOk, IfSome, OnErr, OnOk};
+ghost use Rattle.std.specs.Prelude.{◌≡◌, ℕ, ◌++◌, All, Some, false, fold, is_some, IfOk, IfSome, OnOk};
 ghost use Rattle.std.specs.Option.{option_map};
-ghost use Rattle.kept_views.specs.Kept.{IsConsistent};
+ghost use Rattle.kept_views.specs.Kept.{StaysConsistent};
 ghost use Rattle.saved_state.specs.Answers.{RestoredUnless};
 ghost use Rattle.saved_state.specs.Restored.{Restates, all_given, all_set, given_held, given_values, moved_one, on_paths, paired, set_by, wanted, with_text_at};
 ghost use Rattle.saved_state.specs.Restoring.{given, is_for_other_class, restored};
 ghost use Rattle.saved_state.specs.Saving.{OffsetsFit};
 ghost use Rattle.saved_state.specs.State.{IsValue};
 ghost use Rattle.view_model.specs.Forest.{rows};
-ghost use Rattle.view_tree.specs.Views.{IsLive, IsTree, SameTree, geometry_of, held_of, plain_of, view_at};
+ghost use Rattle.view_tree.specs.Views.{IsLive, IsTree, SameTree, held_of, plain_of, view_at, KeepsCounts, KeepsGeometry, KeepsNext};
+ghost use Rattle.view_model.specs.Failing.{KeepsOnErr};
 
 use crate::fault::{StateFault, other_class};
 use crate::marking::is_for_other_class;
@@ -27,11 +28,11 @@ use view_tree::{Key, ViewTree};
 pub fn restore(alloc: Global, tree: &mut ViewTree, states: &States) -> Result<(), StateFault>
     ensures plain { OnOk result (plain_of tree.new ≡ restored states.now (plain_of tree.old)) }
     ensures refused { RestoredUnless (is_for_other_class states.now (rows (plain_of tree.old))) result }
-    ensures unchanged { OnErr result (tree.new ≡ tree.old) }
+    ensures unchanged { KeepsOnErr result tree.old tree.new }
     ensures restates { OnOk result (Restates states.now tree.old tree.new) }
-    ensures counts { tree.new.counts ≡ tree.old.counts }
-    ensures geometry { geometry_of tree.new ≡ geometry_of tree.old }
-    ensures consistent { IsConsistent tree.old → IsConsistent tree.new }
+    ensures counts { KeepsCounts tree.old tree.new }
+    ensures geometry { KeepsGeometry tree.old tree.new }
+    ensures consistent { StaysConsistent tree.old tree.new }
     ensures held { OnOk result ((key : ℕ) → held_of tree.new key
         ≡ all_given states.now tree.old.tree (set_by states.now tree.old.tree) (held_of tree.old) key) }
     ensures asked { (key : ℕ)
@@ -114,8 +115,8 @@ fn set_values(tree: &mut ViewTree, values: Vec<(Key, Value)>)
     requires fit { All (λ set. IsValue set.1) values.items }
     ensures tree { tree.new.tree ≡ fold with_text_at tree.old.tree values.items }
     ensures orders { tree.new.orders ≡ tree.old.orders }
-    ensures next { tree.new.next ≡ tree.old.next }
-    ensures counts { tree.new.counts ≡ tree.old.counts }
+    ensures next { KeepsNext tree.old tree.new }
+    ensures counts { KeepsCounts tree.old tree.new }
     ensures held { (key : ℕ) → held_of tree.new key ≡ all_set tree.old.tree values.items (held_of tree.old) key }
 {
     for (view, value) in values {
@@ -130,8 +131,8 @@ fn set_value(tree: &mut ViewTree, view: Key, value: Value)
     requires fits { IsValue value }
     ensures tree { tree.new.tree ≡ with_text_at tree.old.tree (view, value) }
     ensures orders { tree.new.orders ≡ tree.old.orders }
-    ensures next { tree.new.next ≡ tree.old.next }
-    ensures counts { tree.new.counts ≡ tree.old.counts }
+    ensures next { KeepsNext tree.old tree.new }
+    ensures counts { KeepsCounts tree.old tree.new }
     ensures held { (key : ℕ)
         → held_of tree.new key ≡ given_held (Some value) view tree.old.tree (held_of tree.old) key }
 {
@@ -151,7 +152,7 @@ fn set_value(tree: &mut ViewTree, view: Key, value: Value)
 fn set_offset(tree: &mut ViewTree, view: Key, offset: i32)
     requires { IsLive tree.old view }
     ensures same { SameTree tree.old tree.new }
-    ensures counts { tree.new.counts ≡ tree.old.counts }
+    ensures counts { KeepsCounts tree.old tree.new }
     ensures held { (key : ℕ) → held_of tree.new key ≡ moved_one view offset (held_of tree.old) key }
 {
     let facts = moved(tree.facts(view), offset);

@@ -2,7 +2,7 @@
 pub mod BarLaws
 pub mod EscapeLaws
 pub mod FileNameLaws
-pub mod PlaceLaws
+pub mod OffsetLaws
 pub mod PlainLaws
 pub mod TextLaws
 pub mod WordLaws

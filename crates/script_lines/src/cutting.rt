@@ -10,9 +10,9 @@ ghost use Rattle.std.specs.Prelude.{◌≡◌, ◌≢◌, ℕ, ◌+◌, ◌<◌,
 ghost use Rattle.std.specs.List.{list_all, position_or_len};
 ghost use Rattle.script_lines.specs.cutting.Lines.{ArePassedOver, begins_passed, cut_of, is_line_feed, is_passed_over, is_space, last_of, lines_of, max_line, without_return};
 ghost use Rattle.script_lines.specs.cutting.LineBuffer.{LineBuffer, IsLent, IsAfter, lines_as, lines_at};
-ghost use Rattle.script_lines.specs.cutting.Pieces.{FeedSequence, Feed, bytes_in, lines_in};
+ghost use Rattle.script_lines.specs.cutting.Pieces.{FeedSequence, Feed, bytes_in, lines_in, IsCut};
 
-use crate::places::place_of;
+use crate::offsets::offset_of;
 use std::marker::Model;
 
 /// The most bytes that a line may have before its line feed, a carriage return counted.
@@ -233,7 +233,7 @@ fn passed_front(piece: &[u8]) -> PassedOver
 /// How many bytes the line at the front is, with its line feed, if it is empty or begins with `#`; 0 otherwise.
 #[inline]
 fn passed_len(bytes: &[u8]) -> usize
-    ensures within { result ≤ length bytes.now }
+    ensures within { IsCut bytes.now result }
     ensures passed { (result ≡ 0) ⊎ ArePassedOver (take result bytes.now) 1 }
     ensures none { result ≡ 0 → begins_passed bytes.now ≡ false }
 {
@@ -255,7 +255,7 @@ fn passed_len(bytes: &[u8]) -> usize
 fn comment_len(bytes: &[u8]) -> usize
     requires some { 0 < length bytes.now }
     requires first { slice_index bytes.now 0 ≡ 35 }
-    ensures within { result ≤ length bytes.now }
+    ensures within { IsCut bytes.now result }
     ensures passed { (result ≡ 0) ⊎ ArePassedOver (take result bytes.now) 1 }
     ensures none { result ≡ 0 → begins_passed bytes.now ≡ false }
 {
@@ -270,12 +270,12 @@ fn comment_len(bytes: &[u8]) -> usize
 #[inline]
 fn line_end(bytes: &[u8]) -> usize
     ensures place { result ≡ position_or_len is_line_feed bytes.now }
-    ensures within { result ≤ length bytes.now }
+    ensures within { IsCut bytes.now result }
 {
     if !bytes.is_empty() && bytes[0] == b'\n' {
         return 0;
     }
-    place_of(b'\n', bytes)
+    offset_of(b'\n', bytes)
 }
 
 /// Appends bytes to the first `len` of a buffer, as many as have room, and returns how many those are with the first

@@ -3,7 +3,7 @@
 //! `Lines` (`cutting`) cuts bytes that come in pieces into lines. `line` (`reading`) makes a `Command` (`commands`) of
 //! one, or says why it is none (`fault`): `words` splits it, and the modules below it read one word each, as `gravity`
 //! or `colors`; `verbs` has the words with which lines begin; those below `reading` read what a line sets of a view, a
-//! hook, a resource, a touch or a state. `places` has places in a line. `readers` are the readers of words, for lines of other scripts.
+//! hook, a resource, a touch or a state. `offsets` finds a byte in a line. `readers` are the readers of words, for lines of other scripts.
 //!
 //! `whole_tool` cuts and reads by it, `view_world` carries commands out, and `window_stack` and `vindaesk_c` read
 //! words.
@@ -16,7 +16,7 @@
 mod commands;
 mod cutting;
 mod fault;
-mod places;
+mod offsets;
 mod reading;
 mod verbs;
 mod words;

@@ -3,7 +3,7 @@
 
 ghost use Rattle.std.specs.Prelude.{◌≡◌, ◌≤◌, true, length, Ok, Err, IfOk, IsTrue};
 ghost use Rattle.std.specs.Str.{is_utf8};
-ghost use Rattle.script_lines.specs.reading.Commands.{IsInBounds, add_of, bounds_of, class_of, command_by, command_of, digest_of, disallow_of, dpi_of, frame_of, inflate_of, into_of, remove_of, set_of, set_text_of, window_of};
+ghost use Rattle.script_lines.specs.reading.Commands.{IsInBounds, add_of, bounds_of, command_by, command_of, digest_of, disallow_of, dpi_of, frame_of, inflate_of, into_of, remove_of, set_of, set_text_of, window_of, IsCommandInBounds};
 ghost use Rattle.script_lines.specs.cutting.Lines.{is_passed_over};
 ghost use Rattle.script_lines.specs.commands.PlainCommands.{PlainCommand, plain_command, text_length};
 ghost use Rattle.script_lines.specs.commands.Spelled.{HasLine, spelled};
@@ -34,13 +34,13 @@ use crate::words::escapes::rest_text;
 use crate::words::file_name::file_name_word;
 use crate::words::naming::{Name, name_word, parent_word};
 use crate::words::number::{natural_within, number, pair};
-use crate::words::{end, is, is_text, literal, read_on, word};
+use crate::words::{end, is_text, literal, read_on, word};
 use view_model::Class;
 
 #[inline(never)]
 fn window(bytes: &[u8]) -> Result<Command<'_>, LineFault>
     ensures value { map_ok plain_command result ≡ window_of (words bytes.now) }
-    ensures bounds { IfOk result (λ command. IsInBounds (plain_command command)) }
+    ensures bounds { IfOk result IsCommandInBounds }
 {
     let (w, h) = pair(1, MAX_WINDOW, bytes)?;
     Ok(Command::Window { w, h })
@@ -51,7 +51,7 @@ fn window(bytes: &[u8]) -> Result<Command<'_>, LineFault>
 #[tactic(auto, unfolding(crate::specs::reading::Commands::dpi_of))]
 fn dpi(bytes: &[u8]) -> Result<Command<'_>, LineFault>
     ensures value { map_ok plain_command result ≡ dpi_of (words bytes.now) }
-    ensures bounds { IfOk result (λ command. IsInBounds (plain_command command)) }
+    ensures bounds { IfOk result IsCommandInBounds }
 {
     let (n, rest) = number(bytes)?;
     end(rest)?;
@@ -77,48 +77,24 @@ fn into(bytes: &[u8]) -> Result<Option<Name>, LineFault>
 #[tactic(auto, unfolding(crate::specs::reading::Commands::inflate_of))]
 fn inflate(bytes: &[u8]) -> Result<Command<'_>, LineFault>
     ensures value { map_ok plain_command result ≡ inflate_of (words bytes.now) }
-    ensures bounds { IfOk result (λ command. IsInBounds (plain_command command)) }
+    ensures bounds { IfOk result IsCommandInBounds }
 {
     let (name, rest) = file_name_word(bytes)?;
     let into = into(rest)?;
     Ok(Command::Inflate { name, into })
 }
 
-/// The class that a word names.
-#[tactic(auto, unfolding(crate::specs::reading::Commands::class_of))]
-fn read_class(word: &[u8]) -> Result<Class, LineFault>
-    ensures { result ≡ class_of word.now }
-{
-    if is(word, b"View") {
-        return Ok(Class::View);
-    }
-    if is(word, b"TextView") {
-        return Ok(Class::TextView);
-    }
-    if is(word, b"FrameLayout") {
-        return Ok(Class::FrameLayout);
-    }
-    if is(word, b"LinearLayout") {
-        return Ok(Class::LinearLayout);
-    }
-    if is(word, b"RelativeLayout") {
-        return Ok(Class::RelativeLayout);
-    }
-    if is(word, b"ScrollView") {
-        return Ok(Class::ScrollView);
-    }
-    Err(LineFault::Syntax)
-}
-
 #[inline(never)]
 #[tactic(auto, unfolding(crate::specs::reading::Commands::add_of))]
 fn add(bytes: &[u8]) -> Result<Command<'_>, LineFault>
     ensures value { map_ok plain_command result ≡ add_of (words bytes.now) }
-    ensures bounds { IfOk result (λ command. IsInBounds (plain_command command)) }
+    ensures bounds { IfOk result IsCommandInBounds }
 {
     let (parent, rest) = parent_word(bytes)?;
     let (word, rest) = word(rest)?;
-    let class = read_class(word)?;
+    let Some(class) = Class::named(word) else {
+        return Err(LineFault::Syntax);
+    };
     let (width, height) = extents(rest)?;
     Ok(Command::Add {
         parent,
@@ -132,7 +108,7 @@ fn add(bytes: &[u8]) -> Result<Command<'_>, LineFault>
 #[tactic(auto, unfolding(crate::specs::reading::Commands::remove_of))]
 fn remove(bytes: &[u8]) -> Result<Command<'_>, LineFault>
     ensures value { map_ok plain_command result ≡ remove_of (words bytes.now) }
-    ensures bounds { IfOk result (λ command. IsInBounds (plain_command command)) }
+    ensures bounds { IfOk result IsCommandInBounds }
 {
     let (view, rest) = name_word(bytes)?;
     end(rest)?;
@@ -142,7 +118,7 @@ fn remove(bytes: &[u8]) -> Result<Command<'_>, LineFault>
 #[tactic(auto, unfolding(crate::specs::reading::Commands::frame_of))]
 fn frame(bytes: &[u8]) -> Result<Command<'_>, LineFault>
     ensures value { map_ok plain_command result ≡ frame_of (words bytes.now) }
-    ensures bounds { IfOk result (λ command. IsInBounds (plain_command command)) }
+    ensures bounds { IfOk result IsCommandInBounds }
 {
     end(bytes)?;
     Ok(Command::Frame)
@@ -151,7 +127,7 @@ fn frame(bytes: &[u8]) -> Result<Command<'_>, LineFault>
 #[tactic(auto, unfolding(crate::specs::reading::Commands::digest_of))]
 fn digest(bytes: &[u8]) -> Result<Command<'_>, LineFault>
     ensures value { map_ok plain_command result ≡ digest_of (words bytes.now) }
-    ensures bounds { IfOk result (λ command. IsInBounds (plain_command command)) }
+    ensures bounds { IfOk result IsCommandInBounds }
 {
     end(bytes)?;
     Ok(Command::Digest)
@@ -161,7 +137,7 @@ fn digest(bytes: &[u8]) -> Result<Command<'_>, LineFault>
 #[tactic(auto, unfolding(crate::specs::reading::Commands::bounds_of))]
 fn bounds(bytes: &[u8]) -> Result<Command<'_>, LineFault>
     ensures value { map_ok plain_command result ≡ bounds_of (words bytes.now) }
-    ensures bounds { IfOk result (λ command. IsInBounds (plain_command command)) }
+    ensures bounds { IfOk result IsCommandInBounds }
 {
     if end(bytes).is_ok() {
         return Ok(Command::Bounds(None));
@@ -176,7 +152,7 @@ fn bounds(bytes: &[u8]) -> Result<Command<'_>, LineFault>
 #[tactic(auto, unfolding(crate::specs::reading::Commands::disallow_of))]
 fn disallow(bytes: &[u8]) -> Result<Command<'_>, LineFault>
     ensures value { map_ok plain_command result ≡ disallow_of (words bytes.now) }
-    ensures bounds { IfOk result (λ command. IsInBounds (plain_command command)) }
+    ensures bounds { IfOk result IsCommandInBounds }
 {
     let (view, rest) = name_word(bytes)?;
     let (answer, rest) = word(rest)?;
@@ -190,7 +166,7 @@ fn disallow(bytes: &[u8]) -> Result<Command<'_>, LineFault>
 #[tactic(auto, unfolding(crate::specs::reading::Commands::set_of))]
 fn set<'a>(verb: ActVerb, bytes: &'a [u8]) -> Result<Command<'a>, LineFault>
     ensures value { map_ok plain_command result ≡ set_of verb (words bytes.now) }
-    ensures bounds { IfOk result (λ command. IsInBounds (plain_command command)) }
+    ensures bounds { IfOk result IsCommandInBounds }
 {
     let (view, rest) = name_word(bytes)?;
     let act = read_act(verb, rest)?;
@@ -202,7 +178,7 @@ fn set<'a>(verb: ActVerb, bytes: &'a [u8]) -> Result<Command<'a>, LineFault>
 #[tactic(auto, unfolding(crate::specs::reading::Commands::set_text_of))]
 fn set_text(bytes: &[u8]) -> Result<Command<'_>, LineFault>
     ensures value { map_ok plain_command result ≡ set_text_of bytes.now }
-    ensures bounds { IfOk result (λ command. IsInBounds (plain_command command)) }
+    ensures bounds { IfOk result IsCommandInBounds }
 {
     let (view, rest) = name_word(bytes)?;
     let text = rest_text(rest)?;
@@ -215,7 +191,7 @@ fn set_text(bytes: &[u8]) -> Result<Command<'_>, LineFault>
 #[tactic(auto, unfolding(crate::specs::reading::Commands::command_by))]
 fn read_by<'a>(verb: Verb, bytes: &'a [u8]) -> Result<Command<'a>, LineFault>
     ensures value { map_ok plain_command result ≡ command_by verb bytes.now }
-    ensures bounds { IfOk result (λ command. IsInBounds (plain_command command)) }
+    ensures bounds { IfOk result IsCommandInBounds }
 {
     match verb {
         Verb::Window => window(bytes),
@@ -248,7 +224,7 @@ fn read_by<'a>(verb: Verb, bytes: &'a [u8]) -> Result<Command<'a>, LineFault>
 #[tactic(auto, unfolding(crate::specs::reading::Commands::command_of, crate::specs::reading::Commands::command_in), using(crate::proofs::readings::ReadLaws::read_short, crate::proofs::readings::ReadLaws::read_written))]
 pub fn line(bytes: &[u8]) -> Result<Command<'_>, LineFault>
     ensures value { map_ok plain_command result ≡ command_of bytes.now }
-    ensures bounds { IfOk result (λ command. IsInBounds (plain_command command)) }
+    ensures bounds { IfOk result IsCommandInBounds }
     ensures passed { is_passed_over bytes.now ≡ true → result ≡ Err LineFault.Syntax }
     ensures short { IfOk result (λ command. text_length (plain_command command) ≤ length bytes.now) }
     ensures spelled { (command : PlainCommand)

@@ -5,12 +5,13 @@
 //! text is no part of it. The whole line is tried against the grammar before any bounds, and both before the world is
 //! asked.
 
-ghost use Rattle.std.specs.Prelude.{◌≡◌, ◌≤◌, length, IfOk};
+ghost use Rattle.std.specs.Prelude.{◌≡◌, IfOk};
 ghost use Rattle.std.specs.Char.{is_ascii};
 ghost use Rattle.std.specs.List.{list_all, prefix_len};
-ghost use Rattle.std.specs.Str.{bytes_eq, is_utf8};
+ghost use Rattle.std.specs.Str.{is_utf8};
 ghost use Rattle.script_lines.specs.cutting.Lines.{is_space};
 ghost use Rattle.script_lines.specs.words.Words.{after_word, end_of, first_word, in_word, literal_in, map_ok, on_of, text_of, word_in, words};
+ghost use Rattle.script_lines.specs.cutting.Pieces.{IsCut};
 
 pub mod colors;
 pub mod dimension;
@@ -22,11 +23,12 @@ pub mod number;
 pub mod weights;
 
 use crate::fault::LineFault;
+pub use view_model::words::is;
 
 /// How many spaces there are at the front.
 fn spaces(bytes: &[u8]) -> usize
     ensures count { result ≡ prefix_len is_space bytes.now }
-    ensures within { result ≤ length bytes.now }
+    ensures within { IsCut bytes.now result }
 {
     let mut at = 0;
     while at < bytes.len() && bytes[at] == b' ' {
@@ -38,7 +40,7 @@ fn spaces(bytes: &[u8]) -> usize
 /// How long the word at the front is.
 fn word_len(bytes: &[u8]) -> usize
     ensures count { result ≡ prefix_len in_word bytes.now }
-    ensures within { result ≤ length bytes.now }
+    ensures within { IsCut bytes.now result }
 {
     let mut at = 0;
     while at < bytes.len() && bytes[at] != b' ' {
@@ -71,25 +73,6 @@ pub fn word(bytes: &[u8]) -> Result<(&[u8], &[u8]), LineFault>
     Ok((word, rest))
 }
 
-/// Whether two words are equal. Most words that are compared differ in their length or their first byte; where one of
-/// them is written in the code, the loop becomes a test for each of its bytes.
-#[inline]
-pub fn is(word: &[u8], name: &[u8]) -> bool
-    ensures { result ≡ bytes_eq word.now name.now }
-{
-    if word.len() != name.len() {
-        return false;
-    }
-    let mut at = 0;
-    while at < word.len() {
-        if word[at] != name[at] {
-            return false;
-        }
-        at += 1;
-    }
-    true
-}
-
 /// This word, and what comes after it.
 pub fn literal<'a>(name: &[u8], bytes: &'a [u8]) -> Result<&'a [u8], LineFault>
     ensures { map_ok (λ r. words r.now) result ≡ literal_in name.now (words bytes.now) }
@@ -113,19 +96,21 @@ pub fn end(bytes: &[u8]) -> Result<(), LineFault>
     Err(LineFault::Syntax)
 }
 
-/// Whether each byte is ASCII. Four are tested together, since nearly all are.
-#[tactic(auto, using(crate::proofs::texts::PlainLaws::ascii_by_four))]
+/// Whether each byte is ASCII. Eight are tested together, since nearly all are.
+#[tactic(auto, using(crate::proofs::texts::PlainLaws::ascii_by_eight))]
 fn all_ascii(bytes: &[u8]) -> bool
     ensures { result ≡ list_all is_ascii bytes.now }
 {
     let mut at = 0;
-    while bytes.len() - at >= 4 {
-        let front = bytes[at].is_ascii() & bytes[at + 1].is_ascii();
-        let back = bytes[at + 2].is_ascii() & bytes[at + 3].is_ascii();
-        if !(front & back) {
+    while bytes.len() - at >= 8 {
+        let first = bytes[at].is_ascii() & bytes[at + 1].is_ascii();
+        let second = bytes[at + 2].is_ascii() & bytes[at + 3].is_ascii();
+        let third = bytes[at + 4].is_ascii() & bytes[at + 5].is_ascii();
+        let fourth = bytes[at + 6].is_ascii() & bytes[at + 7].is_ascii();
+        if !((first & second) & (third & fourth)) {
             return false;
         }
-        at += 4;
+        at += 8;
     }
     all_ascii_one_by_one(&bytes[at..])
 }

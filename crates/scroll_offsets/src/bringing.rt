@@ -5,7 +5,7 @@ ghost use Rattle.view_model.specs.Classes.{scrolls};
 ghost use Rattle.view_model.specs.Offsets.{brought, range_by};
 ghost use Rattle.view_model.specs.ScrollView.{offset_within};
 ghost use Rattle.view_tree.specs.Rows.{children_of_first, part_from};
-ghost use Rattle.view_tree.specs.Views.{IsLive, KeepsOthers, SameTree, class_of, facts_of, held_of, offset_of, state_of};
+ghost use Rattle.view_tree.specs.Views.{IsLive, KeepsOthers, SameTree, class_of, facts_of, held_of, offset_of, state_of, KeepsCounts};
 
 use geom_core::Rect;
 use scroll_view::{offset_within, range_in};
@@ -23,7 +23,7 @@ pub fn bring_one(tree: &mut ViewTree, view: Key) -> bool
     ensures held { held_of tree.new view
         ≡ record (held_of tree.old view) { offset = brought (range_at tree.old view) (offset_of tree.old view) } }
     ensures others { KeepsOthers tree.old tree.new view }
-    ensures counts { tree.new.counts ≡ tree.old.counts }
+    ensures counts { KeepsCounts tree.old tree.new }
 {
     let Some(range) = range_of(tree, view) else {
         return false;

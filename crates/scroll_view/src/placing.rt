@@ -5,6 +5,7 @@ ghost use Rattle.geom_core.specs.Limits.{IsSide, clamp_size};
 ghost use Rattle.view_model.specs.FrameLayout.{frame_place};
 ghost use Rattle.view_model.specs.Geometry.{size_of_rect};
 ghost use Rattle.view_model.specs.ScrollView.{offset_within, scroll_range};
+ghost use Rattle.view_model.specs.Sums.{IsNoLessThanTwo, IsNoMoreThanApart, IsNoMoreThanTwo};
 
 use geom_core::{Rect, Size, to_size};
 use view_model::Facts;
@@ -38,8 +39,8 @@ pub fn range_in(own: &Facts, bounds: Rect, child: Option<Rect>) -> i32
 
 fn height(rect: Rect) -> i64
     ensures value { result ≡ rect.bottom -ℤ rect.top }
-    ensures low { negsuc 4294967295 ≤ℤ result }
-    ensures high { result ≤ℤ pos 4294967295 }
+    ensures low { IsNoLessThanTwo result }
+    ensures high { IsNoMoreThanApart result }
 {
     i64::from(rect.bottom) - i64::from(rect.top)
 }
@@ -50,8 +51,8 @@ fn excess(height: i64, room: i64, padding: i64) -> i32
     requires height_high { height ≤ℤ pos 4294967295 }
     requires room_low { negsuc 4294967295 ≤ℤ room }
     requires room_high { room ≤ℤ pos 4294967295 }
-    requires padding_low { negsuc 4294967295 ≤ℤ padding }
-    requires padding_high { padding ≤ℤ pos 4294967294 }
+    requires padding_low { IsNoLessThanTwo padding }
+    requires padding_high { IsNoMoreThanTwo padding }
     ensures value { result ≡ clamp_size (height -ℤ (room -ℤ padding)) }
     ensures side { IsSide result }
 {

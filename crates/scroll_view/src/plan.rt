@@ -1,11 +1,12 @@
 //! The measuring of one scroll view.
-ghost use Rattle.std.specs.Prelude.{◌≡◌, negsuc, pos, ◌+ℤ◌, ◌-ℤ◌, ◌≤ℤ◌, int_lt, [], ◌∷◌, ◌++◌, List};
+ghost use Rattle.std.specs.Prelude.{◌≡◌, ◌+ℤ◌, ◌-ℤ◌, int_lt, [], ◌∷◌, ◌++◌, List};
 ghost use Rattle.std.specs.Option.{option_map};
 ghost use Rattle.geom_core.specs.Limits.{IsSide};
 ghost use Rattle.view_model.specs.declared.facts.Facts.{Facts as FactsValue};
 ghost use Rattle.view_model.specs.Facts.{layout_facts, padding_across, padding_down};
 ghost use Rattle.view_model.specs.Measuring.{Specs, Measured, pair_of, taken_as};
 ghost use Rattle.view_model.specs.ScrollView.{filling_specs, free_specs, is_filled, is_short, scroll_rule, is_unspecified};
+ghost use Rattle.view_model.specs.Sums.{IsNoLessThanTwo, IsNoMoreThanTwo};
 
 use frame_layout::FramePlan;
 use geom_core::{Insets, Mode, Size, Spec, remaining};
@@ -109,8 +110,8 @@ impl ScrollPlan {
     /// Both paddings from left to right.
     fn padding_across(&self) -> i64
         ensures value { result ≡ padding_across (own_in self.now) }
-        ensures low { negsuc 4294967295 ≤ℤ result }
-        ensures high { result ≤ℤ pos 4294967294 }
+        ensures low { IsNoLessThanTwo result }
+        ensures high { IsNoMoreThanTwo result }
     {
         i64::from(self.padding.left) + i64::from(self.padding.right)
     }
@@ -118,8 +119,8 @@ impl ScrollPlan {
     /// Both paddings from top to bottom.
     fn padding_down(&self) -> i64
         ensures value { result ≡ padding_down (own_in self.now) }
-        ensures low { negsuc 4294967295 ≤ℤ result }
-        ensures high { result ≤ℤ pos 4294967294 }
+        ensures low { IsNoLessThanTwo result }
+        ensures high { IsNoMoreThanTwo result }
     {
         i64::from(self.padding.top) + i64::from(self.padding.bottom)
     }
@@ -182,10 +183,10 @@ impl ScrollPlan {
 
 /// Whether a length is below what is left of `room` after padding and margins.
 fn is_below(length: i32, room: i32, padding: i64, margins: i64) -> bool
-    requires padding_low { negsuc 4294967295 ≤ℤ padding }
-    requires padding_high { padding ≤ℤ pos 4294967294 }
-    requires margins_low { negsuc 4294967295 ≤ℤ margins }
-    requires margins_high { margins ≤ℤ pos 4294967294 }
+    requires padding_low { IsNoLessThanTwo padding }
+    requires padding_high { IsNoMoreThanTwo padding }
+    requires margins_low { IsNoLessThanTwo margins }
+    requires margins_high { IsNoMoreThanTwo margins }
     ensures { result ≡ int_lt length (room -ℤ (padding +ℤ margins)) }
 {
     i64::from(length) < i64::from(room) - (padding + margins)

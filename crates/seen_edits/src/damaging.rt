@@ -6,7 +6,7 @@ ghost use Rattle.std.specs.Prelude.{◌≡◌, ◌<◌, ◌≢◌, pos, true, Er
 ghost use Rattle.damage_rect.specs.Within.{LiesIn};
 ghost use Rattle.geom_core.specs.Rects.{hull_of};
 ghost use Rattle.geom_core.specs.declared.geometry.Rect.{Rect};
-ghost use Rattle.kept_views.specs.Kept.{IsConsistent};
+ghost use Rattle.kept_views.specs.Kept.{StaysConsistent};
 ghost use Rattle.seen_edits.specs.Shown.{GrowsWithin, IsChange, KeepsShown, edited, is_unseen, act_is_unseen, seen_of};
 ghost use Rattle.tree_edits.specs.Applied.{AppliesEdit, IsEdit, MayWantMemory, numbered};
 ghost use Rattle.tree_edits.specs.Asking.{LeavesUnasked};
@@ -16,7 +16,8 @@ ghost use Rattle.tree_edits.specs.Scene.{scene_of};
 ghost use Rattle.view_model.specs.Geometry.{rect_at};
 ghost use Rattle.view_model.specs.Visible.{whole_window};
 ghost use Rattle.view_model.specs.declared.fault.Fault.TheVariants.{NoMemory};
-ghost use Rattle.view_tree.specs.Views.{IsLive};
+ghost use Rattle.view_tree.specs.Views.{IsLive, KeepsMeasures};
+ghost use Rattle.view_model.specs.Failing.{KeepsOnErr};
 
 use crate::trees::note_tree;
 use damage_rect::Damage;
@@ -45,11 +46,11 @@ pub fn change(
     ensures applied { AppliesEdit (outcome_of_edit (scene_of tree.old) (numbered tree.old edit.entry))
         (scene_of tree.new) result }
     ensures kept { OnOk result (KeepsViews tree.old tree.new edit.entry) }
-    ensures unchanged { OnErr result (tree.new ≡ tree.old) }
+    ensures unchanged { KeepsOnErr result tree.old tree.new }
     ensures memory { result ≡ Err NoMemory → MayWantMemory edit.entry }
-    ensures consistent { IsConsistent tree.old → IsConsistent tree.new }
+    ensures consistent { StaysConsistent tree.old tree.new }
     ensures asked { LeavesUnasked tree.old tree.new edit.entry }
-    ensures measures { tree.new.counts.measures ≡ tree.old.counts.measures }
+    ensures measures { KeepsMeasures tree.old tree.new }
 {
     note_tree(tree);
     if is_unseen(&edit) {
@@ -117,11 +118,11 @@ pub fn take(
     ensures applied { AppliesEdit (outcome_of_edit (scene_of tree.old) (numbered tree.old (Edit.Remove view)))
         (scene_of tree.new) result }
     ensures kept { OnOk result (KeepsViews tree.old tree.new (Edit.Remove view)) }
-    ensures unchanged { OnErr result (tree.new ≡ tree.old) }
+    ensures unchanged { KeepsOnErr result tree.old tree.new }
     ensures memory { result ≢ Err NoMemory }
-    ensures consistent { IsConsistent tree.old → IsConsistent tree.new }
+    ensures consistent { StaysConsistent tree.old tree.new }
     ensures asked { LeavesUnasked tree.old tree.new (Edit.Remove view) }
-    ensures measures { tree.new.counts.measures ≡ tree.old.counts.measures }
+    ensures measures { KeepsMeasures tree.old tree.new }
 {
     note_tree(tree);
     let part = part_left(tree, window, view, damage.rect());

@@ -8,6 +8,7 @@ ghost use Rattle.tree_painter.specs.Painted.{area_in};
 ghost use Rattle.view_model.specs.Forest.{count_of};
 ghost use Rattle.view_model.specs.Painting.{picture};
 ghost use Rattle.view_tree.specs.Views.{geometry_of, plain_of};
+ghost use Rattle.view_model.specs.Works.{KeepsPainted};
 
 use damage_rect::Damage;
 use pixel_raster::Surface;
@@ -23,7 +24,7 @@ pub fn paint_damage(tree: &ViewTree, surface: &mut Surface, damage: &mut Damage,
         ≡ picture surface.old.width surface.old.height (geometry_of tree.now) (plain_of tree.now) }
     ensures shows { Shows surface.new damage.new.rect tree.now }
     ensures emptied { damage.new ≡ no_damage }
-    ensures grew { work.old.painted ≤ work.new.painted }
+    ensures grew { KeepsPainted work.old work.new }
     ensures most { work.new.painted
         ≤ work.old.painted + (2 * count_of tree.now.tree + 1) * area_in surface.old damage.old.rect }
     ensures least { min (work.old.painted + differing surface.old.pixels surface.new.pixels) (2 ^ 64 - 1)

@@ -2,7 +2,7 @@
 ghost use Rattle.std.specs.Prelude.{◌≡◌, ℕ, true, false, is_some, OnErr, OnOk};
 ghost use Rattle.damage_rect.specs.Within.{LiesIn};
 ghost use Rattle.geom_core.specs.declared.geometry.Rect.{Rect};
-ghost use Rattle.kept_views.specs.Kept.{IsConsistent};
+ghost use Rattle.kept_views.specs.Kept.{StaysConsistent};
 ghost use Rattle.saved_state.specs.Answers.{RestoredUnless};
 ghost use Rattle.saved_state.specs.Restored.{Restates, all_given, on_paths, set_by, wanted};
 ghost use Rattle.saved_state.specs.Restoring.{is_for_other_class, restored};
@@ -10,7 +10,8 @@ ghost use Rattle.saved_state.specs.Saving.{OffsetsFit};
 ghost use Rattle.seen_edits.specs.Scrolled.{GivenIn, IsIn, NotesGiven};
 ghost use Rattle.seen_edits.specs.Shown.{KeepsShown, seen_of};
 ghost use Rattle.view_model.specs.Forest.{rows};
-ghost use Rattle.view_tree.specs.Views.{IsLive, IsTree, geometry_of, held_of, plain_of};
+ghost use Rattle.view_tree.specs.Views.{IsLive, IsTree, held_of, plain_of, KeepsCounts, KeepsGeometry};
+ghost use Rattle.view_model.specs.Failing.{KeepsOnErr};
 
 use crate::trees::note_tree;
 use damage_rect::Damage;
@@ -38,12 +39,12 @@ pub fn restore_views(
     ensures undamaged { OnErr result (damage.new ≡ damage.old) }
     ensures plain { OnOk result (plain_of tree.new ≡ restored states.now (plain_of tree.old)) }
     ensures refused { RestoredUnless (is_for_other_class states.now (rows (plain_of tree.old))) result }
-    ensures unchanged { OnErr result (tree.new ≡ tree.old) }
+    ensures unchanged { KeepsOnErr result tree.old tree.new }
     ensures restates { OnOk result (Restates states.now tree.old tree.new) }
     ensures is_tree { IsTree tree.new }
-    ensures counts { tree.new.counts ≡ tree.old.counts }
-    ensures geometry { geometry_of tree.new ≡ geometry_of tree.old }
-    ensures consistent { IsConsistent tree.old → IsConsistent tree.new }
+    ensures counts { KeepsCounts tree.old tree.new }
+    ensures geometry { KeepsGeometry tree.old tree.new }
+    ensures consistent { StaysConsistent tree.old tree.new }
     ensures held { OnOk result ((key : ℕ) → held_of tree.new key
         ≡ all_given states.now tree.old.tree (set_by states.now tree.old.tree) (held_of tree.old) key) }
     ensures asked { (key : ℕ)

@@ -29,6 +29,14 @@ pub record IsCanvas (reach : ℕ) (canvas : Canvas) : Type 0 where
   pub across : IsWithin reach canvas.left
   pub down : IsWithin reach canvas.top
 
+-- a canvas on which a view is painted
+abbrev pub IsNearCanvas : Canvas → Type 0
+IsNearCanvas canvas = IsCanvas (2 ^ 37) canvas
+
+-- one that is near enough for those of the view's children
+abbrev pub IsNearerCanvas : Canvas → Type 0
+IsNearerCanvas canvas = IsCanvas (2 ^ 36) canvas
+
 -- an edge of a frame: no sum of it and a number of 32 bits wraps
 abbrev pub IsEdge : ℤ → Type 0
 IsEdge at = IsWithin (2 ^ 38) at

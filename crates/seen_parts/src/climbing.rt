@@ -1,7 +1,7 @@
 //! What is seen of a view in a window, through all its ancestors.
-ghost use Rattle.std.specs.Prelude.{◌≡◌, ◌^◌, ℤ, false, IfSome, MatchOption};
+ghost use Rattle.std.specs.Prelude.{◌≡◌, ℤ, false, IfSome, MatchOption};
 ghost use Rattle.geom_core.specs.Rects.{holds};
-ghost use Rattle.seen_parts.specs.Frames.{IsCanvas};
+ghost use Rattle.seen_parts.specs.Frames.{IsNearCanvas};
 ghost use Rattle.seen_parts.specs.Meeting.{as_seen, canvas_around, seen_at};
 ghost use Rattle.view_model.specs.Visible.{visible_rect, whole_window};
 ghost use Rattle.view_tree.specs.Views.{IsLive, IsTree, geometry_of, held_of, number_of, plain_of};
@@ -30,7 +30,7 @@ fn canvas_of(tree: &ViewTree, window: Size, view: Key) -> Option<Canvas>
     ensures canvas { MatchOption result
         ((x y : ℤ) → holds (canvas_around (held_of tree.now) (whole_window window) view tree.now.tree).clip x y ≡ false)
         (λ canvas. as_seen canvas ≡ canvas_around (held_of tree.now) (whole_window window) view tree.now.tree) }
-    ensures near { IfSome result (IsCanvas (2 ^ 37)) }
+    ensures near { IfSome result IsNearCanvas }
 {
     recall_tree(tree, view);
     let Some(parent) = tree.parent(view) else {

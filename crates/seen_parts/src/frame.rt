@@ -2,7 +2,7 @@
 ghost use Rattle.std.specs.Prelude.{◌≡◌, ℤ, pos, negsuc, ◌+ℤ◌, ◌-ℤ◌, ◌≤ℤ◌, ◌<ℤ◌, ◌&&◌, ◌^◌, OnSome, IfSome};
 ghost use Rattle.damage_rect.specs.Within.{IsInside};
 ghost use Rattle.geom_core.specs.Rects.{holds, larger_of, smaller_of};
-ghost use Rattle.seen_parts.specs.Frames.{IsCanvas, IsEdge, IsInReach, IsMoved, IsCommonPart, IsSeen, IsWithin, IsWithout, frame_holds, padding_of, part_holds};
+ghost use Rattle.seen_parts.specs.Frames.{IsEdge, IsInReach, IsMoved, IsCommonPart, IsSeen, IsWithin, IsWithout, frame_holds, padding_of, part_holds, IsNearCanvas};
 
 use geom_core::{Insets, Rect};
 use view_model::Facts;
@@ -35,7 +35,7 @@ fn shifted(edge: i32, by: i64) -> i64
 
 /// A rectangle of a canvas in window coordinates.
 pub fn moved(rect: Rect, canvas: Canvas) -> Frame
-    requires { IsCanvas (2 ^ 37) canvas }
+    requires { IsNearCanvas canvas }
     ensures moved { IsMoved rect canvas result }
     ensures reach { IsInReach result }
 {

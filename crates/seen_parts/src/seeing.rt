@@ -4,7 +4,7 @@ ghost use Rattle.damage_rect.specs.Within.{LiesIn};
 ghost use Rattle.geom_core.specs.Rects.{holds};
 ghost use Rattle.geom_core.specs.declared.geometry.Rect.{Rect};
 ghost use Rattle.view_model.specs.Visible.{canvas_below, no_rect, seen_in, whole_window};
-ghost use Rattle.seen_parts.specs.Frames.{IsBelow, IsCanvas, IsInReach, IsSeen};
+ghost use Rattle.seen_parts.specs.Frames.{IsBelow, IsCanvas, IsInReach, IsSeen, IsNearCanvas};
 ghost use Rattle.seen_parts.specs.Meeting.{Follows, as_seen};
 
 use crate::frame::{Canvas, Frame, before, inner_frame, moved, part_in};
@@ -31,7 +31,7 @@ pub fn window_canvas(window: Size) -> Canvas
 
 /// What is seen of a view in this rectangle of a canvas, if it has bounds: nothing, or a part of the window.
 pub fn part_seen(bounds: Option<Rect>, canvas: Canvas) -> Rect
-    requires { IsCanvas (2 ^ 37) canvas }
+    requires { IsNearCanvas canvas }
     ensures { result ≡ seen_in bounds (as_seen canvas) }
 {
     match bounds {
@@ -54,7 +54,7 @@ pub fn nowhere() -> Rect
 
 /// What is seen of a rectangle of a canvas.
 fn rect_seen(bounds: Rect, canvas: Canvas) -> Rect
-    requires { IsCanvas (2 ^ 37) canvas }
+    requires { IsNearCanvas canvas }
     ensures { result ≡ seen_in (Some bounds) (as_seen canvas) }
 {
     match part_in(canvas.clip, moved(bounds, canvas)) {
@@ -65,11 +65,11 @@ fn rect_seen(bounds: Rect, canvas: Canvas) -> Rect
 
 /// The canvas of the children of a view in this rectangle of a canvas, if they can be seen anywhere.
 pub fn children_canvas(facts: &Facts, bounds: Rect, canvas: Canvas) -> Option<Canvas>
-    requires { IsCanvas (2 ^ 37) canvas }
+    requires { IsNearCanvas canvas }
     ensures below { MatchOption result
         ((x y : ℤ) → holds (canvas_below (Some bounds) facts.now (as_seen canvas)).clip x y ≡ false)
         (λ inner. as_seen inner ≡ canvas_below (Some bounds) facts.now (as_seen canvas)) }
-    ensures near { IfSome result (IsCanvas (2 ^ 37)) }
+    ensures near { IfSome result IsNearCanvas }
 {
     let frame = moved(bounds, canvas);
     let Some(part) = part_in(canvas.clip, frame) else {
@@ -96,7 +96,7 @@ pub fn follow(
 ) -> Option<Canvas>
     requires { IfSome canvas (IsCanvas (2 ^ 37)) }
     ensures grew { LiesIn damage.old.rect damage.new.rect }
-    ensures near { IfSome result (IsCanvas (2 ^ 37)) }
+    ensures near { IfSome result IsNearCanvas }
     ensures follows { IfSome canvas (λ canvas. Follows facts.now before rect (as_seen canvas) damage.new.rect result) }
     ensures within { (box : Rect) → LiesIn damage.old.rect box
         → IfSome canvas (λ canvas. before ≢ Some rect

@@ -7,6 +7,10 @@ use Rattle.size_hooks.specs.Hook.{Hook}
 use Rattle.view_model.specs.declared.changes.NumEdit.{NumEdit}
 use Rattle.view_model.specs.Numbers.{max_edits, max_hooks}
 
+-- no hook is armed
+abbrev pub no_hooks : List Hook
+no_hooks = []
+
 -- the hook of the view of this number
 abbrev pub hook_of : List Hook → ℕ → Option Hook
 hook_of hooks view = find (λ (hook : Hook). hook.view == view) hooks

@@ -2,12 +2,13 @@
 //!
 //! A hook names views by their numbers from the line on; the last arming counts. An edit whose view is gone from the
 //! tree is passed over. An edit of a hook requests layout in any case.
-ghost use Rattle.std.specs.Prelude.{◌≡◌, ◌==◌, true, ◌<◌, ◌↔◌, ℕ, if◌then◌else◌, nat_eq, IfSome, [], None, Some, OnOk, OnErr, IsErr, length};
+ghost use Rattle.std.specs.Prelude.{◌≡◌, ◌==◌, true, ◌<◌, ◌↔◌, ℕ, if◌then◌else◌, nat_eq, IfSome, [], None, Some, OnOk, IsErr, length};
 ghost use Rattle.std.specs.Option.{option_map};
 ghost use Rattle.size_hooks.specs.Entries.{hook_in};
 ghost use Rattle.size_hooks.specs.Hook.{Hook};
-ghost use Rattle.size_hooks.specs.Hooks.{IsMap, armed, disarmed, edit_of, hook_of, reported_as, reported_to};
+ghost use Rattle.size_hooks.specs.Hooks.{IsMap, armed, disarmed, edit_of, hook_of, no_hooks, reported_as, reported_to};
 ghost use Rattle.view_model.specs.Numbers.{max_edits, max_hooks};
+ghost use Rattle.view_model.specs.Failing.{KeepsOnErr};
 
 use crate::entry::{Entry, copied, report_in};
 use crate::fault::HookFault;
@@ -42,7 +43,7 @@ impl Model for Hooks {
 impl Hooks {
     /// No hook is armed.
     pub fn new() -> Hooks
-        ensures { result ≡ [] }
+        ensures { result ≡ no_hooks }
     {
         Hooks {
             entries: ArrayVec::new(),
@@ -69,7 +70,7 @@ impl Hooks {
         ensures value { OnOk result ((other : ℕ) → hook_of self.new other ≡ (if nat_eq view other then Some
             (record { view = view; reported = reported; edits = edits.now.items }) else hook_of self.old other)) }
         ensures full { IsErr result ↔ ((length self.old ≡ max_hooks) × (hook_of self.old view ≡ None)) }
-        ensures unchanged { OnErr result (self.new ≡ self.old) }
+        ensures unchanged { KeepsOnErr result self.old self.new }
     {
         self.disarm(view);
         // a table that is still full has lost nothing

@@ -1,6 +1,6 @@
 //! A stack of windows, each with a world of its own.
 
-ghost use Rattle.std.specs.Prelude.{◌≡◌, ◌≢◌, ◌⊎◌, ◌+◌, ◌-◌, ◌<◌, ◌≤◌, ◌^◌, ℕ, min, [], true, false, Err, IfErr, IfSome, None, OnOk, Option, Some};
+ghost use Rattle.std.specs.Prelude.{◌≡◌, ◌≢◌, ◌+◌, ◌-◌, ◌<◌, ◌≤◌, ◌^◌, ℕ, [], true, false, Err, IfErr, IfSome, None, OnOk, Option, Some};
 ghost use Rattle.script_lines.specs.commands.PlainCommands.{plain_command};
 ghost use Rattle.tool_io.specs.Fetched.{Files};
 ghost use Rattle.stack_worlds.specs.Isolation.{IsAfterLine, IsAlone, Shared};
@@ -10,12 +10,13 @@ ghost use Rattle.stack_worlds.specs.PlainStack.{Done, PlainStack, asked_by, aske
 ghost use Rattle.stack_worlds.specs.StackCarried.{IsGivenSound, IsOwnSound, IsReplied, LineWants, OwnWants, WayWants, WritesStack, plain_given, written};
 ghost use Rattle.stack_worlds.specs.WindowLines.{WorksBy, next_at, worlds_after};
 ghost use Rattle.script_lines.specs.commands.PlainCommands.{Frame};
-ghost use Rattle.world_parts.specs.Shelves.{AreAtHand, AsksShelf, CountsShelf, fetches_after};
-ghost use Rattle.view_world.specs.world.Carried.{IsDone, faults_after_line};
+ghost use Rattle.world_parts.specs.Shelves.{AreAtHand, AsksShelf, CountsShelf, fetches_after, KeepsFiles};
+ghost use Rattle.view_world.specs.world.Carried.{IsDone, IsDoneOrKeepsBoth, IsDoneOrKeeps, CountsSink};
 ghost use Rattle.view_world.specs.world.KeyedWorld.{KeyedWorld, world_of};
-ghost use Rattle.window_stack.specs.Numbers.{max_pane};
-ghost use Rattle.window_stack.specs.PlainPanes.{is_open};
+ghost use Rattle.window_stack.specs.PlainPanes.{is_open, IsPane};
 ghost use Rattle.window_stack.specs.StackLines.{In, IsLineInBounds, plain_line, text_length_in};
+ghost use Rattle.view_model.specs.Works.{KeepsPainted, KeepsMeasured};
+ghost use Rattle.world_parts.specs.Faults.{HasFile};
 
 mod composing;
 mod way;
@@ -90,12 +91,12 @@ impl Stack {
             → IsAlone files (world_at shared.stack k) shared.share shared.replies
             → IsReplied result
             → IsAfterLine files k shared (plain_line line.entry) (stack_of self.new) }
-        ensures unchanged { IsDone result ⊎ ((self.new ≡ self.old) × (sink.new ≡ sink.old)) }
+        ensures unchanged { IsDoneOrKeepsBoth result self.old self.new sink.old sink.new }
         ensures silent { (files : Files) (stack : PlainStack)
             → AreAtHand files (F.files shelf.old) (asked_by (stack_of self.old) (plain_line line.entry))
             → stack_step files (stack_of self.old) (plain_line line.entry) ≡ Done stack []
             → sink.new ≡ sink.old }
-        ensures files_stay { F.files shelf.new ≡ F.files shelf.old }
+        ensures files_stay { KeepsFiles (F.files shelf.old) (F.files shelf.new) }
         ensures unasked { asked_by (stack_of self.old) (plain_line line.entry) ≡ None → shelf.new ≡ shelf.old }
         ensures fetched { F.fetches shelf.new
             ≡ fetches_after (asked_by (stack_of self.old) (plain_line line.entry)) (F.fetches shelf.old) }
@@ -104,13 +105,13 @@ impl Stack {
         ensures memory { result ≡ Err StepFault.NoMemory → LineWants (stack_of self.old) (plain_line line.entry) }
         // Only a frame counts anything.
         ensures work { ((k : ℕ) → plain_line line.entry ≢ In k Frame) → work.new ≡ work.old }
-        ensures idle { IsDone result ⊎ (work.new ≡ work.old) }
+        ensures idle { IsDoneOrKeeps result work.old work.new }
         ensures numbers { (k : ℕ) → next_at self.new k ≤ next_at self.old k + max_views }
-        ensures painted { work.old.painted ≤ work.new.painted }
-        ensures measured { min work.old.measured (2 ^ 64 - 1) ≤ work.new.measured }
+        ensures painted { KeepsPainted work.old work.new }
+        ensures measured { KeepsMeasured work.old work.new }
         ensures works { WorksBy (way_of (stack_of self.old) (plain_line line.entry)) self.old
             self.new result work.old work.new }
-        ensures sink_failed { (K.state sink.new).faults ≡ faults_after_line result (K.state sink.old).faults }
+        ensures sink_failed { CountsSink (K.state sink.old) (K.state sink.new) result }
     {
         self.carry_out(alloc, line, shelf, sink, work)
     }
@@ -131,7 +132,7 @@ impl Stack {
             → AreAtHand files (F.files shelf.old) (asked_by (stack_of self.old) (plain_line line.entry))
             → WritesStack (stack_step files (stack_of self.old) (plain_line line.entry)) (stack_of self.new)
             (K.state sink.old) (K.state sink.new) result }
-        ensures unchanged { IsDone result ⊎ ((self.new ≡ self.old) × (sink.new ≡ sink.old)) }
+        ensures unchanged { IsDoneOrKeepsBoth result self.old self.new sink.old sink.new }
         ensures silent { (files : Files) (stack : PlainStack)
             → AreAtHand files (F.files shelf.old) (asked_by (stack_of self.old) (plain_line line.entry))
             → stack_step files (stack_of self.old) (plain_line line.entry) ≡ Done stack []
@@ -141,7 +142,7 @@ impl Stack {
         ensures memory { result ≡ Err StepFault.NoMemory → LineWants (stack_of self.old) (plain_line line.entry) }
         ensures works { WorksBy (way_of (stack_of self.old) (plain_line line.entry)) self.old
             self.new result work.old work.new }
-        ensures sink_failed { (K.state sink.new).faults ≡ faults_after_line result (K.state sink.old).faults }
+        ensures sink_failed { CountsSink (K.state sink.old) (K.state sink.new) result }
     {
         match self.way(line) {
             Way::Given(given) => self.give(alloc, given, shelf, sink, work),
@@ -166,7 +167,7 @@ impl Stack {
             → AreAtHand files (F.files shelf.old) (asked_on (stack_of self.old) (plain_given given.entry))
             → WritesStack (by_way files (stack_of self.old) (plain_given given.entry)) (stack_of self.new)
             (K.state sink.old) (K.state sink.new) result }
-        ensures unchanged { IsDone result ⊎ ((self.new ≡ self.old) × (sink.new ≡ sink.old)) }
+        ensures unchanged { IsDoneOrKeepsBoth result self.old self.new sink.old sink.new }
         ensures silent { (files : Files) (stack : PlainStack)
             → AreAtHand files (F.files shelf.old) (asked_on (stack_of self.old) (plain_given given.entry))
             → by_way files (stack_of self.old) (plain_given given.entry) ≡ Done stack []
@@ -175,7 +176,7 @@ impl Stack {
             (asked_on (stack_of self.old) (plain_given given.entry)) result shelf.old shelf.new }
         ensures memory { result ≡ Err StepFault.NoMemory → WayWants (stack_of self.old) (plain_given given.entry) }
         ensures works { WorksBy (plain_given given.entry) self.old self.new result work.old work.new }
-        ensures sink_failed { (K.state sink.new).faults ≡ faults_after_line result (K.state sink.old).faults }
+        ensures sink_failed { CountsSink (K.state sink.old) (K.state sink.new) result }
     {
         let holder = given.holder;
         let k = given.k;
@@ -189,7 +190,7 @@ impl Stack {
 
     /// Gives the gesture to this window, or to none, after a command was carried out in an open window.
     fn hold_after(&mut self, holder: Option<u8>, k: u8)
-        requires name { k ≤ max_pane }
+        requires name { IsPane k }
         requires held { IfSome holder (λ k. is_open self.old.panes k ≡ true) }
         ensures value { (world : KeyedWorld)
             → keyed_at self.old k ≡ Some world
@@ -204,7 +205,7 @@ impl Stack {
     /// The window that has the gesture after a command was carried out in the world of a window: no longer that one if
     /// none of its pointers is down.
     fn holder_after(&self, holder: Option<u8>, k: u8) -> Option<u8>
-        requires name { k ≤ max_pane }
+        requires name { IsPane k }
         requires open { IfSome holder (λ k. is_open self.now.panes k ≡ true) }
         ensures value { (world : KeyedWorld)
             → keyed_at self.now k ≡ Some world
@@ -223,12 +224,12 @@ impl Stack {
         requires { IsOwnSound (stack_of self.old) own }
         ensures carried { WritesStack (own_step (stack_of self.old) own) (stack_of self.new)
             (K.state sink.old) (K.state sink.new) result }
-        ensures unchanged { IsDone result ⊎ ((self.new ≡ self.old) × (sink.new ≡ sink.old)) }
+        ensures unchanged { IsDoneOrKeepsBoth result self.old self.new sink.old sink.new }
         ensures silent { (stack : PlainStack) → own_step (stack_of self.old) own ≡ Done stack [] → sink.new ≡ sink.old }
         ensures worlds { IsDone result → self.new.worlds ≡ worlds_after self.old own }
-        ensures no_shelf { result ≢ Err StepFault.Shelf }
+        ensures no_shelf { HasFile result }
         ensures memory { result ≡ Err StepFault.NoMemory → OwnWants (stack_of self.old) own }
-        ensures sink_failed { (K.state sink.new).faults ≡ faults_after_line result (K.state sink.old).faults }
+        ensures sink_failed { CountsSink (K.state sink.old) (K.state sink.new) result }
     {
         match own {
             Own::At { k, x, y } => self.set(alloc, k, x, y),
@@ -247,7 +248,7 @@ impl Stack {
 
     /// Sets the corner of a window, with an empty world where it is not open.
     fn set(&mut self, alloc: Global, k: u8, x: i32, y: i32) -> Result<(), StepFault>
-        requires { k ≤ max_pane }
+        requires { IsPane k }
         ensures done { OnOk result (stack_of self.new ≡ placed_at (stack_of self.old) k x y) }
         ensures worlds { OnOk result (self.new.worlds ≡ worlds_after self.old (Own.At k x y)) }
         ensures failed { IfErr result (λ fault. (fault ≡ StepFault.NoMemory)

@@ -1,6 +1,6 @@
 -- What a shelf of files returns for a fetch.
-use Rattle.std.specs.Prelude.{◌≡◌, ℕ, ◌≤◌, ◌<◌, length, List, [], ◌∷◌, Option, Some, None, if◌then◌else◌, IsSomeAnd}
-use Rattle.std.specs.Prelude.{Result, Ok, Err}
+use Rattle.std.specs.Prelude.{◌≡◌, ◌≢◌, ℕ, ◌≤◌, ◌<◌, length, List, [], ◌∷◌, Option, Some, None, if◌then◌else◌}
+use Rattle.std.specs.Prelude.{IsSomeAnd, Result, Ok, Err}
 use Rattle.std.specs.Str.{bytes_eq}
 use Rattle.tool_io.specs.Counts.{raised}
 use Rattle.tool_io.specs.declared.shelf.Found.{Found}
@@ -29,3 +29,11 @@ abbrev pub CountsFetch : ℕ → ℕ → Result Found ShelfFault → Type 0
 CountsFetch before now (Ok found) = now ≡ before
 CountsFetch before now (Err Failed) = now ≡ raised before
 CountsFetch before now (Err NoMemory) = before ≤ now
+
+-- no more bytes than this
+abbrev pub IsWithinLimit : ℕ → List ℕ → Type 0
+IsWithinLimit limit bytes = length bytes ≤ limit
+
+-- there are bytes only of a file that was read whole
+abbrev pub IsEmptyUnlessWhole : Result Found ShelfFault → List ℕ → Type 0
+IsEmptyUnlessWhole result bytes = result ≢ Ok Whole → bytes ≡ []

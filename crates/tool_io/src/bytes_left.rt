@@ -1,5 +1,6 @@
 //! The bytes that a source in memory has still to give.
 ghost use Rattle.std.specs.Prelude.{◌≡◌, ◌<◌, ◌≤◌, [], ◌++◌, length, take, drop};
+ghost use Rattle.tool_io.specs.BytesLeft.{MovesSome};
 
 use std::marker::Model;
 
@@ -27,7 +28,7 @@ impl BytesLeft {
 
     /// All bytes are left, and one call takes at most `most` of them.
     pub(crate) fn new(bytes: Vec<u8>, most: usize) -> BytesLeft
-        requires { 0 < most }
+        requires { MovesSome most }
         ensures { result ≡ record { bytes = bytes.items; most = most } }
     {
         BytesLeft { bytes, at: 0, most }

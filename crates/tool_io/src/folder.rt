@@ -2,10 +2,10 @@
 //!
 //! A file that is there and cannot be read, such as a folder, is a failure of the shelf, which ends a run, and not a
 //! file that is missing.
-ghost use Rattle.std.specs.Prelude.{◌≡◌, ◌≢◌, ◌<◌, ◌≤◌, ◌↔◌, [], length, IfSome, is_ok};
+ghost use Rattle.std.specs.Prelude.{◌≡◌, ◌≢◌, ◌<◌, ◌↔◌, [], length, IfSome, is_ok};
 ghost use Rattle.std.specs.IoError.{error_kind};
 ghost use Rattle.tool_io.specs.Counts.{faults_after};
-ghost use Rattle.tool_io.specs.Fetched.{CountsFetch};
+ghost use Rattle.tool_io.specs.Fetched.{CountsFetch, IsEmptyUnlessWhole, IsWithinLimit};
 
 use crate::faults::count_fault;
 use crate::shelf::{Found, Shelf, ShelfFault};
@@ -51,8 +51,8 @@ impl<R: Files> Shelf for FolderShelf<R> {
 
     #[tactic(auto, using(crate::proofs::Counting::counts_each))]
     fn fetch(&mut self, name: &str, into: &mut Vec<u8>, limit: usize) -> Result<Found, ShelfFault>
-        ensures empty { result ≢ Ok Found.Whole → into.new.items ≡ [] }
-        ensures limit { length into.new.items ≤ limit }
+        ensures empty { IsEmptyUnlessWhole result into.new.items }
+        ensures limit { IsWithinLimit limit into.new.items }
         ensures counted { CountsFetch self.old.faults self.new.faults result }
 
         // Each failure is counted, also running out of memory.
@@ -71,8 +71,8 @@ fn fetch_file<R: Files>(
     into: &mut Vec<u8>,
     limit: usize,
 ) -> Result<Found, ShelfFault>
-    ensures empty { result ≢ Ok Found.Whole → into.new.items ≡ [] }
-    ensures limit { length into.new.items ≤ limit }
+    ensures empty { IsEmptyUnlessWhole result into.new.items }
+    ensures limit { IsWithinLimit limit into.new.items }
 {
     into.clear();
     match fs::open(files, name) {
@@ -90,8 +90,8 @@ fn fetch_bytes<S: Read + Drop>(
     limit: usize,
 ) -> Result<Found, ShelfFault>
     requires { into.old.items ≡ [] }
-    ensures empty { result ≢ Ok Found.Whole → into.new.items ≡ [] }
-    ensures limit { length into.new.items ≤ limit }
+    ensures empty { IsEmptyUnlessWhole result into.new.items }
+    ensures limit { IsWithinLimit limit into.new.items }
 
     // The result is stated by the bytes that the reader has, if contracts see them.
     ensures found { result ≢ Ok Found.Missing }

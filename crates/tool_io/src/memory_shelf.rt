@@ -1,7 +1,7 @@
 //! A shelf in memory, with calls that fail.
-ghost use Rattle.std.specs.Prelude.{◌≡◌, ◌≢◌, ◌<◌, ◌≤◌, ◌↔◌, [], length, IfOk, IsFalse, IsTrue, IsSomeAnd, None};
+ghost use Rattle.std.specs.Prelude.{◌≡◌, ◌<◌, ◌≤◌, ◌↔◌, length, IfOk, IsFalse, IsTrue, IsSomeAnd, None};
 ghost use Rattle.tool_io.specs.Counts.{raised};
-ghost use Rattle.tool_io.specs.Fetched.{CountsFetch, Fetched, file_of};
+ghost use Rattle.tool_io.specs.Fetched.{CountsFetch, Fetched, file_of, IsEmptyUnlessWhole, IsWithinLimit};
 
 use crate::calls::Calls;
 use crate::shelf::{Found, Shelf, ShelfFault};
@@ -55,8 +55,8 @@ impl Shelf for MemoryShelf {
     fn fetch(&mut self, name: &str, into: &mut Vec<u8>, limit: usize) -> Result<Found, ShelfFault>
         ensures stays { self.new.files ≡ self.old.files }
         ensures found { IfOk result (λ found. Fetched self.old.files name.now limit found into.new.items) }
-        ensures empty { result ≢ Ok Found.Whole → into.new.items ≡ [] }
-        ensures limit { length into.new.items ≤ limit }
+        ensures empty { IsEmptyUnlessWhole result into.new.items }
+        ensures limit { IsWithinLimit limit into.new.items }
         ensures counted { CountsFetch self.old.calls.faults self.new.calls.faults result }
         ensures asked { self.new.calls.made ≡ raised self.old.calls.made }
 

@@ -3,6 +3,8 @@ ghost use Rattle.std.specs.Prelude.{◌≡◌, ◌<◌, [], length, IsTrue, IsEr
 ghost use Rattle.std.specs.Io.{WritesAtMost};
 ghost use Rattle.std.specs.Io.KnownBytes.{WriteAppends};
 ghost use Rattle.tool_io.specs.Counts.{faults_after};
+ghost use Rattle.tool_io.specs.BytesLeft.{MovesSome};
+ghost use Rattle.tool_io.specs.SinkState.{TakesSome};
 
 use crate::calls::Calls;
 use crate::faults::Failed;
@@ -36,7 +38,7 @@ impl MemorySink {
     /// A sink that takes at most `most` bytes a call, and fails at the calls whose numbers, from 1
     /// on, are in `fails`.
     pub fn new(alloc: Global, most: usize, fails: Vec<u64>) -> MemorySink
-        requires { 0 < most }
+        requires { MovesSome most }
         ensures { result ≡ record { gone = []; most = most; calls = no_calls fails.items } }
     {
         MemorySink {
@@ -63,7 +65,7 @@ impl Sink for MemorySink {
 
     fn write(&mut self, piece: &[u8]) -> Result<usize, Failed>
         ensures bound { WritesAtMost result piece.now }
-        ensures progress { IfOk result (λ n. 0 < length piece.now → 0 < n) }
+        ensures progress { TakesSome result piece.now }
         ensures bytes { WriteAppends (Some self.old.gone) (Some self.new.gone) result piece.now }
         ensures counted { self.new.calls.faults ≡ faults_after self.old.calls.faults (is_ok result) }
 

@@ -3,6 +3,7 @@ ghost use Rattle.std.specs.Prelude.{◌≡◌, ◌<◌, ◌↔◌, ◌++◌, len
 ghost use Rattle.std.specs.Io.{ReadsAtMost};
 ghost use Rattle.std.specs.Io.KnownBytes.{ReadConsumes};
 ghost use Rattle.tool_io.specs.Counts.{faults_after};
+ghost use Rattle.tool_io.specs.BytesLeft.{MovesSome};
 
 use crate::bytes_left::BytesLeft;
 use crate::calls::Calls;
@@ -31,7 +32,7 @@ impl MemorySource {
     /// A source that moves at most `most` bytes a call, and fails at the calls whose numbers, from
     /// 1 on, are in `fails`.
     pub fn new(bytes: Vec<u8>, most: usize, fails: Vec<u64>) -> MemorySource
-        requires { 0 < most }
+        requires { MovesSome most }
         ensures left { result.left ≡ record { bytes = bytes.items; most = most } }
         ensures calls { result.calls ≡ no_calls fails.items }
     {

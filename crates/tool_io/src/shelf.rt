@@ -2,8 +2,8 @@
 //!
 //! Contracts see the files through the ghost of the shelf, and the plain world takes them as a parameter instead of
 //! keeping them: so what is said of a line that asks for no file holds over every shelf.
-ghost use Rattle.std.specs.Prelude.{◌≡◌, ◌≢◌, ℕ, ◌≤◌, List, [], length, Option, IfSome, IfOk};
-ghost use Rattle.tool_io.specs.Fetched.{CountsFetch, Fetched};
+ghost use Rattle.std.specs.Prelude.{◌≡◌, ℕ, List, Option, IfSome, IfOk};
+ghost use Rattle.tool_io.specs.Fetched.{CountsFetch, Fetched, IsEmptyUnlessWhole, IsWithinLimit};
 ghost use Rattle.tool_io.specs.Fetches.{Fetches, with_fetch};
 
 /// How a fetch ended.
@@ -45,8 +45,8 @@ pub trait Shelf {
         ensures stays { files self.new ≡ files self.old }
         ensures found { IfOk result
             (λ found. IfSome (files self.old) (λ files. Fetched files name.now limit found into.new.items)) }
-        ensures empty { result ≢ Ok Found.Whole → into.new.items ≡ [] }
-        ensures limit { length into.new.items ≤ limit }
+        ensures empty { IsEmptyUnlessWhole result into.new.items }
+        ensures limit { IsWithinLimit limit into.new.items }
         ensures counted { CountsFetch (faults self.old) (faults self.new) result }
         ensures asked { fetches self.new
             ≡ with_fetch (fetches self.old) (record { name = name.now; limit = limit }) };

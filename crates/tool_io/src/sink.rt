@@ -1,9 +1,9 @@
 //! Where bytes go.
-ghost use Rattle.std.specs.Prelude.{◌≡◌, ◌<◌, length, IfOk, is_ok};
+ghost use Rattle.std.specs.Prelude.{◌≡◌, ◌<◌, is_ok};
 ghost use Rattle.std.specs.Io.{WritesAtMost};
 ghost use Rattle.std.specs.Io.KnownBytes.{WriteAppends};
 ghost use Rattle.tool_io.specs.Counts.{faults_after};
-ghost use Rattle.tool_io.specs.SinkState.{SinkState};
+ghost use Rattle.tool_io.specs.SinkState.{SinkState, TakesSome};
 
 use crate::faults::Failed;
 
@@ -17,7 +17,7 @@ pub trait Sink {
     /// many. A call that fails appends nothing.
     fn write(&mut self, piece: &[u8]) -> Result<usize, Failed>
         ensures bound { WritesAtMost result piece.now }
-        ensures progress { IfOk result (λ n. 0 < length piece.now → 0 < n) }
+        ensures progress { TakesSome result piece.now }
         ensures bytes { WriteAppends (state self.old).gone (state self.new).gone result piece.now }
         ensures counted { (state self.new).faults ≡ faults_after (state self.old).faults (is_ok result) };
 }

@@ -1,8 +1,9 @@
 //! A sink over a writer.
-ghost use Rattle.std.specs.Prelude.{◌≡◌, ◌<◌, ℕ, length, take, IfOk, OnErr, is_ok};
+ghost use Rattle.std.specs.Prelude.{◌≡◌, ◌<◌, ℕ, take, IfOk, OnErr, is_ok};
 ghost use Rattle.std.specs.Io.{WritesAtMost};
 ghost use Rattle.std.specs.Io.KnownBytes.{Appends};
 ghost use Rattle.tool_io.specs.Counts.{faults_after};
+ghost use Rattle.tool_io.specs.SinkState.{TakesSome};
 
 use crate::faults::{Failed, count_fault};
 use crate::sink::Sink;
@@ -40,7 +41,7 @@ impl<W: Write> Sink for StdoutSink<W> {
 
     fn write(&mut self, piece: &[u8]) -> Result<usize, Failed>
         ensures bound { WritesAtMost result piece.now }
-        ensures progress { IfOk result (λ n. 0 < length piece.now → 0 < n) }
+        ensures progress { TakesSome result piece.now }
 
         // The writer reports how many bytes it took, and each failure is counted. If a flush fails,
         // the writer may have taken some of the piece.
@@ -60,7 +61,7 @@ impl<W: Write> Sink for StdoutSink<W> {
 /// is not empty has failed.
 fn write_flushed<W: Write>(writer: &mut W, piece: &[u8]) -> Result<usize, Failed>
     ensures bound { WritesAtMost result piece.now }
-    ensures progress { IfOk result (λ n. 0 < length piece.now → 0 < n) }
+    ensures progress { TakesSome result piece.now }
     ensures taken { IfOk result (λ n. Appends (W.contents writer.old) (W.contents writer.new) (take n piece.now)) }
     ensures lost { OnErr result ((n : ℕ) × Appends (W.contents writer.old) (W.contents writer.new) (take n piece.now)) }
 {

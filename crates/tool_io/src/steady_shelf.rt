@@ -1,6 +1,6 @@
 //! A shelf in memory that never fails.
-ghost use Rattle.std.specs.Prelude.{◌≡◌, ◌≢◌, ◌<◌, ◌≤◌, ◌↔◌, [], length, IfOk, IsSomeAnd, None};
-ghost use Rattle.tool_io.specs.Fetched.{Fetched, file_of};
+ghost use Rattle.std.specs.Prelude.{◌≡◌, ◌≢◌, ◌<◌, ◌≤◌, ◌↔◌, length, IfOk, IsSomeAnd, None};
+ghost use Rattle.tool_io.specs.Fetched.{Fetched, file_of, IsEmptyUnlessWhole, IsWithinLimit};
 
 use crate::shelf::{Found, Shelf, ShelfFault};
 use std::marker::Model;
@@ -44,8 +44,8 @@ impl Shelf for SteadyShelf {
     fn fetch(&mut self, name: &str, into: &mut Vec<u8>, limit: usize) -> Result<Found, ShelfFault>
         ensures stays { self.new ≡ self.old }
         ensures found { IfOk result (λ found. Fetched self.old name.now limit found into.new.items) }
-        ensures empty { result ≢ Ok Found.Whole → into.new.items ≡ [] }
-        ensures limit { length into.new.items ≤ limit }
+        ensures empty { IsEmptyUnlessWhole result into.new.items }
+        ensures limit { IsWithinLimit limit into.new.items }
         ensures failed { result ≢ Err ShelfFault.Failed }
 
         // A file is missing exactly if it is not held, and long exactly if it is above the limit.

@@ -1,6 +1,8 @@
 //! A sink that never fails.
-ghost use Rattle.std.specs.Prelude.{◌≡◌, ◌<◌, length, IfOk, min};
+ghost use Rattle.std.specs.Prelude.{◌≡◌, ◌<◌, length, min};
 ghost use Rattle.std.specs.Io.{WritesAtMost};
+ghost use Rattle.tool_io.specs.BytesLeft.{MovesSome};
+ghost use Rattle.tool_io.specs.SinkState.{TakesSome};
 
 use crate::faults::Failed;
 use crate::sink::Sink;
@@ -26,7 +28,7 @@ impl Model for SteadySink {
 impl SteadySink {
     /// A sink that takes at most `most` bytes a call.
     pub fn new(most: usize) -> SteadySink
-        requires { 0 < most }
+        requires { MovesSome most }
         ensures { result ≡ most }
     {
         SteadySink { most }
@@ -40,7 +42,7 @@ impl Sink for SteadySink {
 
     fn write(&mut self, piece: &[u8]) -> Result<usize, Failed>
         ensures bound { WritesAtMost result piece.now }
-        ensures progress { IfOk result (λ n. 0 < length piece.now → 0 < n) }
+        ensures progress { TakesSome result piece.now }
 
         // The call never fails, and takes as much as it may.
         ensures count { result ≡ Ok (min (length piece.now) self.old) }

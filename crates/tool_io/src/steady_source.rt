@@ -2,6 +2,7 @@
 ghost use Rattle.std.specs.Prelude.{◌≡◌, ◌<◌, ◌++◌, length, take, drop, IfOk};
 ghost use Rattle.std.specs.Io.{ReadsAtMost};
 ghost use Rattle.std.specs.Io.KnownBytes.{ReadConsumes};
+ghost use Rattle.tool_io.specs.BytesLeft.{MovesSome};
 
 use crate::bytes_left::BytesLeft;
 use crate::faults::Failed;
@@ -25,7 +26,7 @@ impl Model for SteadySource {
 impl SteadySource {
     /// A source that moves at most `most` bytes a call.
     pub fn new(bytes: Vec<u8>, most: usize) -> SteadySource
-        requires { 0 < most }
+        requires { MovesSome most }
         ensures { result ≡ record { bytes = bytes.items; most = most } }
     {
         SteadySource {

@@ -1,16 +1,16 @@
 //! An event of all the pointers, and the cancel of a view that goes away.
-ghost use Rattle.std.specs.Prelude.{◌≡◌, ◌≤◌, ◌<◌, ◌+◌, ◌*◌, ◌&&◌, ℕ, Some, length, is_some, false};
+ghost use Rattle.std.specs.Prelude.{◌≡◌, ◌≤◌, ◌+◌, ◌*◌, ◌&&◌, ℕ, Some, length, is_some, false};
 ghost use Rattle.touch_dispatch.specs.reaching.Delivery.{delivered};
 ghost use Rattle.touch_dispatch.specs.Dispatch.{cancelled, dispatched};
 ghost use Rattle.touch_dispatch.specs.gesture.Kept.{gesture_of, is_open};
 ghost use Rattle.touch_dispatch.specs.Once.{asks, total, touches};
-ghost use Rattle.touch_dispatch.specs.reaching.TreeEvents.{IsGestureIn, KeepsScene, MayReach, OnlyScrolls, Unchanged, parent_number, part_at, progress_of, room_of, scene_of};
-ghost use Rattle.touch_event.specs.Numbers.{max_pointers};
+ghost use Rattle.touch_dispatch.specs.reaching.TreeEvents.{IsGestureIn, KeepsScene, MayReach, OnlyScrolls, Unchanged, parent_number, part_at, progress_of, room_of, scene_of, KeepsRoom};
 ghost use Rattle.touch_targets.specs.Captures.{is_target};
 ghost use Rattle.view_model.specs.Facts.{is_shown};
 ghost use Rattle.view_model.specs.Forest.{count_of};
 ghost use Rattle.view_tree.specs.Rows.{views_of};
 ghost use Rattle.view_tree.specs.Views.{IsLive, IsTree, facts_of, number_of, state_of};
+ghost use Rattle.touch_event.specs.Touches.{IsPointer};
 
 use crate::gesture::Gesture;
 use crate::handling::limits::Limits;
@@ -31,7 +31,7 @@ pub fn dispatch(
     slop: i32,
     log: &mut Log,
 ) -> bool
-    requires pointer { event.now.pointer < max_pointers }
+    requires pointer { IsPointer event.now.pointer }
     requires caught { IsGestureIn tree.old.tree gesture.old }
     requires room { length log.old.entries.items + 3 * count_of tree.old.tree ≤ room_of log.old }
     ensures is_tree { IsTree tree.old }
@@ -44,7 +44,7 @@ pub fn dispatch(
     ensures scrolls { OnlyScrolls tree.old tree.new }
     ensures caught { IsGestureIn tree.new.tree gesture.new }
     ensures opened { (number : ℕ) → is_open gesture.new number ≡ is_open gesture.old number }
-    ensures room { room_of log.new ≡ room_of log.old }
+    ensures room { KeepsRoom log.old log.new }
 {
     let limits = Limits { slop };
     let Some(root) = tree.root() else {
@@ -112,7 +112,7 @@ pub fn cancel_view(tree: &mut ViewTree, gesture: &mut Gesture, view: Key, slop: 
     ensures scrolls { OnlyScrolls tree.old tree.new }
     ensures caught { IsGestureIn tree.new.tree gesture.new }
     ensures opened { (number : ℕ) → is_open gesture.new number ≡ is_open gesture.old number }
-    ensures room { room_of log.new ≡ room_of log.old }
+    ensures room { KeepsRoom log.old log.new }
 {
     let limits = Limits { slop };
     let event = cancel_event();

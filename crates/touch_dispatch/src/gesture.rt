@@ -1,11 +1,13 @@
 //! What is kept of a gesture between its events; `marks` is what is kept of a view besides its targets.
-ghost use Rattle.std.specs.Prelude.{◌≡◌, ◌≢◌, ◌==◌, ◌<◌, ◌≤◌, ◌+◌, ◌&&◌, ◌||◌, not, true, false, Bool, ℕ, [], if◌then◌else◌, None, Some, OnErr, OnOk, is_some, nat_eq};
+ghost use Rattle.std.specs.Prelude.{◌≡◌, ◌==◌, ◌<◌, ◌≤◌, ◌+◌, ◌&&◌, ◌||◌, not, true, false, Bool, ℕ, [], if◌then◌else◌, None, Some, OnOk, is_some, nat_eq};
 ghost use Rattle.indexmap.specs.IndexMap.{get as get_key, spare};
 ghost use Rattle.touch_dispatch.specs.gesture.Gestures.{closed, set_disallow, set_drag, set_pressed, set_targets, without_target};
 ghost use Rattle.touch_dispatch.specs.gesture.Kept.{HasRoom, IsUnknown, Kept, MayCapture, gesture_of, is_open, marks_or, no_marks, nothing_kept, with_place};
 ghost use Rattle.touch_dispatch.specs.Once.{AllDistinct};
 ghost use Rattle.touch_event.specs.PointerSets.{has_id};
 ghost use Rattle.touch_targets.specs.Captures.{drop_pointers, first_child, first_ids, from_child, is_target, older, put_target, targets_from};
+ghost use Rattle.view_model.specs.Failing.{KeepsOnErr};
+ghost use Rattle.touch_targets.specs.Seats.{KeepsOpen, HasPointers};
 
 pub mod marks;
 
@@ -57,7 +59,7 @@ impl Gesture {
         ensures gesture { gesture_of self.new ≡ gesture_of self.old }
         ensures added { OnOk result (is_open self.old view ≡ false → self.new ≡ with_place view self.old) }
         ensures unknown { (other : ℕ) → is_open self.old other ≡ false → IsUnknown self.old other }
-        ensures unchanged { OnErr result (self.new ≡ self.old) }
+        ensures unchanged { KeepsOnErr result self.old self.new }
     {
         let Some(places) = self.targets.len().checked_add(1) else {
             return Err(AllocError);
@@ -83,7 +85,7 @@ impl Gesture {
     /// Sets whether a group may not take events away from its children. It may again once the next gesture begins.
     pub fn disallow(&mut self, group: u64, on: bool)
         requires { is_open self.old group ≡ true }
-        ensures opened { (view : ℕ) → is_open self.new view ≡ is_open self.old view }
+        ensures opened { KeepsOpen self.old.seats self.new.seats }
         ensures gesture { gesture_of self.new ≡ set_disallow group on (gesture_of self.old) }
     {
         let marks = marks_of(&self.marks, group);
@@ -173,9 +175,9 @@ impl Gesture {
 
     /// A group captures a view by these pointers, in addition to those by which it already has.
     pub(crate) fn put(&mut self, group: u64, child: u64, ids: u32)
-        requires ids { ids ≢ 0 }
+        requires ids { HasPointers ids }
         requires may { MayCapture self.old group child }
-        ensures opened { (view : ℕ) → is_open self.new view ≡ is_open self.old view }
+        ensures opened { KeepsOpen self.old.seats self.new.seats }
         ensures gesture { gesture_of self.new ≡ set_targets group
             (put_target child (has_id ids) ((gesture_of self.old).targets group)) (gesture_of self.old) }
     {
@@ -184,7 +186,7 @@ impl Gesture {
 
     /// Takes a pointer away from all targets of a group, and removes the targets that have no other.
     pub(crate) fn drop_ids(&mut self, group: u64, ids: u32)
-        ensures opened { (view : ℕ) → is_open self.new view ≡ is_open self.old view }
+        ensures opened { KeepsOpen self.old.seats self.new.seats }
         ensures gesture { gesture_of self.new ≡ set_targets group
             (drop_pointers (has_id ids) ((gesture_of self.old).targets group)) (gesture_of self.old) }
     {
@@ -193,7 +195,7 @@ impl Gesture {
 
     /// Takes a view away from the group that has captured it, if one has.
     pub(crate) fn remove(&mut self, child: u64)
-        ensures opened { (view : ℕ) → is_open self.new view ≡ is_open self.old view }
+        ensures opened { KeepsOpen self.old.seats self.new.seats }
         ensures gesture { gesture_of self.new ≡ without_target child (gesture_of self.old) }
     {
         self.targets.remove(child);
@@ -201,7 +203,7 @@ impl Gesture {
 
     /// Removes all targets of a group.
     pub(crate) fn clear(&mut self, group: u64)
-        ensures opened { (view : ℕ) → is_open self.new view ≡ is_open self.old view }
+        ensures opened { KeepsOpen self.old.seats self.new.seats }
         ensures gesture { gesture_of self.new ≡ set_targets group [] (gesture_of self.old) }
     {
         self.targets.clear(group);

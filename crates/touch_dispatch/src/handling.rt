@@ -2,8 +2,9 @@
 //! scrolls, by the `drag` that is kept of it and the `limits` of slight moves.
 ghost use Rattle.std.specs.Prelude.{◌≡◌, ◌<◌, ◌≤◌, ◌+◌, ◌&&◌, ◌||◌, ◌++◌, ◌∷◌, [], ℕ, ℤ, pos, length, not, true};
 ghost use Rattle.touch_dispatch.specs.handling.Handling.{asked, click_handled, clicks, drag_answer, handled_by, intercepts, is_down, is_nil, looked, many, pressed_after};
-ghost use Rattle.touch_dispatch.specs.gesture.Kept.{gesture_of, is_open};
-ghost use Rattle.touch_dispatch.specs.reaching.TreeEvents.{progress_by, room_of};
+ghost use Rattle.touch_dispatch.specs.gesture.Kept.{gesture_of, IsOpen};
+ghost use Rattle.touch_dispatch.specs.reaching.TreeEvents.{progress_by, room_of, KeepsRoom};
+ghost use Rattle.touch_targets.specs.Seats.{KeepsOpen};
 
 pub mod drag;
 pub mod limits;
@@ -23,7 +24,7 @@ pub fn note(log: &mut Log, view: u64, kind: Kind, event: &Event, yes: bool)
     requires { length log.old.entries.items < room_of log.old }
     ensures noted { log.new.entries.items ≡ log.old.entries.items
         ++ record { view = view; kind = kind; event = event.now; yes = yes; offset = pos 0 } ∷ [] }
-    ensures room { room_of log.new ≡ room_of log.old }
+    ensures room { KeepsRoom log.old log.new }
 {
     log.note(Entry {
         view,
@@ -38,15 +39,15 @@ pub fn note(log: &mut Log, view: u64, kind: Kind, event: &Event, yes: bool)
 /// Whether a group takes an event away from its children: what Android asks by `onInterceptTouchEvent`, unless a child
 /// has forbidden that, or no child is a target and no first pointer goes down.
 pub fn ask(gesture: &mut Gesture, log: &mut Log, own: &Receiver, event: &Event) -> bool
-    requires open { is_open gesture.old own.now.number ≡ true }
+    requires open { IsOpen gesture.old own.now.number }
     requires fits { (offsets : ℕ → ℤ)
         → many (asked own.now event.now (progress_by offsets (gesture_of gesture.old) log.old.entries.items)).progress
         ≤ room_of log.old }
     ensures asked { (offsets : ℕ → ℤ)
         → asked own.now event.now (progress_by offsets (gesture_of gesture.old) log.old.entries.items)
         ≡ record { yes = result; progress = progress_by offsets (gesture_of gesture.new) log.new.entries.items } }
-    ensures opened { (view : ℕ) → is_open gesture.new view ≡ is_open gesture.old view }
-    ensures room { room_of log.new ≡ room_of log.old }
+    ensures opened { KeepsOpen gesture.old.seats gesture.new.seats }
+    ensures room { KeepsRoom log.old log.new }
 {
     if !is_asked(gesture, own.number, event.action) {
         return true;
@@ -69,8 +70,8 @@ fn is_asked(gesture: &Gesture, group: u64, action: Action) -> bool
 
 /// A scroll view looks at an event that it is asked about.
 fn look(gesture: &mut Gesture, own: &Receiver, event: &Event)
-    requires { is_open gesture.old own.now.number ≡ true }
-    ensures opened { (view : ℕ) → is_open gesture.new view ≡ is_open gesture.old view }
+    requires { IsOpen gesture.old own.now.number }
+    ensures opened { KeepsOpen gesture.old.seats gesture.new.seats }
     ensures looked { gesture_of gesture.new ≡ looked own.now event.now (gesture_of gesture.old) }
 {
     if own.scrolls {
@@ -87,7 +88,7 @@ fn intercepts(gesture: &Gesture, own: &Receiver, event: &Event) -> bool
 
 /// A view handles an event itself, by its plan.
 pub fn handle(gesture: &mut Gesture, log: &mut Log, own: &Receiver, event: &Event) -> bool
-    requires open { is_open gesture.old own.now.number ≡ true }
+    requires open { IsOpen gesture.old own.now.number }
     requires fits { (offsets : ℕ → ℤ)
         → many (handled_by own.now.answer own.now event.now
         (progress_by offsets (gesture_of gesture.old) log.old.entries.items)).progress ≤ room_of log.old }
@@ -95,8 +96,8 @@ pub fn handle(gesture: &mut Gesture, log: &mut Log, own: &Receiver, event: &Even
         → handled_by own.now.answer own.now event.now
         (progress_by offsets (gesture_of gesture.old) log.old.entries.items)
         ≡ record { yes = result; progress = progress_by offsets (gesture_of gesture.new) log.new.entries.items } }
-    ensures opened { (view : ℕ) → is_open gesture.new view ≡ is_open gesture.old view }
-    ensures room { room_of log.new ≡ room_of log.old }
+    ensures opened { KeepsOpen gesture.old.seats gesture.new.seats }
+    ensures room { KeepsRoom log.old log.new }
 {
     match own.answer {
         Answer::Off => {
@@ -116,15 +117,15 @@ pub fn handle(gesture: &mut Gesture, log: &mut Log, own: &Receiver, event: &Even
 }
 
 fn click(gesture: &mut Gesture, log: &mut Log, own: &Receiver, event: &Event)
-    requires open { is_open gesture.old own.now.number ≡ true }
+    requires open { IsOpen gesture.old own.now.number }
     requires fits { (offsets : ℕ → ℤ)
         → many (click_handled own.now event.now (progress_by offsets (gesture_of gesture.old) log.old.entries.items))
         ≤ room_of log.old }
     ensures clicked { (offsets : ℕ → ℤ)
         → progress_by offsets (gesture_of gesture.new) log.new.entries.items
         ≡ click_handled own.now event.now (progress_by offsets (gesture_of gesture.old) log.old.entries.items) }
-    ensures opened { (view : ℕ) → is_open gesture.new view ≡ is_open gesture.old view }
-    ensures room { room_of log.new ≡ room_of log.old }
+    ensures opened { KeepsOpen gesture.old.seats gesture.new.seats }
+    ensures room { KeepsRoom log.old log.new }
 {
     let near = is_near_first(own, event.points.as_slice());
     let pressed = gesture.presses(own.number);

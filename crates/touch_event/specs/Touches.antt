@@ -1,5 +1,5 @@
 -- Events of pointers that there can be.
-use Rattle.std.specs.Prelude.{◌<◌, All}
+use Rattle.std.specs.Prelude.{ℕ, ◌<◌, All}
 use Rattle.std.specs.List.{AllPairs}
 use Rattle.touch_event.specs.declared.event.Event.{Event}
 use Rattle.touch_event.specs.declared.event.Point.{Point}
@@ -11,3 +11,7 @@ pub record IsTouch (event : Event) : Type 0 where
   pub pointer : event.pointer < max_pointers
   pub ids : All (λ (p : Point). p.id < max_pointers) event.points.items
   pub rising : AllPairs (λ (p q : Point). p.id < q.id) event.points.items
+
+-- the number of a pointer
+abbrev pub IsPointer : ℕ → Type 0
+IsPointer pointer = pointer < max_pointers

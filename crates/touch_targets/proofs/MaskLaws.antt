@@ -10,7 +10,7 @@ use Rattle.std.proofs.lemmas.Nat.Bits.{bit_at-lt, bit_at-zero, bit_at_above, bit
 use Rattle.touch_event.specs.PointerSets.{has_id}
 use Rattle.touch_targets.specs.Captures.{has_any}
 use Rattle.touch_targets.specs.Seats.{mask_with, mask_without}
-use Rattle.touch_targets.proofs.Chains.{true_not_false}
+use Rattle.touch_targets.proofs.chains.Chains.{true_not_false}
 
 bit_with : (a b : ℕ) → a < 2 → b < 2 → (max a b == 1) ≡ ((a == 1) || (b == 1))
 bit_with zero zero p q = refl

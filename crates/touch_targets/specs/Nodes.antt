@@ -21,56 +21,64 @@ abbrev pub view_of : Option Node → Option ℕ
 view_of None = None
 view_of (Some node) = Some node.view
 
+-- there is as much room for nodes as before
+abbrev pub KeepsCapacity : Slab Node → Slab Node → Type 0
+KeepsCapacity old new = new.capacity ≡ old.capacity
+
+-- each node is there for the same view as before
+abbrev pub KeepsViewOfEach : Slab Node → Slab Node → Type 0
+KeepsViewOfEach old new = (slot : ℕ) → view_of (get new slot) ≡ view_of (get old slot)
+
 -- a node as a captured child
 abbrev pub caught_at : Option Node → Caught
 caught_at None = record { child = 0; ids = 0 }
 caught_at (Some node) = record { child = node.view; ids = node.ids }
 
--- the places from one on, along the links, until the fuel runs out
+-- the slots from one on, along the links, until the fuel runs out
 unfoldable pub chain : ℕ → (ℕ → Option Node) → Option ℕ → List ℕ
 chain zero at start = []
 chain (suc fuel) at None = []
-chain (suc fuel) at (Some place) = place ∷ chain fuel at (next_of (at place))
+chain (suc fuel) at (Some slot) = slot ∷ chain fuel at (next_of (at slot))
 
--- the places from one on
-abbrev pub places_from : Slab Node → Option ℕ → List ℕ
-places_from nodes start = chain (length nodes.slots) (get nodes) start
+-- the slots from one on
+abbrev pub slots_from : Slab Node → Option ℕ → List ℕ
+slots_from nodes start = chain (length nodes.slots) (get nodes) start
 
--- the places of what the group at a place has captured, the newest first
-abbrev pub places_by : Slab Node → ℕ → List ℕ
-places_by nodes group = places_from nodes (newest_of (get nodes group))
+-- the slots of what the group at a slot has captured, the newest first
+abbrev pub slots_by : Slab Node → ℕ → List ℕ
+slots_by nodes group = slots_from nodes (newest_of (get nodes group))
 
 abbrev pub caught_by : Slab Node → ℕ → List Caught
-caught_by nodes group = map (λ place. caught_at (get nodes place)) (places_by nodes group)
+caught_by nodes group = map (λ slot. caught_at (get nodes slot)) (slots_by nodes group)
 
-abbrev pub has_place : ℕ → List ℕ → Bool
-has_place place places = list_any (λ p. place == p) places
+abbrev pub has_slot : ℕ → List ℕ → Bool
+has_slot slot slots = list_any (λ p. slot == p) slots
 
 -- these are the targets of a group, from this one on
 abbrev pub Chain : (ℕ → Option Node) → ℕ → Option ℕ → List ℕ → Type 0
 Chain at group start [] = start ≡ None
-Chain at group start (place ∷ places) =
-    (start ≡ Some place) × (has_place place places ≡ false) × (node : Node) × (at place ≡ Some node)
-    × (node.group ≡ Some group) × Chain at group node.next places
+Chain at group start (slot ∷ slots) =
+    (start ≡ Some slot) × (has_slot slot slots ≡ false) × (node : Node) × (at slot ≡ Some node)
+    × (node.group ≡ Some group) × Chain at group node.next slots
 
 -- the targets of each group are linked one after the other, and each node that names a group is among them
-pub record IsLinked (at : ℕ → Option Node) (places : ℕ → List ℕ) : Type 0 where
-  pub chained : (group : ℕ) (node : Node) → at group ≡ Some node → Chain at group node.newest (places group)
-  pub member : (place group : ℕ) (node : Node) → at place ≡ Some node → node.group ≡ Some group
-      → IsSome (at group) × (has_place place (places group) ≡ true)
-  pub free : (place : ℕ) (node : Node) → at place ≡ Some node → node.group ≡ None → (node.next ≡ None) × (node.ids ≡ 0)
-  pub held : (place group : ℕ) (node : Node) → at place ≡ Some node → node.group ≡ Some group → node.ids ≢ 0
-  pub fits : (place : ℕ) (node : Node) → at place ≡ Some node → node.ids < 2 ^ max_pointers
-  pub small : (place : ℕ) (node : Node) → at place ≡ Some node → place < links_end
-  pub single : (place other : ℕ) (node its : Node) → at place ≡ Some node → at other ≡ Some its → node.view ≡ its.view
-      → place ≡ other
+pub record IsLinked (at : ℕ → Option Node) (slots : ℕ → List ℕ) : Type 0 where
+  pub chained : (group : ℕ) (node : Node) → at group ≡ Some node → Chain at group node.newest (slots group)
+  pub member : (slot group : ℕ) (node : Node) → at slot ≡ Some node → node.group ≡ Some group
+      → IsSome (at group) × (has_slot slot (slots group) ≡ true)
+  pub free : (slot : ℕ) (node : Node) → at slot ≡ Some node → node.group ≡ None → (node.next ≡ None) × (node.ids ≡ 0)
+  pub held : (slot group : ℕ) (node : Node) → at slot ≡ Some node → node.group ≡ Some group → node.ids ≢ 0
+  pub fits : (slot : ℕ) (node : Node) → at slot ≡ Some node → node.ids < 2 ^ max_pointers
+  pub small : (slot : ℕ) (node : Node) → at slot ≡ Some node → slot < links_end
+  pub single : (slot other : ℕ) (node its : Node) → at slot ≡ Some node → at other ≡ Some its → node.view ≡ its.view
+      → slot ≡ other
 
 abbrev pub AreLinked : Slab Node → Type 0
-AreLinked nodes = IsLinked (get nodes) (places_by nodes)
+AreLinked nodes = IsLinked (get nodes) (slots_by nodes)
 
 -- what nodes hold after a change of one of them
 abbrev pub changed : (ℕ → Option Node) → ℕ → (Node → Node) → ℕ → Option Node
-changed at place change x = if x == place then option_map change (at x) else at x
+changed at slot change x = if x == slot then option_map change (at x) else at x
 
 -- what nodes hold once this one comes after a target, or first if that is none
 abbrev pub relinked : (ℕ → Option Node) → ℕ → Option ℕ → Option ℕ → ℕ → Option Node
@@ -82,20 +90,20 @@ abbrev pub IsTarget : Option Node → Type 0
 IsTarget None = ⊥
 IsTarget (Some node) = node.group ≢ None
 
--- one place comes right after another among these, or first if that is none
-pub record IsFollowing (previous : Option ℕ) (place : ℕ) (places : List ℕ) : Type 0 where
+-- one slot comes right after another among these, or first if that is none
+pub record IsFollowing (previous : Option ℕ) (slot : ℕ) (slots : List ℕ) : Type 0 where
   pub front : List ℕ
   pub back : List ℕ
-  pub whole : places ≡ front ++ place ∷ back
+  pub whole : slots ≡ front ++ slot ∷ back
   pub before : last_or None front ≡ previous
 
-abbrev pub without_place : ℕ → List ℕ → List ℕ
-without_place place places = filter (λ p. not (p == place)) places
+abbrev pub without_slot : ℕ → List ℕ → List ℕ
+without_slot slot slots = filter (λ p. not (p == slot)) slots
 
 -- the view of a node as a child that is captured by these pointers
-abbrev pub caught_in_place : Option Node → ℕ → Caught
-caught_in_place None ids = record { child = 0; ids = ids }
-caught_in_place (Some node) ids = record { child = node.view; ids = ids }
+abbrev pub caught_in_slot : Option Node → ℕ → Caught
+caught_in_slot None ids = record { child = 0; ids = ids }
+caught_in_slot (Some node) ids = record { child = node.view; ids = ids }
 
 abbrev pub without_caught : Option ℕ → List Caught → List Caught
 without_caught None caught = caught
@@ -103,11 +111,11 @@ without_caught (Some child) caught = filter (λ (c : Caught). not (c.child == ch
 
 -- the pointers of a target that are left without these
 abbrev pub left_at : Slab Node → ℕ → ℕ → ℕ
-left_at nodes place ids = mask_without (caught_at (get nodes place)).ids ids
+left_at nodes slot ids = mask_without (caught_at (get nodes slot)).ids ids
 
--- the number of the view at a place; 0 if there is none
+-- the number of the view at a slot; 0 if there is none
 abbrev pub view_at : Slab Node → ℕ → ℕ
-view_at nodes place = (caught_at (get nodes place)).child
+view_at nodes slot = (caught_at (get nodes slot)).child
 
 -- the node of a view that is no target and has none
 abbrev pub fresh_node : ℕ → Node

@@ -8,10 +8,10 @@ use Rattle.touch_targets.specs.Nodes.{AreLinked, caught_by, view_of}
 use Rattle.touch_targets.specs.Seats.{Caught, Seat}
 use Rattle.touch_targets.specs.declared.node.Node.{Node}
 
--- what the group at a place has captured; nothing if it has no node
+-- what the group at a slot has captured; nothing if it has no node
 abbrev pub caught_from : Slab Node → Option ℕ → List Caught
 caught_from nodes None = []
-caught_from nodes (Some place) = caught_by nodes place
+caught_from nodes (Some slot) = caught_by nodes slot
 
 -- a view with what it has captured
 abbrev pub seat_at : Slab Node → ℕ × Option ℕ → Seat
@@ -23,17 +23,17 @@ has_node entry = is_some entry.1
 
 module _ {S : Type 0} where
   abbrev pub seats_in : Slab Node → IndexMap ℕ (Option ℕ) S → List Seat
-  seats_in nodes places = map (seat_at nodes) places.entries
+  seats_in nodes slots = map (seat_at nodes) slots.entries
 
-  -- the place of a view's node, if the view is open and has one
-  abbrev pub place_in : IndexMap ℕ (Option ℕ) S → ℕ → Option ℕ
-  place_in places view = option_flatten (get_key nat_eq places view)
+  -- the slot of a view's node, if the view is open and has one
+  abbrev pub slot_in : IndexMap ℕ (Option ℕ) S → ℕ → Option ℕ
+  slot_in slots view = option_flatten (get_key nat_eq slots view)
 
   -- targets are linked, a node has one open view, and each open view has one or room for it, where links can name it
-  pub record IsSoundPool (nodes : Slab Node) (places : IndexMap ℕ (Option ℕ) S) : Type 0 where
+  pub record IsSoundPool (nodes : Slab Node) (slots : IndexMap ℕ (Option ℕ) S) : Type 0 where
     pub linked : AreLinked nodes
-    pub named : (view place : ℕ) → place_in places view ≡ Some place → view_of (get nodes place) ≡ Some view
-    pub found : (place : ℕ) (node : Node) → get nodes place ≡ Some node → place_in places node.view ≡ Some place
-    pub counted : slab_len nodes ≤ count_by has_node places.entries
-    pub room : length places.entries ≤ nodes.capacity
+    pub named : (view slot : ℕ) → slot_in slots view ≡ Some slot → view_of (get nodes slot) ≡ Some view
+    pub found : (slot : ℕ) (node : Node) → get nodes slot ≡ Some node → slot_in slots node.view ≡ Some slot
+    pub counted : slab_len nodes ≤ count_by has_node slots.entries
+    pub room : length slots.entries ≤ nodes.capacity
     pub small : nodes.capacity ≤ links_end

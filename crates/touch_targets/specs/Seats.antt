@@ -1,6 +1,6 @@
 -- What contracts see of the pool: the open views, each with the children that it has captured, the newest first.
-use Rattle.std.specs.Prelude.{ℕ, ◌==◌, ◌^◌, ◌-◌, Bool, not, if◌then◌else◌, bit_and, bit_or, List, [], ◌∷◌, ◌++◌, Option}
-use Rattle.std.specs.Prelude.{Some, None, filter, find, map, refl}
+use Rattle.std.specs.Prelude.{ℕ, ◌≡◌, ◌≢◌, ◌==◌, ◌^◌, ◌-◌, Bool, not, if◌then◌else◌, bit_and, bit_or, List, [], ◌∷◌}
+use Rattle.std.specs.Prelude.{◌++◌, Option, Some, None, filter, find, map, refl}
 use Rattle.std.specs.Coded.{Coded, code_by, coded×, coded_ℕ, coded_list}
 use Rattle.std.specs.List.{list_any}
 use Rattle.touch_event.specs.Numbers.{max_pointers}
@@ -17,6 +17,10 @@ pub record Seat : Type 0 where
   pub view : ℕ
   pub caught : List Caught
 
+-- no view is open
+abbrev pub no_seats : List Seat
+no_seats = []
+
 -- one more open view, that has captured nothing
 abbrev pub with_seat : ℕ → List Seat → List Seat
 with_seat view seats = seats ++ record { view = view; caught = [] } ∷ []
@@ -30,6 +34,14 @@ target_of caught = record { child = caught.child; ids = has_id caught.ids }
 
 abbrev pub is_open : List Seat → ℕ → Bool
 is_open seats view = list_any (λ (seat : Seat). seat.view == view) seats
+
+-- the same views are open as before
+abbrev pub KeepsOpen : List Seat → List Seat → Type 0
+KeepsOpen old new = (view : ℕ) → is_open new view ≡ is_open old view
+
+-- the number of a set in which at least one pointer is
+abbrev pub HasPointers : ℕ → Type 0
+HasPointers ids = ids ≢ 0
 
 -- what a group has captured; nothing if it is not open
 abbrev pub caught_of : List Seat → ℕ → List Caught

@@ -2,7 +2,7 @@
 //!
 //! `targets` has `Targets`, a pool of the open views: `put` adds a child to the targets of a group with a set of
 //! pointers, `newest` and `next` go over them, `drop_ids` takes pointers away. `node` is what the pool keeps of a view
-//! that is a group or a target, `places` which open views have a node, and `links` how nodes join and leave the targets
+//! that is a group or a target, `slots` which open views have a node, and `links` how nodes join and leave the targets
 //! of a group. Views are named by their numbers. Only `open` takes memory.
 //!
 //! `touch_dispatch` keeps one in its `Gesture`.
@@ -15,7 +15,7 @@
 
 mod links;
 mod node;
-mod places;
+mod slots;
 mod targets;
 
 pub use targets::Targets;

@@ -2,7 +2,7 @@
 
 use slab_link::Link;
 
-/// What is kept of a view that is a group or a target, or was one. Nodes name each other by their places in the pool.
+/// What is kept of a view that is a group or a target, or was one. Nodes name each other by their slots in the pool.
 #[derive(Clone, Copy)]
 pub struct Node {
     /// The number of the view.

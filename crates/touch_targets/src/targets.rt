@@ -1,12 +1,12 @@
 //! The pool of targets.
-ghost use Rattle.std.specs.Prelude.{◌≡◌, ◌≢◌, ◌==◌, ◌&&◌, ◌||◌, not, true, false, ℕ, if◌then◌else◌, List, [], None, OnErr, OnOk, length};
+ghost use Rattle.std.specs.Prelude.{◌≡◌, ◌==◌, ◌&&◌, ◌||◌, not, true, false, ℕ, if◌then◌else◌, List, [], None, OnErr, OnOk, length};
 ghost use Rattle.touch_event.specs.PointerSets.{has_id};
 ghost use Rattle.touch_targets.specs.Captures.{drop_pointers, first_child, first_ids, from_child, is_target, older, put_target, targets_from, without_child};
-ghost use Rattle.touch_targets.specs.Seats.{Seat, is_open, targets_of, with_seat};
+ghost use Rattle.touch_targets.specs.Seats.{Seat, is_open, targets_of, with_seat, KeepsOpen, HasPointers, no_seats};
 
 use crate::links;
 use crate::node::Node;
-use crate::places::{ensure_node, forget_place, note_place, place_of};
+use crate::slots::{ensure_node, forget_slot, note_slot, slot_of};
 use indexmap::IndexMap;
 use slab::Slab;
 use slab_link::Link;
@@ -18,8 +18,8 @@ use std::marker::Model;
 #[derive(Drop)]
 pub struct Targets {
     nodes: Slab<Node>,
-    /// The place of each open view's node, by the number of the view; none for a view that has no node yet.
-    places: IndexMap<u64, Link>,
+    /// The slot of each open view's node, by the number of the view; none for a view that has no node yet.
+    slots: IndexMap<u64, Link>,
 }
 
 impl Model for Targets {
@@ -32,23 +32,23 @@ impl Model for Targets {
 
     ghost use Rattle.touch_targets.specs.Pool.{IsSoundPool, seats_in};
 
-    ghost view = { λ inside. seats_in inside.nodes inside.places };
+    ghost view = { λ inside. seats_in inside.nodes inside.slots };
 
-    ghost invariant = { λ inside. IsSoundPool inside.nodes inside.places };
+    ghost invariant = { λ inside. IsSoundPool inside.nodes inside.slots };
 }
 
 impl Targets {
     /// No view is open. It takes no memory.
     pub fn new(alloc: Global) -> Targets
-        ensures { result ≡ [] }
+        ensures { result ≡ no_seats }
     {
         Targets {
             nodes: Slab::new(alloc),
-            places: IndexMap::new(alloc),
+            slots: IndexMap::new(alloc),
         }
     }
 
-    /// Keeps a place for a view, so that it may be a group or a target. No other call takes memory.
+    /// Keeps a slot for a view, so that it may be a group or a target. No other call takes memory.
     pub fn open(&mut self, view: u64) -> Result<(), AllocError>
         ensures opened { OnOk result ((other : ℕ)
             → is_open self.new other ≡ (is_open self.old other || other == view)) }
@@ -57,12 +57,12 @@ impl Targets {
         ensures same { is_open self.old view ≡ true → self.new ≡ self.old }
         ensures unchanged { OnErr result (self.new ≡ self.old) }
     {
-        if self.places.contains_key(&view) {
+        if self.slots.contains_key(&view) {
             return Ok(());
         }
-        links::make_room(&mut self.nodes, self.places.len() + 1)?;
-        self.places.reserve(1)?;
-        note_place(&mut self.places, view, Link::none());
+        links::make_room(&mut self.nodes, self.slots.len() + 1)?;
+        self.slots.reserve(1)?;
+        note_slot(&mut self.slots, view, Link::none());
         Ok(())
     }
 
@@ -70,10 +70,10 @@ impl Targets {
     pub fn len(&self) -> usize
         ensures { result ≡ length self.now }
     {
-        self.places.len()
+        self.slots.len()
     }
 
-    /// Removes the place of a view, with all that names the view as a group or as a target.
+    /// Removes the slot of a view, with all that names the view as a group or as a target.
     pub fn close(&mut self, view: u64)
         ensures opened { (other : ℕ) → is_open self.new other ≡ (is_open self.old other && not (other == view)) }
         ensures targets { (group : ℕ)
@@ -86,15 +86,15 @@ impl Targets {
             → self.new ≡ before }
     {
         self.release(view);
-        if let Some(place) = forget_place(&mut self.places, view) {
-            links::take_out(&mut self.nodes, place);
+        if let Some(slot) = forget_slot(&mut self.slots, view) {
+            links::take_out(&mut self.nodes, slot);
         }
     }
 
     /// Removes all targets of a view, and takes it away from the group that has captured it. Most views are removed while
     /// no view has captured another.
     fn release(&mut self, view: u64)
-        ensures opened { (other : ℕ) → is_open self.new other ≡ is_open self.old other }
+        ensures opened { KeepsOpen self.old self.new }
         ensures targets { (group : ℕ)
             → targets_of self.new group
             ≡ (if group == view then [] else without_child view (targets_of self.old group)) }
@@ -115,8 +115,8 @@ impl Targets {
         ensures child { result ≡ first_child (targets_of self.now group) }
         ensures part { targets_from result (targets_of self.now group) ≡ targets_of self.now group }
     {
-        let place = place_of(&self.places, group)?;
-        let newest = self.nodes[place].newest.key()?;
+        let slot = slot_of(&self.slots, group)?;
+        let newest = self.nodes[slot].newest.key()?;
         Some(self.nodes[newest].view)
     }
 
@@ -130,8 +130,8 @@ impl Targets {
             → targets_from result (targets_of self.now group) ≡ older (from_child child (targets_of self.now group)) }
         ensures free { ((group : ℕ) → is_target child (targets_of self.now group) ≡ false) → result ≡ None }
     {
-        let place = place_of(&self.places, child)?;
-        let next = self.nodes[place].next.key()?;
+        let slot = slot_of(&self.slots, child)?;
+        let next = self.nodes[slot].next.key()?;
         Some(self.nodes[next].view)
     }
 
@@ -142,56 +142,56 @@ impl Targets {
             → has_id result ≡ first_ids (from_child child (targets_of self.now group)) }
         ensures free { ((group : ℕ) → is_target child (targets_of self.now group) ≡ false) → result ≡ 0 }
     {
-        match place_of(&self.places, child) {
+        match slot_of(&self.slots, child) {
             None => 0,
-            Some(place) => self.nodes[place].ids,
+            Some(slot) => self.nodes[slot].ids,
         }
     }
 
     /// A group captures a view by these pointers, in addition to those by which it already has. A view that was no
     /// target is then the newest target; it is no target of another group.
     pub fn put(&mut self, group: u64, child: u64, ids: u32)
-        requires ids { ids ≢ 0 }
+        requires ids { HasPointers ids }
         requires group { is_open self.old group ≡ true }
         requires child { is_open self.old child ≡ true }
         requires only { (other : ℕ) → is_target child (targets_of self.old other) ≡ true → other ≡ group }
-        ensures opened { (view : ℕ) → is_open self.new view ≡ is_open self.old view }
+        ensures opened { KeepsOpen self.old self.new }
         ensures targets { (other : ℕ)
             → targets_of self.new other ≡ (if other == group
             then put_target child (has_id ids) (targets_of self.old other) else targets_of self.old other) }
     {
-        let at = ensure_node(&mut self.nodes, &mut self.places, group);
-        let place = ensure_node(&mut self.nodes, &mut self.places, child);
-        links::put(&mut self.nodes, at, place, ids);
+        let at = ensure_node(&mut self.nodes, &mut self.slots, group);
+        let slot = ensure_node(&mut self.nodes, &mut self.slots, child);
+        links::put(&mut self.nodes, at, slot, ids);
     }
 
     /// Takes pointers away from all targets of a group, and removes the targets that have no others.
     pub fn drop_ids(&mut self, group: u64, ids: u32)
-        ensures opened { (view : ℕ) → is_open self.new view ≡ is_open self.old view }
+        ensures opened { KeepsOpen self.old self.new }
         ensures targets { (other : ℕ)
             → targets_of self.new other ≡ (if other == group then drop_pointers (has_id ids) (targets_of self.old other)
             else targets_of self.old other) }
         ensures same { targets_of self.old group ≡ [] → self.new ≡ self.old }
     {
-        if let Some(place) = place_of(&self.places, group) {
-            links::drop_ids(&mut self.nodes, place, ids);
+        if let Some(slot) = slot_of(&self.slots, group) {
+            links::drop_ids(&mut self.nodes, slot, ids);
         }
     }
 
     /// Takes a view away from the group that has captured it, if one has.
     pub fn remove(&mut self, child: u64)
-        ensures opened { (view : ℕ) → is_open self.new view ≡ is_open self.old view }
+        ensures opened { KeepsOpen self.old self.new }
         ensures targets { (group : ℕ) → targets_of self.new group ≡ without_child child (targets_of self.old group) }
         ensures same { ((group : ℕ) → is_target child (targets_of self.old group) ≡ false) → self.new ≡ self.old }
     {
-        if let Some(place) = place_of(&self.places, child) {
-            links::remove(&mut self.nodes, place);
+        if let Some(slot) = slot_of(&self.slots, child) {
+            links::remove(&mut self.nodes, slot);
         }
     }
 
     /// Removes all targets of a group.
     pub fn clear(&mut self, group: u64)
-        ensures opened { (view : ℕ) → is_open self.new view ≡ is_open self.old view }
+        ensures opened { KeepsOpen self.old self.new }
         ensures targets { (other : ℕ)
             → targets_of self.new other ≡ (if other == group then [] else targets_of self.old other) }
         ensures same { targets_of self.old group ≡ [] → self.new ≡ self.old }

@@ -11,3 +11,4 @@ pub mod Reporting
 pub mod Requesters
 pub mod Resting
 pub mod Subtrees
+pub mod Unasked

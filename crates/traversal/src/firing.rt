@@ -15,7 +15,7 @@ ghost use Rattle.view_model.specs.Changes.{facts_after_change};
 ghost use Rattle.view_model.specs.Geometry.{size_of_rect};
 ghost use Rattle.view_model.specs.PlainTree.{with_facts};
 ghost use Rattle.view_tree.specs.Rows.{first_tree, part_from};
-ghost use Rattle.view_tree.specs.Views.{IsLive, cache_of, geometry_of, held_of, laid_at, laid_rows, number_of, plain_of, state_of};
+ghost use Rattle.view_tree.specs.Views.{IsLive, cache_of, geometry_of, held_of, laid_at, laid_rows, number_of, plain_of, state_of, KeepsGeometry, KeepsCounts};
 
 use arrayvec::ArrayVec;
 use geom_core::{Rect, Size};
@@ -90,14 +90,14 @@ fn has_side(from: i32, to: i32, side: i32) -> bool
 /// requested.
 pub fn fire(tree: &mut ViewTree, hooks: &mut Hooks, view: u64) -> ArrayVec<Key, MAX_EDITS>
     ensures plain { plain_of tree.new ≡ edited_by (edits_of (hook_of hooks.old view)) (plain_of tree.old) }
-    ensures geometry { geometry_of tree.new ≡ geometry_of tree.old }
+    ensures geometry { KeepsGeometry tree.old tree.new }
     ensures shape { SameShape tree.old tree.new }
     ensures bounds { (key : ℕ) → (state_of tree.new key).bounds ≡ (state_of tree.old key).bounds }
     ensures in_pass { (root : ℕ)
         → InPass [] root (held_of tree.old) tree.old.tree
         → InPass result.items root (held_of tree.new) tree.new.tree }
     ensures live { (key : ℕ) → among key result.items ≡ true → IsLive tree.new key }
-    ensures counts { tree.new.counts ≡ tree.old.counts }
+    ensures counts { KeepsCounts tree.old tree.new }
     ensures caches { (key : ℕ)
         → IsUnedited tree.old.tree (edits_of (hook_of hooks.old view)) key
         → (cache_of tree.new key ≡ cache_of tree.old key) × IsOffPaths result.items tree.old.tree key }
@@ -128,14 +128,14 @@ fn note(requesters: &mut ArrayVec<Key, MAX_EDITS>, requester: Option<Key>)
 /// Makes an edit, if its view is there, and requests the layout of that view, which it returns.
 fn make(tree: &mut ViewTree, edit: NumEdit) -> Option<Key>
     ensures plain { plain_of tree.new ≡ with_facts edit.view (facts_after_change edit.change) (plain_of tree.old) }
-    ensures geometry { geometry_of tree.new ≡ geometry_of tree.old }
+    ensures geometry { KeepsGeometry tree.old tree.new }
     ensures shape { SameShape tree.old tree.new }
     ensures bounds { (key : ℕ) → (state_of tree.new key).bounds ≡ (state_of tree.old key).bounds }
     ensures in_pass { (keys : List ℕ) (root : ℕ)
         → InPass keys root (held_of tree.old) tree.old.tree
         → InPass (with_requester result keys) root (held_of tree.new) tree.new.tree }
     ensures live { IfSome result (λ view. IsLive tree.new view) }
-    ensures counts { tree.new.counts ≡ tree.old.counts }
+    ensures counts { KeepsCounts tree.old tree.new }
     ensures caches { (key : ℕ)
         → IsUnedited tree.old.tree (edit ∷ []) key
         → (cache_of tree.new key ≡ cache_of tree.old key)

@@ -6,7 +6,7 @@ ghost use Rattle.std.specs.Prelude.{◌≡◌, ℕ, true, []};
 ghost use Rattle.kept_views.specs.Pressing.{all_pressed, path_of};
 ghost use Rattle.view_tree.specs.tree.Requests.{among, forced_one, pressed};
 ghost use Rattle.view_tree.specs.Rows.{ancestors};
-ghost use Rattle.view_tree.specs.Views.{IsLive, KeepsOthers, SameTree, held_of};
+ghost use Rattle.view_tree.specs.Views.{IsLive, KeepsOthers, SameTree, held_of, KeepsCounts};
 
 use view_tree::{Key, ViewTree};
 
@@ -15,7 +15,7 @@ pub fn force_all(tree: &mut ViewTree, views: &[Key])
     requires { (key : ℕ) → among key views.now ≡ true → IsLive tree.old key }
     ensures same { SameTree tree.old tree.new }
     ensures held { (key : ℕ) → held_of tree.new key ≡ all_pressed (held_of tree.old) views.now tree.old.tree key }
-    ensures counts { tree.new.counts ≡ tree.old.counts }
+    ensures counts { KeepsCounts tree.old tree.new }
     ensures still { views.now ≡ [] → tree.new ≡ tree.old }
 {
     for view in views {
@@ -29,7 +29,7 @@ fn force_path(tree: &mut ViewTree, view: Key)
     requires { IsLive tree.old view }
     ensures same { SameTree tree.old tree.new }
     ensures held { (key : ℕ) → held_of tree.new key ≡ pressed (held_of tree.old) (path_of view tree.old.tree) key }
-    ensures counts { tree.new.counts ≡ tree.old.counts }
+    ensures counts { KeepsCounts tree.old tree.new }
 {
     force_above(tree, view);
     press(tree, view);
@@ -41,7 +41,7 @@ fn force_above(tree: &mut ViewTree, view: Key)
     requires { IsLive tree.old view }
     ensures same { SameTree tree.old tree.new }
     ensures held { (key : ℕ) → held_of tree.new key ≡ pressed (held_of tree.old) (ancestors view tree.old.tree) key }
-    ensures counts { tree.new.counts ≡ tree.old.counts }
+    ensures counts { KeepsCounts tree.old tree.new }
 {
     if let Some(parent) = tree.parent(view) {
         force_path(tree, parent);
@@ -54,7 +54,7 @@ fn press(tree: &mut ViewTree, view: Key)
     ensures same { SameTree tree.old tree.new }
     ensures held { held_of tree.new view ≡ forced_one (held_of tree.old view) }
     ensures others { KeepsOthers tree.old tree.new view }
-    ensures counts { tree.new.counts ≡ tree.old.counts }
+    ensures counts { KeepsCounts tree.old tree.new }
 {
     let mut state = tree.state(view);
     state.forced = true;

@@ -1,7 +1,8 @@
 //! A frame: one pass, or two.
-ghost use Rattle.std.specs.Prelude.{◌≡◌, ◌≤◌, ◌+◌, ◌*◌, ℕ, None, Some, true, pos};
+ghost use Rattle.std.specs.Prelude.{◌≡◌, ◌≤◌, ◌+◌, ◌*◌, ℕ, Bool, None, Some, true, pos};
 ghost use Rattle.measure_pass.specs.Caches.{Grew};
 ghost use Rattle.measure_pass.specs.Measured.{current};
+ghost use Rattle.measure_pass.specs.Sharing.{most};
 ghost use Rattle.view_model.specs.Facts.{is_shown};
 ghost use Rattle.view_model.specs.Layout.{root_specs};
 ghost use Rattle.view_tree.specs.Rows.{first_key, head_view};
@@ -14,6 +15,7 @@ ghost use Rattle.traversal.specs.Frames.{after_frame, fired_in, frame_calls};
 ghost use Rattle.traversal.specs.Growing.{IsMeasuredByFrame, IsUnedited, frame_edits};
 ghost use Rattle.traversal.specs.Reporting.{reported_over};
 ghost use Rattle.traversal.specs.Resting.{IsAtRest};
+ghost use Rattle.traversal.specs.Unasked.{IsUnasked};
 ghost use Rattle.size_hooks.specs.Hooks.{IsMap};
 ghost use Rattle.view_model.specs.Geometry.{rect_at};
 ghost use Rattle.view_tree.specs.Views.{IsLive, IsTree, cache_of, geometry_of, held_of, number_of, plain_of, state_of};
@@ -34,6 +36,10 @@ use view_tree::ViewTree;
 ///
 /// The damage is what has to be painted then: the bounding box of what was seen and what is seen of the views that have
 /// other bounds or another offset, or the whole window if a hook fired.
+///
+/// If no hook fires, a view is passed over, with all below it, that is not forced and is asked for as it was last, or
+/// that is not asked for. The root is measured once at most, and any other view three times for each time that the view
+/// around it is.
 pub fn frame(tree: &mut ViewTree, hooks: &mut Hooks, window: Size, work: &mut Work) -> Frame
     requires consistent { IsConsistent tree.old }
     ensures framed { IsFramed (after_frame (plain_of tree.old) hooks.old window) tree.new hooks.new result }
@@ -51,6 +57,10 @@ pub fn frame(tree: &mut ViewTree, hooks: &mut Hooks, window: Size, work: &mut Wo
         → first_key tree.old.tree ≡ Some root
         → current (state_of tree.old root) (root_specs window (head_view tree.old.tree).facts) ≡ true
         → work.new.measured ≤ work.old.measured }
+    ensures few { result.fired ≡ 0
+        → (calm : ℕ → Bool)
+        → ((key : ℕ) → IsLive tree.old key → calm key ≡ true → IsUnasked tree.old window key)
+        → work.new.measured ≤ work.old.measured + most calm 1 tree.old.tree }
     ensures calm { IsAtRest tree.old window
         → fired_in hooks.old (geometry_of tree.old) ≡ None
         → (tree.new ≡ tree.old)

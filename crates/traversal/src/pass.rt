@@ -1,10 +1,11 @@
 //! One pass over the whole tree.
-ghost use Rattle.std.specs.Prelude.{◌≡◌, ◌≤◌, ◌+◌, ℕ, [], None, Some, true, false};
+ghost use Rattle.std.specs.Prelude.{◌≡◌, ◌≤◌, ◌+◌, ℕ, Bool, [], None, Some, true, false};
 ghost use Rattle.damage_rect.specs.Within.{LiesIn};
 ghost use Rattle.geom_core.specs.declared.geometry.Rect.{Rect};
 ghost use Rattle.kept_views.specs.Passes.{InPass, settled};
 ghost use Rattle.measure_pass.specs.Caches.{Grew};
 ghost use Rattle.measure_pass.specs.Measured.{current};
+ghost use Rattle.measure_pass.specs.Sharing.{most};
 ghost use Rattle.seen_parts.specs.Meeting.{KeepsSight};
 ghost use Rattle.view_model.specs.Facts.{is_shown};
 ghost use Rattle.view_model.specs.Visible.{whole_window};
@@ -17,10 +18,11 @@ ghost use Rattle.traversal.specs.Counting.{IsMeasuringCounted};
 ghost use Rattle.traversal.specs.Covering.{Covered};
 ghost use Rattle.traversal.specs.Frames.{after_pass, fired_in};
 ghost use Rattle.view_model.specs.Layout.{root_calls, root_specs};
-ghost use Rattle.view_tree.specs.Views.{IsLive, SameTree, cache_of, geometry_of, held_of, number_of, plain_of, state_of};
+ghost use Rattle.view_tree.specs.Views.{IsLive, SameTree, cache_of, geometry_of, held_of, number_of, plain_of, state_of, KeepsGeometry, KeepsCounts};
 ghost use Rattle.traversal.specs.Growing.{IsMeasuredByPass, IsOffPaths, IsUnedited, pass_edits};
 ghost use Rattle.traversal.specs.Requesters.{IsRootToLay};
 ghost use Rattle.traversal.specs.Resting.{IsAtRest};
+ghost use Rattle.traversal.specs.Unasked.{IsUnasked};
 
 use crate::firing::{fire, fired};
 use crate::forcing::force_all;
@@ -63,6 +65,9 @@ pub fn pass(
         → first_key tree.old.tree ≡ Some root
         → current (state_of tree.old root) (root_specs window (head_view tree.old.tree).facts) ≡ true
         → work.new.measured ≤ work.old.measured }
+    ensures few { (calm : ℕ → Bool)
+        → ((key : ℕ) → IsLive tree.old key → calm key ≡ true → IsUnasked tree.old window key)
+        → work.new.measured ≤ work.old.measured + most calm 1 tree.old.tree }
     ensures calm { IsAtRest tree.old window
         → fired_in hooks.old (geometry_of tree.old) ≡ None
         → (tree.new ≡ tree.old) × (result ≡ false) × (hooks.new ≡ hooks.old) × (work.new ≡ work.old) }
@@ -98,7 +103,7 @@ fn end_pass(tree: &mut ViewTree, root: Key, requesters: &[Key])
     requires requesters { (key : ℕ) → among key requesters.now ≡ true → IsLive tree.old key }
     ensures same { SameTree tree.old tree.new }
     ensures plain { plain_of tree.new ≡ plain_of tree.old }
-    ensures geometry { geometry_of tree.new ≡ geometry_of tree.old }
+    ensures geometry { KeepsGeometry tree.old tree.new }
     ensures bounds { (key : ℕ) → (state_of tree.new key).bounds ≡ (state_of tree.old key).bounds }
     ensures offsets { (key : ℕ) → (held_of tree.new key).offset ≡ (held_of tree.old key).offset }
     ensures own { requesters.now ≡ [] → held_of tree.new root ≡ settled (held_of tree.old root) }
@@ -111,7 +116,7 @@ fn end_pass(tree: &mut ViewTree, root: Key, requesters: &[Key])
         → tree.new ≡ tree.old }
     ensures kept { InPass requesters.now root (held_of tree.old) tree.old.tree
         → IsKept (held_of tree.new) tree.old.tree }
-    ensures counts { tree.new.counts ≡ tree.old.counts }
+    ensures counts { KeepsCounts tree.old tree.new }
 {
     settle(tree, root);
     force_all(tree, requesters);

@@ -4,12 +4,12 @@ use Rattle.std.proofs.lemmas.Bool.{cases_Bool, cases_eq, eq-eqb, ne_eqb}
 use Rattle.std.specs.Prelude.{if◌then◌else◌, MatchOption}
 use mathlib.Core.Path.{fun_ext}
 use Rattle.kept_views.specs.Kept.{HiddenView, IsConsistent, IsKept, loose}
-use Rattle.kept_views.proofs.AskedViews.{asked_kept, put_asked}
-use Rattle.kept_views.proofs.AroundEdits.{IsCalm, cleared_each, reached_each}
-use Rattle.kept_views.proofs.Edits.{AllHidden, hidden_kept}
-use Rattle.kept_views.proofs.Lines.{SameButOffset, grow_kept, hide_kept, prune_kept, show_kept}
-use Rattle.kept_views.proofs.Pruned.{has_child, root_pruned}
-use Rattle.kept_views.proofs.QuietEdits.{quiet_kept}
+use Rattle.kept_views.proofs.edits.AskedViews.{asked_kept, put_asked}
+use Rattle.kept_views.proofs.edits.AroundEdits.{IsCalm, cleared_each, reached_each}
+use Rattle.kept_views.proofs.edits.Edits.{AllHidden, hidden_kept}
+use Rattle.kept_views.proofs.edits.Lines.{SameButOffset, grow_kept, hide_kept, prune_kept, show_kept}
+use Rattle.kept_views.proofs.grown.Pruned.{has_child, root_pruned}
+use Rattle.kept_views.proofs.edits.QuietEdits.{quiet_kept}
 use Rattle.view_model.specs.Changes.{facts_after_act}
 use Rattle.view_model.specs.declared.changes.Act.{Act}
 use Rattle.view_model.specs.declared.facts.Facts.{Facts}

@@ -3,8 +3,8 @@ use Rattle.std.proofs.Common.{◌≡◌, ◌≢◌, ℕ, ℤ, ◌+◌, ◌<◌, 
 use mathlib.Core.Path.{fun_ext}
 use Rattle.std.proofs.lemmas.Bool.{cases_Bool, cases_eq, eq-eqb, ne_eqb}
 use Rattle.std.specs.Prelude.{◌==◌, MatchOption, OnErr, OnOk, Result, Ok, Err}
-use Rattle.kept_views.proofs.Paths.{among_later}
-use Rattle.kept_views.proofs.Pruned.{has_child}
+use Rattle.kept_views.proofs.edits.Paths.{among_later}
+use Rattle.kept_views.proofs.grown.Pruned.{has_child}
 use Rattle.view_model.specs.Changes.{facts_after_act}
 use Rattle.view_model.specs.declared.facts.Facts.{Facts}
 use Rattle.view_model.specs.declared.changes.Act.{Act}

@@ -2,8 +2,8 @@
 use Rattle.std.proofs.Common.{◌≡◌, ℕ, ◌+◌, ◌<◌, ◌≤◌, ◌==◌, true, Option, Some, None, [], ◌∷◌, arith, inl, inr}
 use Rattle.std.proofs.lemmas.Bool.{cases_Bool}
 use Rattle.std.specs.Prelude.{if◌then◌else◌, IfSome, MatchOption}
-use Rattle.kept_views.proofs.Pruned.{HasChild, has_child, parent_live, pruned_is, same_row}
-use Rattle.kept_views.proofs.Replaced.{replaced}
+use Rattle.kept_views.proofs.grown.Pruned.{HasChild, has_child, parent_live, pruned_is, same_row}
+use Rattle.kept_views.proofs.edits.Replaced.{replaced}
 use Rattle.view_model.specs.Forest.{Forest, Nothing, Branch}
 use Rattle.view_tree.specs.Rows.{Row, ancestors, count_of_key, grown_at_key, pruned_at_key, with_child}
 use Rattle.view_tree.specs.Views.{IsLive, IsTree, Views}

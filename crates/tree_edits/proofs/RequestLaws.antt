@@ -2,9 +2,9 @@
 use Rattle.std.proofs.Common.{◌≡◌, ℕ, ◌<◌, Bool, true, false, List, [], ◌∷◌, ap, ◌∙◌, sym, refl, inl, inr}
 use Rattle.std.specs.Prelude.{◌==◌, if◌then◌else◌}
 use Rattle.kept_views.specs.Pressing.{path_of}
-use Rattle.kept_views.proofs.Emptied.{around_off}
-use Rattle.kept_views.proofs.Paths.{among_first, among_rest, unforced_off}
-use Rattle.kept_views.proofs.Requested.{pressed_out}
+use Rattle.kept_views.proofs.edits.Emptied.{around_off}
+use Rattle.kept_views.proofs.edits.Paths.{among_first, among_rest, unforced_off}
+use Rattle.kept_views.proofs.edits.Requested.{pressed_out}
 use Rattle.view_model.specs.Forest.{Forest}
 use Rattle.view_model.specs.PlainTree.{PlainView}
 use Rattle.view_tree.specs.tree.Requests.{among, asking, forced_one, pressed, requested, unforced}

@@ -5,7 +5,7 @@ use Rattle.std.proofs.lemmas.List.{map-append}
 use Rattle.std.specs.Prelude.{if◌then◌else◌, not}
 use mathlib.Core.Path.{fun_ext}
 use Rattle.kept_views.specs.Kept.{IsConsistent, IsKept}
-use Rattle.kept_views.proofs.Lines.{put_kept}
+use Rattle.kept_views.proofs.edits.Lines.{put_kept}
 use Rattle.view_model.specs.declared.changes.Act.TheVariants as act
 use Rattle.view_model.specs.declared.placing.Direction.{Direction}
 use Rattle.view_model.specs.Direction.{dir}

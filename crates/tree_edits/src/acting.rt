@@ -1,6 +1,6 @@
 //! Acts on a view of a tree.
-ghost use Rattle.std.specs.Prelude.{◌≡◌, ℕ, true, false, None, OnErr, OnOk};
-ghost use Rattle.kept_views.specs.Kept.{IsConsistent};
+ghost use Rattle.std.specs.Prelude.{◌≡◌, ℕ, true, false, None, OnOk};
+ghost use Rattle.kept_views.specs.Kept.{StaysConsistent};
 ghost use Rattle.tree_edits.specs.Applied.{IsVerb};
 ghost use Rattle.tree_edits.specs.Asking.{LeavesUnasked};
 ghost use Rattle.tree_edits.specs.Editing.{after_act, hides, names_views, turns};
@@ -11,13 +11,15 @@ ghost use Rattle.view_model.specs.Changes.{facts_after_act};
 ghost use Rattle.view_model.specs.Cycles.{first_cycle};
 ghost use Rattle.view_tree.specs.Faults.{IsRefusedOrCyclic};
 ghost use Rattle.view_model.specs.PlainTree.{with_facts};
-ghost use Rattle.view_tree.specs.Views.{IsLive, SameTree, held_of, number_of, plain_of};
+ghost use Rattle.view_model.specs.Failing.{KeepsOnErr};
+ghost use Rattle.view_model.specs.RelativeCourse.{link_of};
+ghost use Rattle.view_tree.specs.Views.{IsLive, IsTree, KeepsMeasures, SameTree, facts_of, held_of, number_of, plain_of};
 
 use crate::asking::request_by;
-use crate::changing::change_facts;
+use crate::changing::{change_facts, set_rule};
 use crate::edits::Edit;
 use crate::hiding::hide;
-use view_model::{Act, Direction, Facet, Member};
+use view_model::{Act, Direction, Facet, Link, Member};
 use view_tree::{AttachFault, Key, ViewTree};
 
 /// Whether an act sets the name by which a view is found, or the names by which it finds others.
@@ -37,19 +39,47 @@ pub fn set_names(tree: &mut ViewTree, view: Key, act: Act) -> Result<(), AttachF
     ensures kept { OnOk result (KeepsViews tree.old tree.new (Edit.Act view act)) }
     ensures refused { IsRefusedOrCyclic None (first_cycle Member.View
         (with_facts (number_of tree.old view) (facts_after_act act) (plain_of tree.old))) result }
-    ensures unchanged { OnErr result (tree.new ≡ tree.old) }
-    ensures consistent { IsConsistent tree.old → IsConsistent tree.new }
+    ensures unchanged { KeepsOnErr result tree.old tree.new }
+    ensures consistent { StaysConsistent tree.old tree.new }
     ensures asked { LeavesUnasked tree.old tree.new (Edit.Act view act) }
-    ensures measures { tree.new.counts.measures ≡ tree.old.counts.measures }
+    ensures measures { KeepsMeasures tree.old tree.new }
 {
-    let mut facts = *tree.facts(view);
-    change_facts(act, &mut facts);
-    match tree.set_rules(view, facts.id, facts.rules) {
+    let link = link_after(tree, view, act);
+    match tree.set_rules(view, link.id, link.rules) {
         Err(fault) => Err(fault),
         Ok(()) => {
             tree.request(view);
             Ok(())
         }
+    }
+}
+
+/// What rules read of a view after an act that sets its id or a rule.
+fn link_after(tree: &ViewTree, view: Key, act: Act) -> Link
+    requires live { IsLive tree.now view }
+    requires verb { IsVerb act }
+    requires names { names_views act ≡ true }
+    ensures is_tree { IsTree tree.now }
+    ensures link { result ≡ link_of (facts_after_act act (facts_of tree.now view)) }
+{
+    let facts = tree.facts(view);
+    match act {
+        Act::Id(id) => Link {
+            id,
+            rules: facts.rules,
+        },
+        Act::Rule { verb, value } => {
+            let mut rules = facts.rules;
+            set_rule(verb, value, &mut rules);
+            Link {
+                id: facts.id,
+                rules,
+            }
+        }
+        Act::Change(_) | Act::WeightSum(_) | Act::Orient { .. } | Act::Flag { .. } =>
+            unreachable!(),
+        Act::Visible(_) | Act::Ink(_) | Act::Answer(_) | Act::Intercept(_) => unreachable!(),
+        Act::Scroll(_) | Act::Direction(_) => unreachable!(),
     }
 }
 
@@ -60,9 +90,9 @@ pub fn set_direction(tree: &mut ViewTree, view: Key, direction: Direction)
     ensures scene { scene_of tree.new
         ≡ after_act (scene_of tree.old) (number_of tree.old view) (Act.Direction direction) }
     ensures kept { KeepsViews tree.old tree.new (Edit.Act view (Act.Direction direction)) }
-    ensures consistent { IsConsistent tree.old → IsConsistent tree.new }
+    ensures consistent { StaysConsistent tree.old tree.new }
     ensures asked { LeavesUnasked tree.old tree.new (Edit.Act view (Act.Direction direction)) }
-    ensures measures { tree.new.counts.measures ≡ tree.old.counts.measures }
+    ensures measures { KeepsMeasures tree.old tree.new }
 {
     tree.set_direction(view, direction);
 }
@@ -75,9 +105,9 @@ pub fn set_facts(tree: &mut ViewTree, view: Key, act: Act)
     requires turns { turns act ≡ false }
     ensures scene { scene_of tree.new ≡ after_act (scene_of tree.old) (number_of tree.old view) act }
     ensures kept { KeepsViews tree.old tree.new (Edit.Act view act) }
-    ensures consistent { IsConsistent tree.old → IsConsistent tree.new }
+    ensures consistent { StaysConsistent tree.old tree.new }
     ensures asked { LeavesUnasked tree.old tree.new (Edit.Act view act) }
-    ensures measures { tree.new.counts.measures ≡ tree.old.counts.measures }
+    ensures measures { KeepsMeasures tree.old tree.new }
 {
     let mut facts = *tree.facts(view);
     change_facts(act, &mut facts);
@@ -91,7 +121,7 @@ fn hide_by(tree: &mut ViewTree, view: Key, act: Act)
     requires { IsLive tree.old view }
     ensures same { SameTree tree.old tree.new }
     ensures held { (key : ℕ) → held_of tree.new key ≡ held_hiding (hides act) tree.old view key }
-    ensures measures { tree.new.counts.measures ≡ tree.old.counts.measures }
+    ensures measures { KeepsMeasures tree.old tree.new }
 {
     if hides(act) {
         hide(tree, view);

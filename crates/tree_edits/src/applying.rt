@@ -1,15 +1,17 @@
 //! Edits of a tree, applied.
 
-ghost use Rattle.std.specs.Prelude.{◌≡◌, ◌<◌, ◌^◌, true, chars, length, Err, OnErr, OnOk, None, Ok};
+ghost use Rattle.std.specs.Prelude.{◌≡◌, ◌<◌, true, chars, Err, OnOk, None, Ok};
 ghost use Rattle.std.specs.Option.{option_map};
-ghost use Rattle.kept_views.specs.Kept.{IsConsistent};
+ghost use Rattle.kept_views.specs.Kept.{StaysConsistent};
 ghost use Rattle.tree_edits.specs.Applied.{AppliesEdit, IsAddable, IsEdit, IsVerb, MayWantMemory, numbered};
 ghost use Rattle.tree_edits.specs.Asking.{LeavesUnasked};
 ghost use Rattle.tree_edits.specs.Editing.{Add, ActOn, SetText, names_views, outcome_of_edit, outcome_of_remove};
 ghost use Rattle.tree_edits.specs.Keeping.{KeepsViews};
 ghost use Rattle.tree_edits.specs.Scene.{scene_of};
 ghost use Rattle.view_model.specs.declared.fault.Fault.TheVariants.{NoMemory};
-ghost use Rattle.view_tree.specs.Views.{IsLive, IsTree, number_of};
+ghost use Rattle.view_tree.specs.Views.{IsLive, IsTree, number_of, KeepsMeasures};
+ghost use Rattle.view_model.specs.Failing.{KeepsOnErr};
+ghost use Rattle.view_model.specs.Texts.{IsShortText};
 
 use crate::acting::{names_views, set_direction, set_facts, set_names};
 use crate::asking::request_at;
@@ -21,16 +23,17 @@ use view_model::{Act, Class, Facts, Refusal, Text};
 use view_tree::{Key, ViewTree};
 
 /// Makes an edit, and requests layout if it may change. Returns the number of the view that it made.
+#[inline(always)]
 pub fn apply(alloc: Global, tree: &mut ViewTree, edit: Edit<'_>) -> Result<Option<u64>, EditFault>
     requires edit { IsEdit tree.old edit }
     ensures applied { AppliesEdit (outcome_of_edit (scene_of tree.old) (numbered tree.old edit.entry))
         (scene_of tree.new) result }
     ensures kept { OnOk result (KeepsViews tree.old tree.new edit.entry) }
-    ensures unchanged { OnErr result (tree.new ≡ tree.old) }
+    ensures unchanged { KeepsOnErr result tree.old tree.new }
     ensures memory { result ≡ Err NoMemory → MayWantMemory edit.entry }
-    ensures consistent { IsConsistent tree.old → IsConsistent tree.new }
+    ensures consistent { StaysConsistent tree.old tree.new }
     ensures asked { LeavesUnasked tree.old tree.new edit.entry }
-    ensures measures { tree.new.counts.measures ≡ tree.old.counts.measures }
+    ensures measures { KeepsMeasures tree.old tree.new }
 {
     match edit {
         Edit::Add {
@@ -75,10 +78,10 @@ fn add(alloc: Global, tree: &mut ViewTree, added: Added) -> Result<Option<u64>, 
         (scene_of tree.new) result }
     ensures kept { OnOk result (KeepsViews tree.old tree.new
         (Edit.Add added.parent added.class added.width added.height)) }
-    ensures unchanged { OnErr result (tree.new ≡ tree.old) }
-    ensures consistent { IsConsistent tree.old → IsConsistent tree.new }
+    ensures unchanged { KeepsOnErr result tree.old tree.new }
+    ensures consistent { StaysConsistent tree.old tree.new }
     ensures asked { LeavesUnasked tree.old tree.new (Edit.Add added.parent added.class added.width added.height) }
-    ensures measures { tree.new.counts.measures ≡ tree.old.counts.measures }
+    ensures measures { KeepsMeasures tree.old tree.new }
 {
     note_tree(tree);
     let parent = added.parent;
@@ -105,9 +108,9 @@ fn remove(tree: &mut ViewTree, view: Key)
     requires live { IsLive tree.old view }
     ensures scene { outcome_of_remove (scene_of tree.old) (number_of tree.old view) ≡ Ok (scene_of tree.new, None) }
     ensures kept { KeepsViews tree.old tree.new (Edit.Remove view) }
-    ensures consistent { IsConsistent tree.old → IsConsistent tree.new }
+    ensures consistent { StaysConsistent tree.old tree.new }
     ensures asked { LeavesUnasked tree.old tree.new (Edit.Remove view) }
-    ensures measures { tree.new.counts.measures ≡ tree.old.counts.measures }
+    ensures measures { KeepsMeasures tree.old tree.new }
 {
     let parent = tree.parent(view);
     tree.detach(view);
@@ -121,11 +124,11 @@ fn act_on(tree: &mut ViewTree, view: Key, act: Act) -> Result<Option<u64>, EditF
     ensures applied { AppliesEdit (outcome_of_edit (scene_of tree.old) (ActOn (number_of tree.old view) act))
         (scene_of tree.new) result }
     ensures kept { OnOk result (KeepsViews tree.old tree.new (Edit.Act view act)) }
-    ensures unchanged { OnErr result (tree.new ≡ tree.old) }
+    ensures unchanged { KeepsOnErr result tree.old tree.new }
     ensures memory { result ≡ Err NoMemory → names_views act ≡ true }
-    ensures consistent { IsConsistent tree.old → IsConsistent tree.new }
+    ensures consistent { StaysConsistent tree.old tree.new }
     ensures asked { LeavesUnasked tree.old tree.new (Edit.Act view act) }
-    ensures measures { tree.new.counts.measures ≡ tree.old.counts.measures }
+    ensures measures { KeepsMeasures tree.old tree.new }
 {
     if !tree.class(view).takes(act) {
         return Err(EditFault::Refused(Refusal::plain(WRONG_CLASS)));
@@ -149,14 +152,14 @@ fn write(
     text: &str,
 ) -> Result<Option<u64>, EditFault>
     requires live { IsLive tree.old view }
-    requires short { length text.now < 2 ^ 31 }
+    requires short { IsShortText text.now }
     ensures applied { AppliesEdit (outcome_of_edit (scene_of tree.old)
         (SetText (number_of tree.old view) (chars text.now))) (scene_of tree.new) result }
     ensures kept { OnOk result (KeepsViews tree.old tree.new (Edit.Text view text.entry)) }
-    ensures unchanged { OnErr result (tree.new ≡ tree.old) }
-    ensures consistent { IsConsistent tree.old → IsConsistent tree.new }
+    ensures unchanged { KeepsOnErr result tree.old tree.new }
+    ensures consistent { StaysConsistent tree.old tree.new }
     ensures asked { LeavesUnasked tree.old tree.new (Edit.Text view text.entry) }
-    ensures measures { tree.new.counts.measures ≡ tree.old.counts.measures }
+    ensures measures { KeepsMeasures tree.old tree.new }
 {
     if !tree.class(view).has_text() {
         return Err(EditFault::Refused(Refusal::plain(WRONG_CLASS)));

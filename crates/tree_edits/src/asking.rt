@@ -8,7 +8,7 @@
 ghost use Rattle.std.specs.Prelude.{◌≡◌, ℕ, IfSome};
 ghost use Rattle.tree_edits.specs.Asking.{asked_by_act, listed, requests_layout};
 ghost use Rattle.view_tree.specs.tree.Requests.{requested};
-ghost use Rattle.view_tree.specs.Views.{IsLive, SameTree, held_of};
+ghost use Rattle.view_tree.specs.Views.{IsLive, SameTree, held_of, KeepsCounts};
 
 use view_model::Act;
 use view_tree::{Key, ViewTree};
@@ -26,7 +26,7 @@ pub fn request_by(tree: &mut ViewTree, view: Key, act: Act)
     ensures same { SameTree tree.old tree.new }
     ensures held { (key : ℕ)
         → held_of tree.new key ≡ requested (held_of tree.old) (asked_by_act view act) tree.old.tree key }
-    ensures counts { tree.new.counts ≡ tree.old.counts }
+    ensures counts { KeepsCounts tree.old tree.new }
 {
     if requests_layout(act) {
         tree.request(view);
@@ -38,7 +38,7 @@ pub fn request_at(tree: &mut ViewTree, view: Option<Key>)
     requires { IfSome view (λ view. IsLive tree.old view) }
     ensures same { SameTree tree.old tree.new }
     ensures held { (key : ℕ) → held_of tree.new key ≡ requested (held_of tree.old) (listed view) tree.old.tree key }
-    ensures counts { tree.new.counts ≡ tree.old.counts }
+    ensures counts { KeepsCounts tree.old tree.new }
 {
     if let Some(view) = view {
         tree.request(view);

@@ -81,7 +81,7 @@ fn set_flag(flag: Flag, on: bool, facts: &mut Facts)
 }
 
 /// Sets the value of a rule.
-fn set_rule(verb: u8, value: u32, rules: &mut Rules)
+pub fn set_rule(verb: u8, value: u32, rules: &mut Rules)
     requires { verb < 21 }
     ensures { rules.new ≡ record { values = slice_set rules.old.values verb value } }
 {

@@ -9,7 +9,7 @@ use Rattle.std.proofs.Math.Nat.{mul-add}
 use Rattle.geom_core.specs.declared.color.Argb.{Argb}
 use Rattle.geom_core.specs.declared.geometry.Rect.{Rect}
 use Rattle.pixel_raster.specs.Cuts.{cut_of, edge_within, from_zero}
-use Rattle.pixel_raster.specs.Raster.{Fills, Raster}
+use Rattle.pixel_raster.specs.Raster.{Fills, FillsUnlessClear, Raster}
 use Rattle.view_model.specs.declared.work.Work.{Work}
 use Rattle.seen_parts.specs.declared.frame.Canvas.{Canvas}
 use Rattle.tree_painter.specs.Areas.{area_between, column_at, edge_at, row_at, strip_between}
@@ -78,6 +78,12 @@ counted_fill most rect color old new before after fills count grew le =
       alike = λ p q. omega arith;
       measured = ap (λ (w : Work). w.measured) count;
     }
+
+-- a colour that covers nothing counts nothing, and any other one as a fill does
+pub counted_blend : (most : ℕ) (rect : Rect) (color : Argb) (old new : Raster) (before after : Work) → FillsUnlessClear rect color old new before after
+    → before.painted ≤ after.painted → area_in old rect ≤ most → IsCounted most old new before after
+counted_blend most rect color old new before after (inl (clear, same, idle)) grew le = rw (same, idle) (counted_none most old before)
+counted_blend most rect color old new before after (inr (shown, fills, count)) grew le = counted_fill most rect color old new before after fills count grew le
 
 pub counted_then : (one two most : ℕ) (a b c : Raster) (u v w : Work) → one + two ≤ most → IsCounted one a b u v → IsCounted two b c v w → IsCounted most a c u w
 counted_then one two most a b c u v w le x y = record {

@@ -8,7 +8,7 @@ use Rattle.geom_core.specs.Rects.{holds}
 use Rattle.geom_core.specs.declared.color.Argb.{Argb}
 use Rattle.geom_core.specs.declared.geometry.Rect.{Rect}
 use Rattle.geom_core.specs.declared.geometry.Size.{Size}
-use Rattle.pixel_raster.specs.Raster.{Fills, Raster, color_at}
+use Rattle.pixel_raster.specs.Raster.{Blends, Raster, color_at}
 use Rattle.view_model.specs.declared.facts.Facts.{Facts}
 use Rattle.view_model.specs.Facts.{padding_left, padding_right}
 use Rattle.view_model.specs.Geometry.{size_of_rect}
@@ -169,7 +169,7 @@ module _ (view : PlainView) (bounds : Rect) (canvas : Canvas) (children : Painte
   -- a view whose background, ink and children were painted where they are seen
   seen_by : (part : Rect) (shown : ℤ → ℤ → Bool) (start mid inked end : Raster)
       → ((x y : ℤ) → holds part x y ≡ (holds canvas.clip x y && frame_holds frame x y))
-      → Fills part view.facts.background start mid
+      → Blends part view.facts.background start mid
       → IsPainted (from_origin frame.left frame.top (own_ink view (frame_size frame))) part mid inked
       → ((x y : ℤ) → shown x y ≡ (holds part x y && reaches_children view.facts (frame_size frame) (x -ℤ frame.left) (y -ℤ frame.top)))
       → IsPaintedWhereShown (λ x y u. children (x -ℤ frame.left) (y -ℤ frame.top +ℤ view.facts.offset) u) shown inked end
@@ -203,7 +203,7 @@ module _ (view : PlainView) (bounds : Rect) (canvas : Canvas) (children : Painte
 
   pub seen : (part : Rect) (result : Option Canvas) (start mid inked end : Raster)
       → ((x y : ℤ) → holds part x y ≡ (holds canvas.clip x y && frame_holds frame x y))
-      → Fills part view.facts.background start mid
+      → Blends part view.facts.background start mid
       → IsPainted (from_origin frame.left frame.top (own_ink view (frame_size frame))) part mid inked
       → ((x y : ℤ) → canvas_holds result x y ≡ (holds part x y && reaches_children view.facts (frame_size frame) (x -ℤ frame.left) (y -ℤ frame.top)))
       → IfSome result (IsBelow frame view.facts.offset) → ChildrenPainted result children inked end
@@ -214,7 +214,7 @@ module _ (view : PlainView) (bounds : Rect) (canvas : Canvas) (children : Painte
   -- the same of a view without children
   pub seen_leaf : (part : Rect) (start mid inked : Raster)
       → ((x y : ℤ) → holds part x y ≡ (holds canvas.clip x y && frame_holds frame x y))
-      → Fills part view.facts.background start mid
+      → Blends part view.facts.background start mid
       → IsPainted (from_origin frame.left frame.top (own_ink view (frame_size frame))) part mid inked
       → PaintsNothing children
       → PaintedIn canvas (drawn_in (Some bounds) view children) start inked

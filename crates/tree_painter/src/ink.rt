@@ -1,7 +1,7 @@
 //! Ink in the columns of cells.
 ghost use Rattle.std.specs.Prelude.{◌≡◌, ◌<◌, ◌≤◌, ◌^◌, ◌+ℤ◌, ◌≤ℤ◌, ◌<ℤ◌, pos};
 ghost use Rattle.tree_painter.specs.Areas.{area_between, column_at, row_at};
-ghost use Rattle.seen_parts.specs.Frames.{IsCanvas};
+ghost use Rattle.seen_parts.specs.Frames.{IsCanvas, IsNearCanvas};
 ghost use Rattle.tree_painter.specs.Inks.{column_ink};
 ghost use Rattle.tree_painter.specs.Painted.{IsCounted, PaintedIn};
 
@@ -44,7 +44,7 @@ fn column_begin(canvas: Canvas) -> Length
 
 /// Its right edge, which is exclusive.
 fn column_end(canvas: Canvas) -> Length
-    requires { IsCanvas (2 ^ 37) canvas }
+    requires { IsNearCanvas canvas }
     ensures { result.pixels ≡ canvas.left +ℤ pos 1 }
 {
     Length {
@@ -61,7 +61,7 @@ fn row_begin(canvas: Canvas) -> Length
 
 /// Its bottom edge, which is exclusive.
 fn row_end(canvas: Canvas) -> Length
-    requires { IsCanvas (2 ^ 37) canvas }
+    requires { IsNearCanvas canvas }
     ensures { result.pixels ≡ canvas.top +ℤ pos 8 }
 {
     Length {
@@ -71,7 +71,7 @@ fn row_end(canvas: Canvas) -> Length
 
 /// The edges of the part of a column of a cell that is seen. Its corner is the origin of the canvas.
 fn column_edges(surface: &Surface, canvas: Canvas) -> Edges
-    requires { IsCanvas (2 ^ 37) canvas }
+    requires { IsNearCanvas canvas }
     ensures left { result.left ≡ column_at surface.now canvas.clip canvas.left }
     ensures right { result.right ≡ column_at surface.now canvas.clip (canvas.left +ℤ pos 1) }
     ensures across { result.right ≤ surface.now.width }
@@ -86,7 +86,7 @@ fn column_edges(surface: &Surface, canvas: Canvas) -> Edges
 
 /// The rows of the part of a cell that is seen. Its corner is the origin of the canvas.
 pub fn seen_rows(surface: &Surface, canvas: Canvas) -> Rows
-    requires { IsCanvas (2 ^ 37) canvas }
+    requires { IsNearCanvas canvas }
     ensures top { result.top ≡ row_at surface.now canvas.clip canvas.top }
     ensures bottom { result.bottom ≡ row_at surface.now canvas.clip (canvas.top +ℤ pos 8) }
     ensures down { result.bottom ≤ surface.now.height }

@@ -9,7 +9,7 @@ ghost use Rattle.view_model.specs.Painting.{Painter, drawn_in, is_drawn, reaches
 ghost use Rattle.view_model.specs.Forest.{Nothing};
 ghost use Rattle.view_tree.specs.Rows.{children_of_first, part_from};
 ghost use Rattle.view_tree.specs.Views.{IsLive, state_of, view_at};
-ghost use Rattle.seen_parts.specs.Frames.{IsBelow, IsCanvas, IsInReach, IsSeen, canvas_holds, frame_size};
+ghost use Rattle.seen_parts.specs.Frames.{IsBelow, IsCanvas, IsInReach, IsSeen, canvas_holds, frame_size, IsNearCanvas};
 ghost use Rattle.tree_painter.specs.Inks.{own_ink};
 ghost use Rattle.tree_painter.specs.Painted.{ChildrenPainted, IsCounted, IsPainted, PaintedIn, PaintsNothing, area_in, from_origin};
 
@@ -38,14 +38,14 @@ pub fn paint_own(
     work: &mut Work,
 ) -> Option<Canvas>
     requires live { IsLive tree.now view }
-    requires canvas { IsCanvas (2 ^ 37) canvas }
+    requires canvas { IsNearCanvas canvas }
     ensures painted { (children : Painter) (end : Raster)
         → (children_of_first (part_from view tree.now.tree) ≡ Nothing → PaintsNothing children)
         → ChildrenPainted result children surface.new end
         → PaintedIn canvas (drawn_in (state_of tree.now view).bounds (view_at tree.now view) children)
         surface.old end }
     ensures size { (surface.new.width ≡ surface.old.width) × (surface.new.height ≡ surface.old.height) }
-    ensures canvas { IfSome result (IsCanvas (2 ^ 37)) }
+    ensures canvas { IfSome result IsNearCanvas }
     ensures narrower { IfSome result (λ inner. area_in surface.old inner.clip ≤ area_in surface.old canvas.clip) }
     ensures counted { IsCounted (area_in surface.old canvas.clip + area_in surface.old canvas.clip) surface.old
         surface.new work.old work.new }
@@ -60,7 +60,7 @@ pub fn paint_own(
     if !is_drawn(tree.facts(view).visibility) {
         return None;
     }
-    surface.fill(part, tree.facts(view).background, work);
+    surface.blend(part, tree.facts(view).background, work);
     let seen = SeenFrame { frame, part };
     paint_ink(tree, view, seen, surface, work);
     if !has_children(tree, view) {
@@ -160,7 +160,7 @@ fn children_canvas(facts: &Facts, seen: SeenFrame) -> Option<Canvas>
         ≡ (holds seen.part x y && reaches_children facts.now (frame_size seen.frame)
         (x -ℤ seen.frame.left) (y -ℤ seen.frame.top)) }
     ensures below { IfSome result (IsBelow seen.frame facts.now.offset) }
-    ensures canvas { IfSome result (IsCanvas (2 ^ 37)) }
+    ensures canvas { IfSome result IsNearCanvas }
     ensures inside { IfSome result (λ inner. IsInside seen.part inner.clip) }
 {
     if !facts.clip {

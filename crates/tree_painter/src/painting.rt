@@ -4,7 +4,7 @@ ghost use Rattle.view_model.specs.Forest.{count_of};
 ghost use Rattle.view_model.specs.Painting.{painted, pixel_color};
 ghost use Rattle.view_tree.specs.Rows.{children_of_first, first_tree, part_from};
 ghost use Rattle.view_tree.specs.Views.{IsLive, geometry_of, held_of, plain_of};
-ghost use Rattle.seen_parts.specs.Frames.{IsCanvas};
+ghost use Rattle.seen_parts.specs.Frames.{IsNearCanvas};
 ghost use Rattle.seen_parts.specs.Meeting.{placed_rows};
 ghost use Rattle.tree_painter.specs.Painted.{IsCounted, IsPainted, PaintedIn, area_in, share_of};
 
@@ -39,7 +39,7 @@ pub fn paint(tree: &ViewTree, surface: &mut Surface, damage: Rect, work: &mut Wo
 #[cycle(paint)]
 fn paint_view(tree: &ViewTree, view: Key, surface: &mut Surface, canvas: Canvas, work: &mut Work)
     requires live { IsLive tree.now view }
-    requires canvas { IsCanvas (2 ^ 37) canvas }
+    requires canvas { IsNearCanvas canvas }
     ensures painted { PaintedIn canvas
         (painted (placed_rows (held_of tree.now) (first_tree (part_from view tree.now.tree)))) surface.old surface.new }
     ensures counted { IsCounted (share_of (area_in surface.old canvas.clip) (first_tree (part_from view tree.now.tree)))
@@ -60,7 +60,7 @@ fn paint_children(
     work: &mut Work,
 )
     requires live { IsLive tree.now view }
-    requires canvas { IsCanvas (2 ^ 37) canvas }
+    requires canvas { IsNearCanvas canvas }
     ensures painted { PaintedIn canvas (painted
         (placed_rows (held_of tree.now) (children_of_first (part_from view tree.now.tree)))) surface.old surface.new }
     ensures counted { IsCounted (share_of (area_in surface.old canvas.clip)

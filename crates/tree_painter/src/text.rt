@@ -2,9 +2,10 @@
 ghost use Rattle.std.specs.Prelude.{◌≡◌, pos, ◌+◌, ◌*◌, ◌<◌, ◌≤◌, ◌^◌, ◌+ℤ◌, ◌-ℤ◌, not, int_lt, length};
 ghost use Rattle.pixel_raster.specs.Cuts.{edge_within};
 ghost use Rattle.tree_painter.specs.Areas.{strip_between};
-ghost use Rattle.seen_parts.specs.Frames.{IsCanvas};
+ghost use Rattle.seen_parts.specs.Frames.{IsCanvas, IsNearerCanvas};
 ghost use Rattle.tree_painter.specs.Inks.{line_ink, text_ink};
 ghost use Rattle.tree_painter.specs.Painted.{IsCounted, PaintedIn, area_in};
+ghost use Rattle.view_model.specs.Texts.{IsShortText};
 
 use crate::edges::{Length, from_zero};
 use crate::ink::{Place, ink_column, seen_rows};
@@ -38,7 +39,7 @@ pub fn ink_text(
     work: &mut Work,
 )
     requires cells { 0 < style.cells }
-    requires few { length text.now < 2 ^ 31 }
+    requires few { IsShortText text.now }
     requires near { IsCanvas (2 ^ 35) canvas }
     ensures painted { PaintedIn canvas (text_ink style.ink style.cells text.now) surface.old surface.new }
     ensures counted { IsCounted (area_in surface.old canvas.clip) surface.old surface.new work.old work.new }
@@ -63,7 +64,7 @@ fn begins_above(canvas: Canvas) -> bool
 
 /// The canvas of the next line of a text.
 fn below(canvas: Canvas) -> Canvas
-    requires { IsCanvas (2 ^ 36) canvas }
+    requires { IsNearerCanvas canvas }
     ensures { result ≡ record canvas { top = canvas.top +ℤ pos 8 } }
 {
     Canvas {
@@ -75,7 +76,7 @@ fn below(canvas: Canvas) -> Canvas
 /// Blends ink over the set pixels of one line. Its corner is the origin of the canvas.
 fn ink_line(line: &[char], surface: &mut Surface, canvas: Canvas, ink: Argb, work: &mut Work)
     requires few { length line.now < 2 ^ 31 }
-    requires near { IsCanvas (2 ^ 36) canvas }
+    requires near { IsNearerCanvas canvas }
     ensures painted { PaintedIn canvas (line_ink ink line.now 0) surface.old surface.new }
     ensures counted { IsCounted (strip_between surface.old canvas.clip canvas.top (canvas.top +ℤ pos 8)) surface.old
         surface.new work.old work.new }
@@ -100,7 +101,7 @@ fn ink_line(line: &[char], surface: &mut Surface, canvas: Canvas, ink: Argb, wor
 
 /// Whether a line at the origin of a canvas ends above its clip.
 fn ends_above(canvas: Canvas) -> bool
-    requires { IsCanvas (2 ^ 36) canvas }
+    requires { IsNearerCanvas canvas }
     ensures { result ≡ not (int_lt canvas.clip.top (canvas.top +ℤ pos 8)) }
 {
     below(canvas).top <= i64::from(canvas.clip.top)
@@ -108,7 +109,7 @@ fn ends_above(canvas: Canvas) -> bool
 
 /// How far the clip of a canvas begins right of its origin.
 fn clip_begin(canvas: Canvas) -> Length
-    requires { IsCanvas (2 ^ 36) canvas }
+    requires { IsNearerCanvas canvas }
     ensures { result.pixels ≡ canvas.clip.left -ℤ canvas.left }
 {
     Length {
@@ -118,7 +119,7 @@ fn clip_begin(canvas: Canvas) -> Length
 
 /// How far it ends right of its origin.
 fn clip_end(canvas: Canvas) -> Length
-    requires { IsCanvas (2 ^ 36) canvas }
+    requires { IsNearerCanvas canvas }
     ensures { result.pixels ≡ canvas.clip.right -ℤ canvas.left }
 {
     Length {
@@ -129,7 +130,7 @@ fn clip_end(canvas: Canvas) -> Length
 /// Which of the first columns of pixels of a canvas lie in its clip.
 #[tactic(auto, unfolding(pixel_raster::specs::Cuts::edge_within))]
 fn seen_columns(canvas: Canvas, columns: usize) -> Columns
-    requires { IsCanvas (2 ^ 36) canvas }
+    requires { IsNearerCanvas canvas }
     ensures from { result.from ≡ edge_within columns (canvas.clip.left -ℤ canvas.left) }
     ensures to { result.to ≡ edge_within columns (canvas.clip.right -ℤ canvas.left) }
     ensures most { result.to ≤ columns }
@@ -143,7 +144,7 @@ fn seen_columns(canvas: Canvas, columns: usize) -> Columns
 /// The canvas of a column of pixels.
 fn right_by(canvas: Canvas, columns: usize) -> Canvas
     requires few { columns < 2 ^ 34 }
-    requires near { IsCanvas (2 ^ 36) canvas }
+    requires near { IsNearerCanvas canvas }
     ensures value { result ≡ record canvas { left = canvas.left +ℤ pos columns } }
     ensures near { IsCanvas (2 ^ 37) result }
 {

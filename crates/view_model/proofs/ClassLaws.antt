@@ -1,18 +1,41 @@
--- What ranges of offsets and places of children depend on, whatever the class.
-use Rattle.std.proofs.Common.{◌≡◌, ℤ, true, false, Option, Some, None, List, refl, ap, inl, inr}
+-- What names a class, and what the measuring, the range of offsets and the places of children depend on, whatever the
+-- class.
+use Rattle.std.proofs.Common.{◌≡◌, ℕ, ℤ, true, false, Option, Some, None, List, refl, ap, inl, inr}
 use Rattle.std.proofs.lemmas.Bool.{cases_Bool}
 use Rattle.std.specs.Prelude.{if◌then◌else◌, ◌-ℤ◌}
 use Rattle.geom_core.specs.Limits.{clamp_size}
 use Rattle.geom_core.specs.declared.geometry.Rect.{Rect}
+use Rattle.view_model.proofs.WordLaws.{named_is}
 use Rattle.view_model.specs.declared.facts.Facts.{Facts}
 use Rattle.view_model.specs.declared.class.Class.{Class}
-use Rattle.view_model.specs.declared.class.Class.TheVariants.{RelativeLayout}
-use Rattle.view_model.specs.Classes.{is_relative, scrolls}
+use Rattle.view_model.specs.declared.class.Class.TheVariants.{View, FrameLayout, LinearLayout, ScrollView, RelativeLayout}
+use Rattle.view_model.specs.Classes.{class_named, class_word, classes, is_group, is_relative, scrolls}
 use Rattle.view_model.specs.Facts.{layout_facts, padding_down}
 use Rattle.view_model.specs.Geometry.{size_of_rect}
-use Rattle.view_model.specs.Layout.{Spot, place_by}
-use Rattle.view_model.specs.Measuring.{Measured}
+use Rattle.view_model.specs.Layout.{Spot, manner_by, place_by}
+use Rattle.view_model.specs.Leaf.{leaf_rule, leaf_size}
+use Rattle.view_model.specs.Measuring.{ByRule, Measured, Specs}
 use Rattle.view_model.specs.Offsets.{range_by}
+use Rattle.view_model.specs.PlainTree.{PlainView}
+
+-- the word of a class names it, and no other word does
+pub class_named-word : (class : Class) → class_named (class_word class) ≡ Some class
+unfolding class_named
+class_named-word View = refl
+class_named-word _ = refl
+
+pub class_named-is : (word : List ℕ) (class : Class) → class_named word ≡ Some class → word ≡ class_word class
+unfolding class_named
+class_named-is word class is = named_is class_word classes word class is
+
+-- a view of a class without children has its size at once
+pub manner_leaf : (class : Class) (view : PlainView) (specs : Specs) → is_group class ≡ false
+    → manner_by class view specs ≡ ByRule (leaf_rule (leaf_size class view specs))
+manner_leaf FrameLayout view specs alone = absurd (cc)
+manner_leaf LinearLayout view specs alone = absurd (cc)
+manner_leaf ScrollView view specs alone = absurd (cc)
+manner_leaf RelativeLayout view specs alone = absurd (cc)
+manner_leaf _ view specs alone = refl
 
 -- of a view's facts a range depends on its padding alone
 pub range_padded : (class : Class) (one other : Facts) (rect child : Option Rect) → padding_down one ≡ padding_down other

@@ -1,8 +1,25 @@
--- What a view has by its class.
-use Rattle.std.specs.Prelude.{Bool, true, false}
+-- The words of classes, and what a view has by its class.
+use Rattle.std.specs.Prelude.{ℕ, Bool, true, false, List, [], ◌∷◌, Option, codes}
 use Rattle.view_model.specs.declared.class.Class.{Class}
 use Rattle.view_model.specs.declared.class.Class.TheVariants.{View, TextView, FrameLayout, LinearLayout, ScrollView}
 use Rattle.view_model.specs.declared.class.Class.TheVariants.{RelativeLayout}
+use Rattle.view_model.specs.Words.{named}
+
+-- the word of a class, in scripts and in layout files
+abbrev pub class_word : Class → List ℕ
+class_word View = codes "View"
+class_word TextView = codes "TextView"
+class_word FrameLayout = codes "FrameLayout"
+class_word LinearLayout = codes "LinearLayout"
+class_word RelativeLayout = codes "RelativeLayout"
+class_word ScrollView = codes "ScrollView"
+
+abbrev pub classes : List Class
+classes = View ∷ TextView ∷ FrameLayout ∷ LinearLayout ∷ RelativeLayout ∷ ScrollView ∷ []
+
+-- the class that has this word, if there is one
+unfoldable pub class_named : List ℕ → Option Class
+class_named word = named class_word classes word
 
 -- whether a view of this class may have children
 abbrev pub is_group : Class → Bool

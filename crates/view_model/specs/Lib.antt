@@ -8,6 +8,7 @@ pub mod Directed
 pub mod Direction
 pub mod Facets
 pub mod Facts
+pub mod Failing
 pub mod Font
 pub mod Forest
 pub mod FrameLayout
@@ -25,6 +26,7 @@ pub mod Orders
 pub mod Painting
 pub mod Placing
 pub mod PlainTree
+pub mod RefusalNumbers
 pub mod Refusals
 pub mod RelativeCourse
 pub mod RelativeLayout
@@ -32,6 +34,10 @@ pub mod Resources
 pub mod ScrollView
 pub mod SiblingRules
 pub mod Sprouts
+pub mod Sums
 pub mod TextView
+pub mod Texts
 pub mod Verbs
 pub mod Visible
+pub mod Words
+pub mod Works

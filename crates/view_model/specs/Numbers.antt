@@ -61,6 +61,10 @@ new_ink = 0xffff_ffff
 abbrev pub max_file : ℕ
 max_file = 2 ^ 20
 
+-- texts have fewer characters than this
+abbrev pub text_end : ℕ
+text_end = 2 ^ 31
+
 -- the width and the height of a character's cell, in pixels
 abbrev pub cell_width : ℕ
 cell_width = 6
@@ -71,6 +75,10 @@ cell_height = 8
 -- the first character of the font
 abbrev pub first_glyph : ℕ
 first_glyph = 32
+
+-- the number of the last refusal; that of the first one is 1
+abbrev pub last_refusal : ℕ
+last_refusal = 43
 
 -- the refusal of an attribute that names a resource which is not defined
 abbrev pub unresolved : ℕ

@@ -1,9 +1,10 @@
 //! What groups compute on one axis while they measure. Lengths are in pixels.
-ghost use Rattle.std.specs.Prelude.{◌≡◌, negsuc, pos, ◌+ℤ◌, ◌≤ℤ◌};
+ghost use Rattle.std.specs.Prelude.{◌≡◌, ◌+ℤ◌};
 ghost use Rattle.std.specs.Int.{int_max};
 ghost use Rattle.geom_core.specs.Limits.{IsSide};
 ghost use Rattle.geom_core.specs.Spec.{child_spec_of, resolve_of};
 ghost use Rattle.view_model.specs.FrameLayout.{is_exactly};
+ghost use Rattle.view_model.specs.Sums.{IsNoLessThanTwo, IsNoMoreThanTwo};
 
 use geom_core::{Mode, Spec, child_spec, resolve};
 
@@ -19,10 +20,10 @@ pub fn is_exact(spec: Spec) -> bool
 
 /// The spec of a child of this dimension on an axis of which the group's padding and the child's margins take a part.
 pub fn child_spec_within(spec: Spec, padding: i64, margins: i64, dim: i32) -> Spec
-    requires padding_low { negsuc 4294967295 ≤ℤ padding }
-    requires padding_high { padding ≤ℤ pos 4294967294 }
-    requires margins_low { negsuc 4294967295 ≤ℤ margins }
-    requires margins_high { margins ≤ℤ pos 4294967294 }
+    requires padding_low { IsNoLessThanTwo padding }
+    requires padding_high { IsNoMoreThanTwo padding }
+    requires margins_low { IsNoLessThanTwo margins }
+    requires margins_high { IsNoMoreThanTwo margins }
     ensures { result ≡ child_spec_of spec (padding +ℤ margins) dim }
 {
     child_spec(spec, padding + margins, dim)
@@ -30,8 +31,8 @@ pub fn child_spec_within(spec: Spec, padding: i64, margins: i64, dim: i32) -> Sp
 
 /// The greater of what was needed so far and what a child of this size needs with its margins.
 pub fn greater_need(most: i64, size: i32, margins: i64) -> i64
-    requires low { negsuc 4294967295 ≤ℤ margins }
-    requires high { margins ≤ℤ pos 4294967294 }
+    requires low { IsNoLessThanTwo margins }
+    requires high { IsNoMoreThanTwo margins }
     ensures { result ≡ int_max most (size +ℤ margins) }
 {
     most.max(i64::from(size) + margins)

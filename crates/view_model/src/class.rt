@@ -1,5 +1,7 @@
 //! The class of a view.
 
+use crate::words::is;
+
 /// The class of a view, by which it measures and lays out its children. A class is added here together with its rules.
 #[derive(Clone, Copy, PartialEq, Eq)]
 pub enum Class {
@@ -19,7 +21,24 @@ pub enum Class {
 
 impl Class {
     ghost use Rattle.std.specs.Prelude.{◌≡◌};
-    ghost use Rattle.view_model.specs.Classes.{has_text, is_group, is_relative, lays_in_line, scrolls, takes_one_child};
+    ghost use Rattle.view_model.specs.Classes.{class_named, has_text, is_group, is_relative, lays_in_line, scrolls, takes_one_child};
+
+    /// The class that has this word, in scripts and in layout files, if there is one.
+    #[inline(always)]
+    #[tactic(auto, unfolding(crate::specs::Classes::class_named))]
+    pub fn named(word: &[u8]) -> Option<Class>
+        ensures { result ≡ class_named word.now }
+    {
+        match word {
+            _ if is(word, b"View") => Some(Class::View),
+            _ if is(word, b"TextView") => Some(Class::TextView),
+            _ if is(word, b"FrameLayout") => Some(Class::FrameLayout),
+            _ if is(word, b"LinearLayout") => Some(Class::LinearLayout),
+            _ if is(word, b"RelativeLayout") => Some(Class::RelativeLayout),
+            _ if is(word, b"ScrollView") => Some(Class::ScrollView),
+            _ => None,
+        }
+    }
 
     /// Whether a view of this class may have children.
     pub fn is_group(self) -> bool

@@ -3,7 +3,8 @@
 //! `Facts` has the fields of all classes, used by a class or not, so that a line that sets one more thing changes no
 //! caller. Margins and weights may be whatever their types hold: sums of 4096 lengths fit 64 bits, and a weight times
 //! what is left of a line uses 128.
-ghost use Rattle.std.specs.Prelude.{◌≡◌, false, negsuc, pos, ◌≤ℤ◌};
+ghost use Rattle.std.specs.Prelude.{◌≡◌, false};
+ghost use Rattle.view_model.specs.Sums.{IsNoLessThanTwo, IsNoMoreThanTwo};
 
 use crate::answer::Answer;
 use crate::placing::{Across, Direction, Down, Gravity, left_of_two, right_of_two};
@@ -242,8 +243,8 @@ impl Facts {
     #[inline(always)]
     pub fn margins_across(&self) -> i64
         ensures value { result ≡ margins_across self.now }
-        ensures low { negsuc 4294967295 ≤ℤ result }
-        ensures high { result ≤ℤ pos 4294967294 }
+        ensures low { IsNoLessThanTwo result }
+        ensures high { IsNoMoreThanTwo result }
     {
         i64::from(self.margin_left()) + i64::from(self.margin_right())
     }
@@ -251,8 +252,8 @@ impl Facts {
     /// Both margins from top to bottom.
     pub fn margins_down(&self) -> i64
         ensures value { result ≡ margins_down self.now }
-        ensures low { negsuc 4294967295 ≤ℤ result }
-        ensures high { result ≤ℤ pos 4294967294 }
+        ensures low { IsNoLessThanTwo result }
+        ensures high { IsNoMoreThanTwo result }
     {
         i64::from(self.margins.top) + i64::from(self.margins.bottom)
     }
@@ -261,8 +262,8 @@ impl Facts {
     #[inline(always)]
     pub fn padding_across(&self) -> i64
         ensures value { result ≡ padding_across self.now }
-        ensures low { negsuc 4294967295 ≤ℤ result }
-        ensures high { result ≤ℤ pos 4294967294 }
+        ensures low { IsNoLessThanTwo result }
+        ensures high { IsNoMoreThanTwo result }
     {
         i64::from(self.padding_left()) + i64::from(self.padding_right())
     }
@@ -270,8 +271,8 @@ impl Facts {
     /// Both paddings from top to bottom.
     pub fn padding_down(&self) -> i64
         ensures value { result ≡ padding_down self.now }
-        ensures low { negsuc 4294967295 ≤ℤ result }
-        ensures high { result ≤ℤ pos 4294967294 }
+        ensures low { IsNoLessThanTwo result }
+        ensures high { IsNoMoreThanTwo result }
     {
         i64::from(self.padding.top) + i64::from(self.padding.bottom)
     }

@@ -10,7 +10,7 @@ use crate::verbs::{
     CENTER_H, CENTER_V, END_OF, LEFT_OF, PARENT_BOTTOM, PARENT_END, PARENT_LEFT, PARENT_RIGHT,
     PARENT_START, PARENT_TOP, RIGHT_OF, START_OF,
 };
-use geom_core::{Size, Spec};
+use geom_core::Spec;
 
 /// An axis of a layout. Its near side is left or top, its far side right or bottom.
 #[derive(Clone, Copy)]
@@ -96,7 +96,7 @@ pub struct ChildAxis {
 }
 
 impl Axis {
-    ghost use Rattle.view_model.specs.RelativeLayout.{group_on, far_margin, length_on, near_margin, child_on};
+    ghost use Rattle.view_model.specs.RelativeLayout.{group_on, far_margin, near_margin, child_on};
 
     /// A group with these facts under these specs.
     pub fn group(self, own: &Facts, ws: Spec, hs: Spec) -> GroupAxis
@@ -154,16 +154,6 @@ impl Axis {
         match self {
             Axis::Horizontal => (kid.margin_left(), kid.margin_right()),
             Axis::Vertical => (kid.margins.top, kid.margins.bottom),
-        }
-    }
-
-    /// The width or the height of a size.
-    pub fn length(self, size: Size) -> i32
-        ensures { result ≡ length_on self size }
-    {
-        match self {
-            Axis::Horizontal => size.w,
-            Axis::Vertical => size.h,
         }
     }
 }

@@ -1,5 +1,6 @@
 //! The text of a view.
 ghost use Rattle.std.specs.Prelude.{◌≡◌, ◌^◌, ◌<◌, [], IfOk, length, slice_get, encode_utf8_all};
+ghost use Rattle.view_model.specs.Texts.{IsShortText};
 
 use std::alloc::{AllocError, Global};
 use std::marker::Model;
@@ -32,7 +33,7 @@ impl Text {
 
     /// The characters of a text.
     pub fn new(alloc: Global, text: &str) -> Result<Text, AllocError>
-        requires { length text.now < 2 ^ 31 }
+        requires { IsShortText text.now }
         ensures { IfOk result (λ t. encode_utf8_all t ≡ text.now) }
     {
         let characters = text.chars().collect(alloc)?;
@@ -41,7 +42,7 @@ impl Text {
 
     /// The text of these characters.
     pub fn from_characters(characters: Vec<char>) -> Text
-        requires { length characters.items < 2 ^ 31 }
+        requires { IsShortText characters.items }
         ensures { result ≡ characters.items }
     {
         Text { characters }
@@ -58,7 +59,7 @@ impl Text {
     /// Its characters, in order.
     pub fn characters(&self) -> &[char]
         ensures value { result.now ≡ self.now }
-        ensures few { length result.now < 2 ^ 31 }
+        ensures few { IsShortText result.now }
     {
         self.characters.as_slice()
     }

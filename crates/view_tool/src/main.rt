@@ -14,8 +14,8 @@ use std::env;
 use std::io::{self, ErrorKind};
 use std::process::ExitCode;
 use tool_io::{FolderShelf, StdinSource, StdoutSink};
+use tool_replies::status::{NO_MEMORY, USAGE};
 use view_model::Work;
-use whole_tool::status::{NO_MEMORY, USAGE};
 use whole_tool::tool;
 
 fn main(rt: HostRuntime) -> ExitCode {

@@ -11,7 +11,7 @@ pub mod LastLaws
 pub mod LatestLaws
 pub mod ListLaws
 pub mod OnlyLayouts
-pub mod PlaceLaws
+pub mod IndexLaws
 pub mod RowLaws
 pub mod StayLaws
 pub mod ReportedParents

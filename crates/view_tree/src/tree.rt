@@ -21,8 +21,8 @@ mod setters;
 mod staying;
 
 use crate::counts::Counts;
-use crate::groups::Group;
 use crate::node::Node;
+use crate::sibling_orders::SiblingOrders;
 use crate::table::ids::Holders;
 use indexmap::IndexMap;
 use slab::Slab;
@@ -41,7 +41,7 @@ pub struct ViewTree {
     /// The views of each id that some view has.
     ids: IndexMap<u32, Holders>,
     /// What is kept of the children of each relative layout, by the number of that.
-    groups: IndexMap<u64, Group>,
+    groups: IndexMap<u64, SiblingOrders>,
     root: Option<usize>,
     next: u64,
     counts: Counts,
@@ -85,7 +85,7 @@ impl ViewTree {
     pub fn root(&self) -> Option<Key>
         ensures key { result ≡ first_key self.now.tree }
         ensures part { rest_from result self.now.tree ≡ self.now.tree }
-        ensures live { IfSome result (λ root. IsLive self.now root) }
+        ensures live { IfSome result (IsLive self.now) }
         ensures is_tree { IsTree self.now }
     {
         self.root

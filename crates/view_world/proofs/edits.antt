@@ -9,3 +9,4 @@ pub mod InflatingLaws
 pub mod LeaveLaws
 pub mod LeaveSound
 pub mod NamedLaws
+pub mod PlainLaws

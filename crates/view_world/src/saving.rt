@@ -9,10 +9,11 @@ ghost use Rattle.saved_state.specs.State.{decoded};
 ghost use Rattle.seen_edits.specs.Scrolled.{GivenIn};
 ghost use Rattle.seen_edits.specs.Shown.{KeepsShown};
 ghost use Rattle.view_model.specs.Forest.{rows};
-ghost use Rattle.kept_views.specs.Kept.{IsConsistent};
-ghost use Rattle.view_tree.specs.Views.{IsTree, geometry_of, held_of, plain_of};
+ghost use Rattle.kept_views.specs.Kept.{StaysConsistent};
+ghost use Rattle.view_tree.specs.Views.{IsTree, held_of, plain_of, KeepsCounts, KeepsGeometry};
 ghost use Rattle.world_replies.specs.Replies.{state_bytes};
 ghost use Rattle.view_world.specs.saving.Stated.{ReadsState, TakesUp};
+ghost use Rattle.view_model.specs.Failing.{KeepsOnErr};
 
 use damage_rect::Damage;
 use geom_core::Size;
@@ -57,15 +58,15 @@ pub fn take_up(
         → LiesIn damage.new.rect box }
     ensures taken { TakesUp (is_for_other_class states.now (rows (plain_of tree.old))) result }
     ensures plain { OnOk result (plain_of tree.new ≡ restored states.now (plain_of tree.old)) }
-    ensures unchanged { OnErr result (tree.new ≡ tree.old) }
+    ensures unchanged { KeepsOnErr result tree.old tree.new }
     ensures restates { OnOk result (Restates states.now tree.old tree.new) }
     ensures is_tree { IsTree tree.new }
-    ensures counts { tree.new.counts ≡ tree.old.counts }
+    ensures counts { KeepsCounts tree.old tree.new }
     ensures asked { (key : ℕ)
         → on_paths key (set_by states.now tree.old.tree) tree.old.tree ≡ false
         → held_of tree.new key ≡ held_of tree.old key }
-    ensures geometry { geometry_of tree.new ≡ geometry_of tree.old }
-    ensures consistent { IsConsistent tree.old → IsConsistent tree.new }
+    ensures geometry { KeepsGeometry tree.old tree.new }
+    ensures consistent { StaysConsistent tree.old tree.new }
     ensures fits { OffsetsFit (plain_of tree.old) → OffsetsFit (plain_of tree.new) }
 {
     restore_views(alloc, tree, window, states, damage)?;

@@ -1,5 +1,5 @@
 //! The screen of a script: what its lines so far have made, and what each line does to it.
-ghost use Rattle.std.specs.Prelude.{pos, ◌≡◌, ◌≢◌, ◌⊎◌, true, ◌+◌, ◌-◌, ◌≤◌, ◌<◌, ◌^◌, [], length, Option, None, Some, Err, OnErr, OnOk, IfOk};
+ghost use Rattle.std.specs.Prelude.{pos, ◌≡◌, ◌≢◌, true, ◌+◌, ◌-◌, ◌≤◌, ◌<◌, ◌^◌, [], Option, None, Some, Err, OnErr, OnOk, IfOk};
 ghost use Rattle.script_lines.specs.commands.PlainCommands.{Frame, Inflate, Add, Remove, Act, SetText, Bounds, Pixels, Digest, given_text_length, plain_command, plain_given, text_length};
 ghost use Rattle.script_lines.specs.reading.Changes.{IsActInBounds};
 ghost use Rattle.script_lines.specs.reading.Commands.{IsInBounds};
@@ -9,14 +9,14 @@ ghost use Rattle.script_lines.specs.Numbers.{max_window};
 ghost use Rattle.tool_io.specs.Fetched.{Files};
 ghost use Rattle.tree_edits.specs.Applied.{IsEdit, MayWantMemory as EditMayWantMemory, numbered};
 ghost use Rattle.tree_edits.specs.Editing.{names_views};
-ghost use Rattle.view_model.specs.Numbers.{max_views, numbers_end};
+ghost use Rattle.view_model.specs.Numbers.{max_views};
 ghost use Rattle.view_model.specs.Forest.{Nothing};
 ghost use Rattle.view_model.specs.Resources.{definition_refusal_of};
 ghost use Rattle.world_parts.specs.World.{World as PlainWorld};
-ghost use Rattle.view_tree.specs.Views.{plain_of};
+ghost use Rattle.view_tree.specs.Views.{plain_of, KeepsNext};
 ghost use Rattle.view_world.specs.world.AfterLine.{Reports};
 ghost use Rattle.world_parts.specs.Shelves.{AreAtHand, AsksShelf};
-ghost use Rattle.view_world.specs.world.Carried.{IsDone, MayWantMemory, WritesReply, faults_after_line};
+ghost use Rattle.view_world.specs.world.Carried.{IsDone, MayWantMemory, WritesReply, IsDoneOrKeepsBoth, CountsSink};
 ghost use Rattle.view_world.specs.screen.Changed.{CarriesOut, Inflates, LeavesViews, Pictured};
 ghost use Rattle.view_world.specs.frames.Counting.{RisesWithin, paint_bound};
 ghost use Rattle.world_parts.specs.Inflating.{asked_file, asked_for, inflation_of};
@@ -31,16 +31,22 @@ ghost use Rattle.view_world.specs.screen.KeyedScreen.{new_screen, window_of, wor
 ghost use Rattle.view_world.specs.world.Marks.{has_settled};
 ghost use Rattle.view_world.specs.frames.Resting.{IsFrameDone, IsIdle, IsShown, KeepsEdit, KeepsLine};
 ghost use Rattle.view_world.specs.frames.Works.{WorksOn};
+ghost use Rattle.view_model.specs.Failing.{KeepsOnErr};
+ghost use Rattle.view_model.specs.Texts.{IsShortText};
+ghost use Rattle.view_world.specs.screen.Numbering.{HasNumber, NumbersOne};
+ghost use Rattle.world_parts.specs.Faults.{HasMemory};
 
 mod grow;
 mod hook;
 mod leave;
+mod plain;
 mod readers;
 mod respond;
 pub mod stage;
 mod state;
 mod touch;
 
+use crate::screen::plain::is_plain;
 use crate::screen::respond::respond;
 use crate::screen::stage::Stage;
 use arrayvec::ArrayVec;
@@ -139,6 +145,7 @@ impl Screen {
 
     /// Carries out a command, and then writes its text. If it is refused, runs out of memory, or a fetch fails, nothing
     /// has changed.
+    #[inline(always)]
     pub fn line<K: Sink, F: Shelf>(
         &mut self,
         alloc: Global,
@@ -147,14 +154,14 @@ impl Screen {
         sink: &mut K,
         work: &mut Work,
     ) -> Result<(), StepFault>
-        requires numbers { self.old.views.next < numbers_end }
+        requires numbers { HasNumber self.old }
         requires bounds { IsInBounds (plain_command command.now) }
         requires short { text_length (plain_command command.now) < 2 ^ 31 }
         ensures carried { (files : Files)
             → AreAtHand files (F.files shelf.old) (asked_file (world_of self.old) (plain_command command.now))
             → WritesReply (step files (world_of self.old) (plain_command command.now)) (world_of self.new)
             (K.state sink.old) (K.state sink.new) result }
-        ensures unchanged { IsDone result ⊎ ((self.new ≡ self.old) × (sink.new ≡ sink.old)) }
+        ensures unchanged { IsDoneOrKeepsBoth result self.old self.new sink.old sink.new }
         ensures reports { IsDone result → Reports self.new (K.state sink.old) (K.state sink.new) result }
         ensures silent { (files : Files) (world : PlainWorld)
             → AreAtHand files (F.files shelf.old) (asked_file (world_of self.old) (plain_command command.now))
@@ -165,11 +172,15 @@ impl Screen {
         ensures memory { result ≡ Err StepFault.NoMemory → MayWantMemory (plain_command command.now) }
         ensures numbers { self.new.views.next ≤ self.old.views.next + max_views }
         ensures works { WorksOn self.old self.new (plain_command command.now) result work.old work.new }
-        ensures sink_failed { (K.state sink.new).faults ≡ faults_after_line result (K.state sink.old).faults }
+        ensures sink_failed { CountsSink (K.state sink.old) (K.state sink.new) result }
     {
-        match inflation_of(command) {
-            Some((name, into)) => self.inflate_line(alloc, name, into, shelf, sink),
-            None => self.command(alloc, command, sink, work),
+        if let Some((name, into)) = inflation_of(command) {
+            return self.inflate_line(alloc, name, into, shelf, sink);
+        }
+        match self.carry_out(alloc, command, work) {
+            Ok(Response::Nothing) => Ok(()),
+            Ok(response) => self.report(response, sink),
+            Err(fault) => Err(fault),
         }
     }
 
@@ -197,36 +208,8 @@ impl Screen {
         has_any_scrolled(self.log.entries())
     }
 
-    /// Carries out a command that asks for no file, and then writes its text.
-    fn command<K: Sink>(
-        &mut self,
-        alloc: Global,
-        command: &Command<'_>,
-        sink: &mut K,
-        work: &mut Work,
-    ) -> Result<(), StepFault>
-        requires alone { inflation_of (plain_command command.now) ≡ None }
-        requires numbers { self.old.views.next < numbers_end }
-        requires bounds { IsInBounds (plain_command command.now) }
-        requires short { text_length (plain_command command.now) < 2 ^ 31 }
-        ensures carried { WritesReply (step [] (world_of self.old) (plain_command command.now)) (world_of self.new)
-            (K.state sink.old) (K.state sink.new) result }
-        ensures unchanged { IsDone result ⊎ ((self.new ≡ self.old) × (sink.new ≡ sink.old)) }
-        ensures reports { IsDone result → Reports self.new (K.state sink.old) (K.state sink.new) result }
-        ensures silent { (world : PlainWorld)
-            → step [] (world_of self.old) (plain_command command.now) ≡ Done world []
-            → sink.new ≡ sink.old }
-        ensures memory { result ≡ Err StepFault.NoMemory → MayWantMemory (plain_command command.now) }
-        ensures numbers { self.new.views.next ≤ self.old.views.next + 1 }
-        ensures works { WorksOn self.old self.new (plain_command command.now) result work.old work.new }
-        ensures sink_failed { (K.state sink.new).faults ≡ faults_after_line result (K.state sink.old).faults }
-        ensures no_shelf { result ≢ Err StepFault.Shelf }
-    {
-        let response = self.carry_out(alloc, command, work)?;
-        self.report(response, sink)
-    }
-
     /// Adds the views of a file, and then writes which they are.
+    #[inline(never)]
     fn inflate_line<K: Sink, F: Shelf>(
         &mut self,
         alloc: Global,
@@ -235,24 +218,25 @@ impl Screen {
         shelf: &mut F,
         sink: &mut K,
     ) -> Result<(), StepFault>
-        requires numbers { self.old.views.next < numbers_end }
+        requires numbers { HasNumber self.old }
         ensures carried { (files : Files)
             → AreAtHand files (F.files shelf.old) (asked_for (plain_of self.old.views) (Some (name.now, into)))
             → WritesReply (inflation files (world_of self.old) name.now into) (world_of self.new)
             (K.state sink.old) (K.state sink.new) result }
-        ensures unchanged { IsDone result ⊎ ((self.new ≡ self.old) × (sink.new ≡ sink.old)) }
+        ensures unchanged { IsDoneOrKeepsBoth result self.old self.new sink.old sink.new }
         ensures reports { IsDone result → Reports self.new (K.state sink.old) (K.state sink.new) result }
         ensures shelf { AsksShelf F.files F.fetches F.faults
             (asked_for (plain_of self.old.views) (Some (name.now, into))) result shelf.old shelf.new }
         ensures numbers { self.new.views.next ≤ self.old.views.next + max_views }
         ensures keeps { IsDone result → KeepsLine (Inflate name.now into) self.old self.new }
-        ensures sink_failed { (K.state sink.new).faults ≡ faults_after_line result (K.state sink.old).faults }
+        ensures sink_failed { CountsSink (K.state sink.old) (K.state sink.new) result }
     {
         let response = self.inflate(alloc, name, into, shelf)?;
         self.report(response, sink)
     }
 
     /// Writes the text of a line that was carried out.
+    #[inline(never)]
     fn report<K: Sink>(&mut self, response: Response, sink: &mut K) -> Result<(), StepFault>
         requires { IsReportable self.old.views self.old.surface self.old.reported self.old.saved response }
         ensures carried { WritesReply (Done (world_of self.old) (response_text self.old.views self.old.surface
@@ -262,7 +246,7 @@ impl Screen {
             → sink.new ≡ sink.old }
         ensures done { IsDone result }
         ensures same { self.new ≡ self.old }
-        ensures sink_failed { (K.state sink.new).faults ≡ faults_after_line result (K.state sink.old).faults }
+        ensures sink_failed { CountsSink (K.state sink.old) (K.state sink.new) result }
     {
         let source = ReplySource {
             tree: &self.tree,
@@ -284,13 +268,13 @@ impl Screen {
         into: Option<Name>,
         shelf: &mut F,
     ) -> Result<Response, StepFault>
-        requires numbers { self.old.views.next < numbers_end }
+        requires numbers { HasNumber self.old }
         ensures changed { (files : Files)
             → AreAtHand files (F.files shelf.old) (asked_for (plain_of self.old.views) (Some (name.now, into)))
             → Inflates (inflation files (world_of self.old) name.now into) self.new result }
         ensures reported { IfOk result
             (λ response. IsReportable self.new.views self.new.surface self.new.reported self.new.saved response) }
-        ensures unchanged { OnErr result (self.new ≡ self.old) }
+        ensures unchanged { KeepsOnErr result self.old self.new }
         ensures shelf { AsksShelf F.files F.fetches F.faults
             (asked_for (plain_of self.old.views) (Some (name.now, into))) result shelf.old shelf.new }
         ensures numbers { self.new.views.next ≤ self.old.views.next + max_views }
@@ -311,13 +295,13 @@ impl Screen {
         work: &mut Work,
     ) -> Result<Response, StepFault>
         requires alone { inflation_of (plain_command command.now) ≡ None }
-        requires numbers { self.old.views.next < numbers_end }
+        requires numbers { HasNumber self.old }
         requires bounds { IsInBounds (plain_command command.now) }
         requires short { text_length (plain_command command.now) < 2 ^ 31 }
         ensures changed { CarriesOut (step [] (world_of self.old) (plain_command command.now)) self.new result }
-        ensures unchanged { OnErr result (self.new ≡ self.old) }
+        ensures unchanged { KeepsOnErr result self.old self.new }
         ensures memory { result ≡ Err StepFault.NoMemory → MayWantMemory (plain_command command.now) }
-        ensures numbers { self.new.views.next ≤ self.old.views.next + 1 }
+        ensures numbers { NumbersOne self.old self.new }
         ensures work { plain_command command.now ≢ Frame → work.new ≡ work.old }
         ensures idle { OnErr result (work.new ≡ work.old) }
         ensures still { plain_command command.now ≡ Frame → IsShown self.old → work.new ≡ work.old }
@@ -372,8 +356,8 @@ impl Screen {
         requires width { IsWithin (pos 1) max_window size.w }
         requires height { IsWithin (pos 1) max_window size.h }
         ensures changed { CarriesOut (Done (with_window (world_of self.old) size) []) self.new result }
-        ensures unchanged { OnErr result (self.new ≡ self.old) }
-        ensures numbers { self.new.views.next ≡ self.old.views.next }
+        ensures unchanged { KeepsOnErr result self.old self.new }
+        ensures numbers { KeepsNext self.old.views self.new.views }
         ensures keeps { self.new.views ≡ self.old.views }
         ensures opened { OnOk result (black_picture (window_of self.new) ≡ self.new.surface.pixels) }
     {
@@ -391,9 +375,9 @@ impl Screen {
     /// Sets the density of the screen, as long as there is no view.
     fn set_dpi(&mut self, dpi: u32) -> Result<Response, StepFault>
         ensures changed { CarriesOut (dpi_reported (world_of self.old) dpi (plain_of self.old.views)) self.new result }
-        ensures unchanged { OnErr result (self.new ≡ self.old) }
-        ensures memory { result ≢ Err StepFault.NoMemory }
-        ensures numbers { self.new.views.next ≡ self.old.views.next }
+        ensures unchanged { KeepsOnErr result self.old self.new }
+        ensures memory { HasMemory result }
+        ensures numbers { KeepsNext self.old.views self.new.views }
         ensures keeps { OnOk result (IsIdle self.old self.new) }
     {
         if self.tree.root().is_some() {
@@ -408,8 +392,8 @@ impl Screen {
         requires short { given_text_length (plain_given given) < 2 ^ 31 }
         ensures changed { CarriesOut (defined (world_of self.old) id (resource_given (plain_given given.entry))
             (definition_refusal_of self.old.resources id)) self.new result }
-        ensures unchanged { OnErr result (self.new ≡ self.old) }
-        ensures numbers { self.new.views.next ≡ self.old.views.next }
+        ensures unchanged { KeepsOnErr result self.old self.new }
+        ensures numbers { KeepsNext self.old.views self.new.views }
         ensures keeps { OnOk result (IsIdle self.old self.new) }
     {
         let value = value_of(alloc, given)?;
@@ -424,9 +408,9 @@ impl Screen {
         requires scrolls { EditsWithin edit }
         ensures changed { CarriesOut
             (after_edit (world_of self.old) (numbered self.old.views edit.entry)) self.new result }
-        ensures unchanged { OnErr result (self.new ≡ self.old) }
+        ensures unchanged { KeepsOnErr result self.old self.new }
         ensures memory { result ≡ Err StepFault.NoMemory → EditMayWantMemory edit.entry }
-        ensures numbers { self.new.views.next ≤ self.old.views.next + 1 }
+        ensures numbers { NumbersOne self.old self.new }
         ensures keeps { OnOk result (KeepsEdit edit.entry self.old self.new) }
     {
         recall_tree(&self.tree);
@@ -444,10 +428,10 @@ impl Screen {
         width: i32,
         height: i32,
     ) -> Result<Response, StepFault>
-        requires { self.old.views.next < numbers_end }
+        requires { HasNumber self.old }
         ensures changed { CarriesOut (step [] (world_of self.old) (Add None class width height)) self.new result }
-        ensures unchanged { OnErr result (self.new ≡ self.old) }
-        ensures numbers { self.new.views.next ≤ self.old.views.next + 1 }
+        ensures unchanged { KeepsOnErr result self.old self.new }
+        ensures numbers { NumbersOne self.old self.new }
         ensures keeps { OnOk result (KeepsLine (Add None class width height) self.old self.new) }
     {
         if self.tree.root().is_some() {
@@ -465,10 +449,10 @@ impl Screen {
         width: i32,
         height: i32,
     ) -> Result<Response, StepFault>
-        requires { self.old.views.next < numbers_end }
+        requires { HasNumber self.old }
         ensures changed { CarriesOut (step [] (world_of self.old) (Add parent class width height)) self.new result }
-        ensures unchanged { OnErr result (self.new ≡ self.old) }
-        ensures numbers { self.new.views.next ≤ self.old.views.next + 1 }
+        ensures unchanged { KeepsOnErr result self.old self.new }
+        ensures numbers { NumbersOne self.old self.new }
         ensures keeps { OnOk result (KeepsLine (Add parent class width height) self.old self.new) }
     {
         let Some(parent) = parent else {
@@ -481,9 +465,9 @@ impl Screen {
     /// Removes a view and all below it.
     fn remove(&mut self, alloc: Global, view: Name) -> Result<Response, StepFault>
         ensures changed { CarriesOut (step [] (world_of self.old) (Remove view)) self.new result }
-        ensures unchanged { OnErr result (self.new ≡ self.old) }
-        ensures memory { result ≢ Err StepFault.NoMemory }
-        ensures numbers { self.new.views.next ≤ self.old.views.next + 1 }
+        ensures unchanged { KeepsOnErr result self.old self.new }
+        ensures memory { HasMemory result }
+        ensures numbers { NumbersOne self.old self.new }
         ensures keeps { OnOk result (KeepsLine (Remove view) self.old self.new) }
     {
         let view = resolve(&self.tree, view)?;
@@ -494,9 +478,9 @@ impl Screen {
     fn act(&mut self, alloc: Global, view: Name, act: ViewAct) -> Result<Response, StepFault>
         requires { IsActInBounds act }
         ensures changed { CarriesOut (step [] (world_of self.old) (Act view act)) self.new result }
-        ensures unchanged { OnErr result (self.new ≡ self.old) }
+        ensures unchanged { KeepsOnErr result self.old self.new }
         ensures memory { result ≡ Err StepFault.NoMemory → names_views act ≡ true }
-        ensures numbers { self.new.views.next ≤ self.old.views.next + 1 }
+        ensures numbers { NumbersOne self.old self.new }
         ensures keeps { OnOk result (KeepsLine (Act view act) self.old self.new) }
     {
         let view = resolve(&self.tree, view)?;
@@ -509,13 +493,16 @@ impl Screen {
 
     /// Sets the text of a view. The escapes of the text are as written.
     fn set_text(&mut self, alloc: Global, view: Name, text: &str) -> Result<Response, StepFault>
-        requires { length text.now < 2 ^ 31 }
+        requires { IsShortText text.now }
         ensures changed { CarriesOut (step [] (world_of self.old) (SetText view text.now)) self.new result }
-        ensures unchanged { OnErr result (self.new ≡ self.old) }
-        ensures numbers { self.new.views.next ≤ self.old.views.next + 1 }
+        ensures unchanged { KeepsOnErr result self.old self.new }
+        ensures numbers { NumbersOne self.old self.new }
         ensures keeps { OnOk result (KeepsLine (SetText view text.now) self.old self.new) }
     {
         let view = resolve(&self.tree, view)?;
+        if is_plain(text) {
+            return self.edit(alloc, Edit::Text { view, text });
+        }
         let text = resolved(alloc, text)?;
         self.edit(
             alloc,
@@ -529,9 +516,9 @@ impl Screen {
     /// Lays the whole tree out, and if the frame has settled, paints what may have changed since.
     fn frame(&mut self, work: &mut Work) -> Result<Response, StepFault>
         ensures changed { CarriesOut (step [] (world_of self.old) Frame) self.new result }
-        ensures unchanged { OnErr result (self.new ≡ self.old) }
-        ensures memory { result ≢ Err StepFault.NoMemory }
-        ensures numbers { self.new.views.next ≡ self.old.views.next }
+        ensures unchanged { KeepsOnErr result self.old self.new }
+        ensures memory { HasMemory result }
+        ensures numbers { KeepsNext self.old.views self.new.views }
         ensures idle { OnErr result (work.new ≡ work.old) }
         ensures still { IsShown self.old → work.new ≡ work.old }
         ensures framed { OnOk result (IsFrameDone self.old self.new work.old work.new) }
@@ -567,7 +554,7 @@ impl Screen {
     /// Finds the bounds of a view, or of each view.
     fn bounds(&self, view: Option<Name>) -> Result<Response, StepFault>
         ensures changed { CarriesOut (step [] (world_of self.now) (Bounds view)) self.now result }
-        ensures memory { result ≢ Err StepFault.NoMemory }
+        ensures memory { HasMemory result }
     {
         if self.window().is_none() {
             return Err(StepFault::Refused(Refusal::plain(NO_WINDOW)));
@@ -606,7 +593,7 @@ impl Screen {
     fn pixels(&self, x: i32, y: i32, w: i32, h: i32) -> Result<Response, StepFault>
         requires { IsPart x y w h }
         ensures changed { CarriesOut (step [] (world_of self.now) (Pixels x y w h)) self.now result }
-        ensures memory { result ≢ Err StepFault.NoMemory }
+        ensures memory { HasMemory result }
     {
         let window = self.pictured()?;
         match part_in(window, x, y, w, h) {
@@ -619,7 +606,7 @@ impl Screen {
     fn digest(&mut self) -> Result<Response, StepFault>
         ensures changed { CarriesOut (step [] (world_of self.old) Digest) self.new result }
         ensures same { self.new ≡ self.old }
-        ensures memory { result ≢ Err StepFault.NoMemory }
+        ensures memory { HasMemory result }
     {
         self.pictured()?;
         self.surface.keep_digest();

@@ -12,7 +12,8 @@ use Rattle.script_lines.specs.words.FileNames.{is_file_name}
 use Rattle.script_lines.specs.words.Names.{hex_of, hex_value}
 use Rattle.script_lines.proofs.readings.CommandLaws.{and-left, and-right}
 use Rattle.vindaesk_c.specs.Lookups.{IsWordOf, can_look_up}
-use Rattle.whole_tool.specs.Usage.{Lookup, are_ids, resource_id, resource_ids, usage}
+use Rattle.whole_tool.specs.Usage.{Lookup, are_ids, usage}
+use Rattle.tool_replies.specs.Lookup.{resource_id, resource_ids}
 
 -- eight digits
 

@@ -4,7 +4,8 @@ use Rattle.std.specs.Prelude.{◌==◌, Bool, true, false, Some, if◌then◌els
 use Rattle.tool_io.specs.Fetched.{Files}
 use Rattle.vindaesk_c.specs.Page.{page_of, refuses}
 use Rattle.whole_tool.specs.Promises.{ReportsRefusals, WritesPages}
-use Rattle.whole_tool.specs.Tool.{Given, IsComplete, IsRunOf, Writes, given}
+use Rattle.whole_tool.specs.Tool.{Given, IsRunOf, given}
+use Rattle.tool_replies.specs.Endings.{IsComplete, Writes}
 use Rattle.whole_tool.specs.Transcript.{max_script, transcript}
 use Rattle.whole_tool.specs.Usage.{Usage, Run, Stack, Dump, Gen, Lookup, Focus, Unknown}
 

@@ -8,7 +8,7 @@ use Rattle.vindaesk_c.specs.Answer.{IsAnswer, LacksRoom, PutsPage}
 use Rattle.vindaesk_c.specs.Packed.{packed}
 use Rattle.vindaesk_c.specs.Sessions.{HasAnswered, IsAt}
 use Rattle.vindaesk_c.specs.declared.open_session.OpenSession.{OpenSession}
-use Rattle.whole_tool.specs.Tool.{IsComplete}
+use Rattle.tool_replies.specs.Endings.{IsComplete}
 
 -- what was empty holds what was appended
 pub appended : (begun gone text : List ℕ) → begun ≡ [] → Appends (Some begun) (Some gone) text → gone ≡ text

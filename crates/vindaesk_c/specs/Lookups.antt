@@ -2,7 +2,8 @@
 use Rattle.std.specs.Prelude.{◌≡◌, ℕ, nat_le, nat_lt, Bool, true, ◌&&◌, List, length}
 use Rattle.script_lines.specs.words.FileNames.{is_file_name}
 use Rattle.whole_tool.specs.Numbers.{max_ids}
-use Rattle.whole_tool.specs.Usage.{is_resource_id, resource_id}
+use Rattle.whole_tool.specs.Usage.{is_resource_id}
+use Rattle.tool_replies.specs.Lookup.{resource_id}
 
 -- at least one resource, and as many as a look-up may have, in the table of a file that can have this name
 unfoldable pub can_look_up : List ℕ → List ℕ → Bool

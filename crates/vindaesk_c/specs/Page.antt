@@ -1,10 +1,10 @@
 -- What the tool writes, by the form of its words.
 use Rattle.std.specs.Prelude.{ℕ, Bool, false, List, []}
 use Rattle.tool_io.specs.Fetched.{Files}
-use Rattle.whole_tool.specs.Dump.{dump_page, refuses_file}
+use Rattle.tool_replies.specs.Dump.{dump_page, refuses_file}
 use Rattle.whole_tool.specs.Focus.{focus_page, refuses_focus}
 use Rattle.whole_tool.specs.Gen.{gen_page}
-use Rattle.whole_tool.specs.Lookup.{lookup_page, refuses_table}
+use Rattle.tool_replies.specs.Lookup.{lookup_page, refuses_table}
 use Rattle.whole_tool.specs.Transcript.{has_refusal, refuses_in_stack, stack_page, transcript}
 use Rattle.whole_tool.specs.Usage.{Usage, Run, Stack, Dump, Gen, Lookup, Focus, Unknown}
 

@@ -5,7 +5,7 @@ ghost use Rattle.vindaesk_c.specs.Answer.{PutsPage, ReportsFault, fault_status};
 
 use crate::fault::Fault;
 use crate::page::Page;
-use whole_tool::status::{ACCEPTED, NO_MEMORY, REFUSED};
+use tool_replies::status::{ACCEPTED, NO_MEMORY, REFUSED};
 
 /// The answer has more bytes than its buffer.
 const SMALL_BUFFER: u8 = 8;

@@ -13,17 +13,17 @@
 //!     vindaesk_run(script, strlen(script), files, 0, answer, 4096, &size)
 #![tactic(auto)]
 
-ghost use Rattle.std.specs.Prelude.{◌≡◌, ◌≢◌, ◌<◌, ◌↔◌, ◌⊎◌, [], ◌∷◌, length, IsFalse, IsTrue, if◌then◌else◌};
+ghost use Rattle.std.specs.Prelude.{◌≡◌, ◌<◌, ◌↔◌, [], ◌∷◌, length, IsFalse, IsTrue, if◌then◌else◌};
 ghost use Rattle.script_lines.specs.words.FileNames.{is_file_name};
 ghost use Rattle.tool_io.specs.Fetched.{Files};
-ghost use Rattle.vindaesk_c.specs.Answer.{IsAnswer, LacksRoom};
+ghost use Rattle.vindaesk_c.specs.Answer.{IsAnswer, LacksRoom, KeepsBuffer, SaysNoSize, SaysBroken, HasRead};
 ghost use Rattle.vindaesk_c.specs.Lookups.{can_look_up};
 ghost use Rattle.vindaesk_c.specs.Packed.{packed};
 ghost use Rattle.vindaesk_c.specs.Questions.{asked, can_ask};
-ghost use Rattle.whole_tool.specs.Dump.{dump_page, refuses_file};
+ghost use Rattle.tool_replies.specs.Dump.{dump_page, refuses_file};
 ghost use Rattle.whole_tool.specs.Focus.{focus_page, refuses_focus};
-ghost use Rattle.whole_tool.specs.Lookup.{lookup_page, refuses_table};
-ghost use Rattle.whole_tool.specs.Tool.{IsComplete, IsOneOf};
+ghost use Rattle.tool_replies.specs.Lookup.{lookup_page, refuses_table};
+ghost use Rattle.tool_replies.specs.Endings.{IsComplete, IsOneOf};
 ghost use Rattle.whole_tool.specs.Transcript.{has_refusal, max_script, refuses_in_stack, stack_page, transcript};
 ghost use Rattle.whole_tool.specs.Usage.{Focus};
 ghost use Rattle.whole_tool.specs.declared.focusing.Question.{Question};
@@ -46,7 +46,7 @@ use crate::questions::can_ask;
 use crate::words::can_look_up;
 use script_lines::is_file_name;
 use std::alloc::Global;
-use whole_tool::status::{LONG_SCRIPT, USAGE};
+use tool_replies::status::{LONG_SCRIPT, USAGE};
 
 /// The most bytes that a script may have.
 const MAX_SCRIPT: usize = 16777216;
@@ -77,14 +77,14 @@ pub extern "C" fn vindaesk_run(
         → LacksRoom (transcript script.now held) answer.old size.new }
 
     // After any other status there is no answer.
-    ensures kept { (IsComplete result → ⊥) → answer.new ≡ answer.old }
-    ensures no_size { (IsComplete result → ⊥) → result ≢ 8 → size.new ≡ 0 }
+    ensures kept { KeepsBuffer result answer.old answer.new }
+    ensures no_size { SaysNoSize result size.new }
 
     // When each status comes. Files are reported as broken only if they are, and only a script that is too long and
     // running out of memory are reported before that.
     ensures long { (result ≡ 7) ↔ (max_script < length script.now) }
-    ensures broken { result ≡ 9 → (held : Files) → files.now ≢ packed held }
-    ensures read { IsComplete result ⊎ (result ≡ 8) → (held : Files) × (files.now ≡ packed held) }
+    ensures broken { SaysBroken result files.now }
+    ensures read { HasRead result files.now }
     ensures statuses { IsOneOf result (0 ∷ 1 ∷ 5 ∷ 7 ∷ 8 ∷ 9 ∷ []) }
 {
     *size = 0;
@@ -120,14 +120,14 @@ pub extern "C" fn vindaesk_stack(
         → LacksRoom (stack_page script.now held) answer.old size.new }
 
     // After any other status there is no answer.
-    ensures kept { (IsComplete result → ⊥) → answer.new ≡ answer.old }
-    ensures no_size { (IsComplete result → ⊥) → result ≢ 8 → size.new ≡ 0 }
+    ensures kept { KeepsBuffer result answer.old answer.new }
+    ensures no_size { SaysNoSize result size.new }
 
     // When each status comes. Files are reported as broken only if they are, and only a script that is too long and
     // running out of memory are reported before that.
     ensures long { (result ≡ 7) ↔ (max_script < length script.now) }
-    ensures broken { result ≡ 9 → (held : Files) → files.now ≢ packed held }
-    ensures read { IsComplete result ⊎ (result ≡ 8) → (held : Files) × (files.now ≡ packed held) }
+    ensures broken { SaysBroken result files.now }
+    ensures read { HasRead result files.now }
     ensures statuses { IsOneOf result (0 ∷ 1 ∷ 5 ∷ 7 ∷ 8 ∷ 9 ∷ []) }
 {
     *size = 0;
@@ -165,14 +165,14 @@ pub extern "C" fn vindaesk_focus(
         → asked side.now view.now ≡ Focus question
         → result ≡ 8
         → LacksRoom (focus_page script.now held question) answer.old size.new }
-    ensures kept { (IsComplete result → ⊥) → answer.new ≡ answer.old }
-    ensures no_size { (IsComplete result → ⊥) → result ≢ 8 → size.new ≡ 0 }
+    ensures kept { KeepsBuffer result answer.old answer.new }
+    ensures no_size { SaysNoSize result size.new }
 
     // The words name no side or no view. That is reported before a script that is too long, and both before all else.
     ensures usage { (result ≡ 2) ↔ IsFalse (can_ask side.now view.now) }
     ensures long { (result ≡ 7) ↔ (IsTrue (can_ask side.now view.now) × (max_script < length script.now)) }
-    ensures broken { result ≡ 9 → (held : Files) → files.now ≢ packed held }
-    ensures read { IsComplete result ⊎ (result ≡ 8) → (held : Files) × (files.now ≡ packed held) }
+    ensures broken { SaysBroken result files.now }
+    ensures read { HasRead result files.now }
     ensures statuses { IsOneOf result (0 ∷ 1 ∷ 2 ∷ 5 ∷ 7 ∷ 8 ∷ 9 ∷ []) }
 {
     *size = 0;
@@ -211,13 +211,13 @@ pub extern "C" fn vindaesk_dump(
         → files.now ≡ packed held
         → result ≡ 8
         → LacksRoom (dump_page held name.now) answer.old size.new }
-    ensures kept { (IsComplete result → ⊥) → answer.new ≡ answer.old }
-    ensures no_size { (IsComplete result → ⊥) → result ≢ 8 → size.new ≡ 0 }
+    ensures kept { KeepsBuffer result answer.old answer.new }
+    ensures no_size { SaysNoSize result size.new }
 
     // A layout file can't have this name.
     ensures usage { (result ≡ 2) ↔ IsFalse (is_file_name name.now) }
-    ensures broken { result ≡ 9 → (held : Files) → files.now ≢ packed held }
-    ensures read { IsComplete result ⊎ (result ≡ 8) → (held : Files) × (files.now ≡ packed held) }
+    ensures broken { SaysBroken result files.now }
+    ensures read { HasRead result files.now }
     ensures statuses { IsOneOf result (0 ∷ 1 ∷ 2 ∷ 5 ∷ 8 ∷ 9 ∷ []) }
 {
     *size = 0;
@@ -250,13 +250,13 @@ pub extern "C" fn vindaesk_lookup(
         → files.now ≡ packed held
         → result ≡ 8
         → LacksRoom (lookup_page held name.now ids.now) answer.old size.new }
-    ensures kept { (IsComplete result → ⊥) → answer.new ≡ answer.old }
-    ensures no_size { (IsComplete result → ⊥) → result ≢ 8 → size.new ≡ 0 }
+    ensures kept { KeepsBuffer result answer.old answer.new }
+    ensures no_size { SaysNoSize result size.new }
 
     // No file can have this name, or there are no ids or more than 64.
     ensures usage { (result ≡ 2) ↔ IsFalse (can_look_up name.now ids.now) }
-    ensures broken { result ≡ 9 → (held : Files) → files.now ≢ packed held }
-    ensures read { IsComplete result ⊎ (result ≡ 8) → (held : Files) × (files.now ≡ packed held) }
+    ensures broken { SaysBroken result files.now }
+    ensures read { HasRead result files.now }
     ensures statuses { IsOneOf result (0 ∷ 1 ∷ 2 ∷ 5 ∷ 8 ∷ 9 ∷ []) }
 {
     *size = 0;

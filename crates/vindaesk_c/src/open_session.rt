@@ -1,10 +1,11 @@
 //! A session that a handle holds.
 
-ghost use Rattle.std.specs.Prelude.{◌≡◌, ◌≢◌, ◌==◌, false, List, ℕ, [], IfOk, OnOk};
+ghost use Rattle.std.specs.Prelude.{◌≡◌, ◌==◌, false, List, ℕ, [], IfOk, OnOk};
 ghost use Rattle.tool_io.specs.Fetched.{Files};
-ghost use Rattle.vindaesk_c.specs.Packed.{packed};
+ghost use Rattle.vindaesk_c.specs.Packed.{packed, ArePacked};
 ghost use Rattle.vindaesk_c.specs.Sessions.{HasAnswered, AddsAnswer};
 ghost use Rattle.whole_tool.specs.Session.{answer_to, has_line_feed, with_line};
+ghost use Rattle.vindaesk_c.specs.Answer.{FindsBroken};
 
 use crate::fault::Fault;
 use crate::packing::unpacked;
@@ -29,8 +30,8 @@ impl OpenSession {
     /// A session of no lines yet.
     pub fn new(alloc: Global, files: &[u8]) -> Result<OpenSession, Fault>
         ensures none { (held : Files) → files.now ≡ packed held → IfOk result (HasAnswered held [] []) }
-        ensures read { OnOk result ((held : Files) × (files.now ≡ packed held)) }
-        ensures broken { result ≡ Err Fault.BrokenFiles → (held : Files) → files.now ≢ packed held }
+        ensures read { OnOk result (ArePacked files.now) }
+        ensures broken { FindsBroken result files.now }
     {
         let _known = unpacked(alloc, files)?;
         Ok(OpenSession {

@@ -2,9 +2,9 @@
 
 ghost use Rattle.std.specs.Prelude.{◌≡◌, ◌≢◌, ◌<◌, ◌^◌, ℕ, List, ◌++◌, length, None, IfOk, IfSome};
 ghost use Rattle.std.specs.Int.{w64, to_le_bytes};
-ghost use Rattle.tool_io.specs.Fetched.{Files};
 ghost use Rattle.vindaesk_c.specs.FilesNow.{files_now};
 ghost use Rattle.vindaesk_c.specs.Packed.{packed, packed_file};
+ghost use Rattle.vindaesk_c.specs.Answer.{FindsBroken};
 
 use crate::fault::Fault;
 use std::alloc::Global;
@@ -19,7 +19,7 @@ pub struct PackedFile<'a> {
 /// The files of a buffer.
 pub fn unpacked(alloc: Global, bytes: &[u8]) -> Result<Vec<PackedFile<'_>>, Fault>
     ensures files { IfOk result (λ files. bytes.now ≡ packed (files_now files.items)) }
-    ensures broken { result ≡ Err Fault.BrokenFiles → (held : Files) → bytes.now ≢ packed held }
+    ensures broken { FindsBroken result bytes.now }
 {
     let mut files = Vec::new(alloc);
     let mut left = bytes;

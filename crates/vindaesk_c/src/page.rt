@@ -1,17 +1,18 @@
 //! Pages that the tool writes in memory.
 
-ghost use Rattle.std.specs.Prelude.{◌≡◌, ◌≢◌, ◌≤◌, ◌↔◌, length, IfOk, IsTrue, OnOk};
+ghost use Rattle.std.specs.Prelude.{◌≡◌, ◌≢◌, ◌↔◌, IfOk, IsTrue, OnOk};
 ghost use Rattle.script_lines.specs.words.FileNames.{is_file_name};
 ghost use Rattle.tool_io.specs.Fetched.{Files};
 ghost use Rattle.vindaesk_c.specs.Lookups.{can_look_up};
-ghost use Rattle.vindaesk_c.specs.Packed.{packed};
+ghost use Rattle.vindaesk_c.specs.Packed.{packed, ArePacked};
 ghost use Rattle.vindaesk_c.specs.Page.{page_of, refuses};
 ghost use Rattle.vindaesk_c.specs.Questions.{asked, can_ask};
-ghost use Rattle.whole_tool.specs.Dump.{dump_page, refuses_file};
-ghost use Rattle.whole_tool.specs.Lookup.{lookup_page, refuses_table};
-ghost use Rattle.whole_tool.specs.Tool.{IsComplete};
-ghost use Rattle.whole_tool.specs.Transcript.{max_script};
+ghost use Rattle.tool_replies.specs.Dump.{dump_page, refuses_file};
+ghost use Rattle.tool_replies.specs.Lookup.{lookup_page, refuses_table};
+ghost use Rattle.tool_replies.specs.Endings.{IsComplete};
+ghost use Rattle.whole_tool.specs.Transcript.{IsShortScript};
 ghost use Rattle.whole_tool.specs.Usage.{Unknown, run_usage, usage};
+ghost use Rattle.vindaesk_c.specs.Answer.{FindsBroken};
 
 use crate::fault::Fault;
 use crate::packing::unpacked;
@@ -20,8 +21,8 @@ use crate::shelf::PackedShelf;
 use crate::words::{file_words, lookup_words, one_word};
 use std::alloc::{AllocError, Global};
 use tool_io::{MemorySink, SteadySource};
+use tool_replies::status::{ACCEPTED, REFUSED};
 use view_model::Work;
-use whole_tool::status::{ACCEPTED, REFUSED};
 use whole_tool::tool;
 
 /// The most bytes that the tool reads or writes at once.
@@ -37,15 +38,15 @@ pub struct Page {
 /// The page of a script, by the one word that the tool is called with.
 pub fn script_page(alloc: Global, word: &str, script: &[u8], files: &[u8]) -> Result<Page, Fault>
     requires known { run_usage word.now ≢ Unknown }
-    requires short { length script.now ≤ max_script }
+    requires short { IsShortScript script.now }
     ensures text { (held : Files)
         → files.now ≡ packed held
         → IfOk result (λ page. page.sink.gone ≡ page_of (run_usage word.now) script.now held) }
     ensures refusing { (held : Files)
         → files.now ≡ packed held
         → IfOk result (λ page. page.is_refusing ≡ refuses (run_usage word.now) script.now held) }
-    ensures read { OnOk result ((held : Files) × (files.now ≡ packed held)) }
-    ensures broken { result ≡ Err Fault.BrokenFiles → (held : Files) → files.now ≢ packed held }
+    ensures read { OnOk result (ArePacked files.now) }
+    ensures broken { FindsBroken result files.now }
 {
     let words = one_word(alloc, word)?;
     page_for(alloc, words.as_slice(), script, files)
@@ -60,8 +61,8 @@ pub fn file_page(alloc: Global, name: &[u8], files: &[u8]) -> Result<Page, Fault
     ensures refusing { (held : Files)
         → files.now ≡ packed held
         → IfOk result (λ page. page.is_refusing ≡ refuses_file held name.now) }
-    ensures read { OnOk result ((held : Files) × (files.now ≡ packed held)) }
-    ensures broken { result ≡ Err Fault.BrokenFiles → (held : Files) → files.now ≢ packed held }
+    ensures read { OnOk result (ArePacked files.now) }
+    ensures broken { FindsBroken result files.now }
 {
     let words = file_words(alloc, name)?;
     page_for(alloc, words.as_slice(), &[], files)
@@ -76,8 +77,8 @@ pub fn table_page(alloc: Global, name: &[u8], ids: &[u32], files: &[u8]) -> Resu
     ensures refusing { (held : Files)
         → files.now ≡ packed held
         → IfOk result (λ page. page.is_refusing ≡ refuses_table held name.now) }
-    ensures read { OnOk result ((held : Files) × (files.now ≡ packed held)) }
-    ensures broken { result ≡ Err Fault.BrokenFiles → (held : Files) → files.now ≢ packed held }
+    ensures read { OnOk result (ArePacked files.now) }
+    ensures broken { FindsBroken result files.now }
 {
     let words = lookup_words(alloc, name, ids)?;
     page_for(alloc, words.as_slice(), &[], files)
@@ -92,15 +93,15 @@ pub fn question_page(
     files: &[u8],
 ) -> Result<Page, Fault>
     requires can { IsTrue (can_ask side.now view.now) }
-    requires short { length script.now ≤ max_script }
+    requires short { IsShortScript script.now }
     ensures text { (held : Files)
         → files.now ≡ packed held
         → IfOk result (λ page. page.sink.gone ≡ page_of (asked side.now view.now) script.now held) }
     ensures refusing { (held : Files)
         → files.now ≡ packed held
         → IfOk result (λ page. page.is_refusing ≡ refuses (asked side.now view.now) script.now held) }
-    ensures read { OnOk result ((held : Files) × (files.now ≡ packed held)) }
-    ensures broken { result ≡ Err Fault.BrokenFiles → (held : Files) → files.now ≢ packed held }
+    ensures read { OnOk result (ArePacked files.now) }
+    ensures broken { FindsBroken result files.now }
 {
     let words = question_words(alloc, side, view)?;
     page_for(alloc, words.as_slice(), script, files)
@@ -109,15 +110,15 @@ pub fn question_page(
 /// The page for these words, with the files of a buffer at hand.
 fn page_for(alloc: Global, words: &[String], script: &[u8], files: &[u8]) -> Result<Page, Fault>
     requires known { usage words.now ≢ Unknown }
-    requires short { length script.now ≤ max_script }
+    requires short { IsShortScript script.now }
     ensures text { (held : Files)
         → files.now ≡ packed held
         → IfOk result (λ page. page.sink.gone ≡ page_of (usage words.now) script.now held) }
     ensures refusing { (held : Files)
         → files.now ≡ packed held
         → IfOk result (λ page. page.is_refusing ≡ refuses (usage words.now) script.now held) }
-    ensures read { OnOk result ((held : Files) × (files.now ≡ packed held)) }
-    ensures broken { result ≡ Err Fault.BrokenFiles → (held : Files) → files.now ≢ packed held }
+    ensures read { OnOk result (ArePacked files.now) }
+    ensures broken { FindsBroken result files.now }
 {
     let mut shelf = PackedShelf::new(unpacked(alloc, files)?);
     Ok(written(alloc, words, script, &mut shelf)?)
@@ -131,7 +132,7 @@ fn written(
     shelf: &mut PackedShelf<'_>,
 ) -> Result<Page, AllocError>
     requires known { usage words.now ≢ Unknown }
-    requires short { length script.now ≤ max_script }
+    requires short { IsShortScript script.now }
     ensures text { IfOk result (λ page. page.sink.gone ≡ page_of (usage words.now) script.now shelf.old) }
     ensures refusing { IfOk result (λ page. page.is_refusing ≡ refuses (usage words.now) script.now shelf.old) }
 {

@@ -2,11 +2,11 @@
 
 ghost use Rattle.std.specs.Prelude.{◌≡◌, ◌≢◌, ◌+◌, ◌↔◌, ◌⊎◌, ◌++◌, ℕ, List, [], ◌∷◌, None, false, true, is_some, IfOk, OnOk};
 ghost use Rattle.tool_io.specs.Fetched.{Files};
-ghost use Rattle.vindaesk_c.specs.Answer.{IsAnswer, LacksRoom};
-ghost use Rattle.vindaesk_c.specs.Packed.{packed};
+ghost use Rattle.vindaesk_c.specs.Answer.{IsAnswer, LacksRoom, SaysBroken, KeepsBuffer, SaysNoSize, FindsBroken};
+ghost use Rattle.vindaesk_c.specs.Packed.{packed, ArePacked};
 ghost use Rattle.vindaesk_c.specs.Sessions.{HasAnswered, IsAt};
 ghost use Rattle.whole_tool.specs.Session.{after_script, answer_to, has_line_feed, max_lines, with_line};
-ghost use Rattle.whole_tool.specs.Tool.{IsComplete, IsOneOf};
+ghost use Rattle.tool_replies.specs.Endings.{IsComplete, IsOneOf};
 ghost use Rattle.whole_tool.specs.Transcript.{transcript};
 
 use crate::answer::{put_text, status_of};
@@ -14,7 +14,7 @@ use crate::fault::Fault;
 use crate::handle::Handle;
 use crate::open_session::OpenSession;
 use std::alloc::Global;
-use whole_tool::status::{ACCEPTED, LONG_SCRIPT, NO_MEMORY, USAGE};
+use tool_replies::status::{ACCEPTED, LONG_SCRIPT, NO_MEMORY, USAGE};
 
 /// No session is open, or one is where none should be.
 const NOT_SO: u8 = 10;
@@ -29,7 +29,7 @@ pub extern "C" fn vindaesk_open(alloc: Global, files: &[u8], handle: &mut Handle
     // One is open already. That is reported before all else, and after any status but 0 nothing has changed.
     ensures state { (result ≡ 10) ↔ (is_some handle.old.held ≡ true) }
     ensures kept { result ≢ 0 → handle.new.held ≡ handle.old.held }
-    ensures broken { result ≡ 9 → (held : Files) → files.now ≢ packed held }
+    ensures broken { SaysBroken result files.now }
     ensures read { result ≡ 0 → (held : Files) × (files.now ≡ packed held) }
     ensures statuses { IsOneOf result (0 ∷ 5 ∷ 9 ∷ 10 ∷ []) }
 {
@@ -85,8 +85,8 @@ pub extern "C" fn vindaesk_line(
 
     // After any other status there is no answer. None is open, there is a line feed in the line, and the session has
     // taken as many lines as it may: each is reported before what comes after it, and nothing has changed.
-    ensures kept { (IsComplete result → ⊥) → answer.new ≡ answer.old }
-    ensures no_size { (IsComplete result → ⊥) → result ≢ 8 → size.new ≡ 0 }
+    ensures kept { KeepsBuffer result answer.old answer.new }
+    ensures no_size { SaysNoSize result size.new }
     ensures state { (result ≡ 10) ↔ (is_some handle.old.held ≡ false) }
     ensures usage { (result ≡ 2) ↔ ((is_some handle.old.held ≡ true) × (has_line_feed line.now ≡ true)) }
     ensures full { (held : Files) (script before : List ℕ)
@@ -170,8 +170,8 @@ fn boxed(alloc: Global, files: &[u8]) -> Result<Box<OpenSession>, Fault>
     ensures none { (held : Files)
         → files.now ≡ packed held
         → IfOk result (λ session. HasAnswered held [] [] session.value) }
-    ensures read { OnOk result ((held : Files) × (files.now ≡ packed held)) }
-    ensures broken { result ≡ Err Fault.BrokenFiles → (held : Files) → files.now ≢ packed held }
+    ensures read { OnOk result (ArePacked files.now) }
+    ensures broken { FindsBroken result files.now }
 {
     Ok(Box::new(alloc, OpenSession::new(alloc, files)?)?)
 }

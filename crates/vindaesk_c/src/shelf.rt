@@ -1,7 +1,7 @@
 //! A shelf of the files of a buffer.
 
-ghost use Rattle.std.specs.Prelude.{◌≡◌, ◌≢◌, ◌≤◌, [], length, IfOk};
-ghost use Rattle.tool_io.specs.Fetched.{CountsFetch, Fetched};
+ghost use Rattle.std.specs.Prelude.{◌≡◌, IfOk};
+ghost use Rattle.tool_io.specs.Fetched.{CountsFetch, Fetched, IsEmptyUnlessWhole, IsWithinLimit};
 
 use crate::packing::PackedFile;
 use std::marker::Model;
@@ -46,8 +46,8 @@ impl Shelf for PackedShelf<'_> {
     fn fetch(&mut self, name: &str, into: &mut Vec<u8>, limit: usize) -> Result<Found, ShelfFault>
         ensures stays { self.new ≡ self.old }
         ensures found { IfOk result (λ found. Fetched self.old name.now limit found into.new.items) }
-        ensures empty { result ≢ Ok Found.Whole → into.new.items ≡ [] }
-        ensures limit { length into.new.items ≤ limit }
+        ensures empty { IsEmptyUnlessWhole result into.new.items }
+        ensures limit { IsWithinLimit limit into.new.items }
 
         // The call never fails.
         ensures counted { CountsFetch 0 0 result }

@@ -6,7 +6,8 @@ ghost use Rattle.std.specs.Str.{IsUtf8};
 ghost use Rattle.script_lines.specs.words.FileNames.{is_file_name};
 ghost use Rattle.script_lines.specs.words.Names.{hex_digit_of};
 ghost use Rattle.vindaesk_c.specs.Lookups.{IsWordOf, can_look_up};
-ghost use Rattle.whole_tool.specs.Usage.{Dump, Lookup, are_ids, resource_ids, run_usage, usage};
+ghost use Rattle.whole_tool.specs.Usage.{Dump, Lookup, are_ids, run_usage, usage};
+ghost use Rattle.tool_replies.specs.Lookup.{resource_ids};
 
 use script_lines::is_file_name;
 use std::alloc::{AllocError, Global};

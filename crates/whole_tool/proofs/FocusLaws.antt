@@ -25,9 +25,10 @@ use Rattle.whole_tool.specs.Tool.{RunsWith, status_of}
 use Rattle.whole_tool.specs.Transcript.{after_lines, carried_lines, has_refusal, max_script, transcript}
 use Rattle.whole_tool.specs.Works.{Trace, WorksPartFrom}
 use Rattle.whole_tool.specs.WorksWith.{WorksWithFrom}
-use Rattle.whole_tool.proofs.CostLaws.{works_with}
-use Rattle.whole_tool.proofs.LongScriptLaws.{carried_long, carried_short}
-use Rattle.whole_tool.proofs.ToolLaws.{not_ended, runs_with, whole_prefix}
+use Rattle.whole_tool.proofs.costs.CostLaws.{works_with}
+use Rattle.whole_tool.proofs.lines.LongScriptLaws.{carried_long, carried_short}
+use Rattle.tool_replies.proofs.EndingLaws.{not_ended, whole_prefix}
+use Rattle.whole_tool.proofs.endings.ToolLaws.{runs_with}
 use Rattle.view_tree.specs.Rows.{Row, first_key}
 use Rattle.view_tree.specs.Views.{Held, held_of, plain_rows}
 use Rattle.view_world.specs.screen.KeyedScreen.{KeyedScreen, stage_of, window_of, world_of}

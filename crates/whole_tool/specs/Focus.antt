@@ -16,11 +16,12 @@ use Rattle.whole_tool.specs.declared.focusing.Question.{Question}
 use Rattle.whole_tool.specs.declared.run.Stop.TheVariants as stop
 use Rattle.whole_tool.specs.declared.script.End.{End}
 use Rattle.whole_tool.specs.declared.script.End.TheVariants as ends
-use Rattle.whole_tool.specs.Numbers.{last_refusal}
-use Rattle.whole_tool.specs.Refusals.{refused_text}
+use Rattle.tool_replies.specs.Numbers.{last_refusal}
+use Rattle.tool_replies.specs.Refusals.{refused_text}
 use Rattle.whole_tool.specs.Script.{RunsTo, WorksTaken}
 use Rattle.whole_tool.specs.Tally.{costs_of_script}
-use Rattle.whole_tool.specs.Tool.{Given, IsComplete, Writes}
+use Rattle.whole_tool.specs.Tool.{Given}
+use Rattle.tool_replies.specs.Endings.{IsComplete, Writes}
 use Rattle.whole_tool.specs.Transcript.{after_lines, carried_lines, cut_transcript, has_refusal, max_script, transcript}
 use Rattle.whole_tool.specs.Usage.{Focus}
 use Rattle.whole_tool.specs.Works.{HasFetched, Trace, Works, WorksBefore, WorksPart, WorksToFetch, WorksToWrite}

@@ -1,14 +1,10 @@
 pub mod Carried
 pub mod Carrier
-pub mod Dump
 pub mod Focus
 pub mod Gen
-pub mod Lookup
-pub mod Names
 pub mod Numbers
 pub mod Outside
 pub mod Promises
-pub mod Refusals
 pub mod Run
 pub mod Script
 pub mod Session

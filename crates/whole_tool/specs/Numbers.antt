@@ -9,10 +9,6 @@ max_views = 4096
 abbrev pub numbers_end : ℕ
 numbers_end = 2 ^ 62
 
--- the most bytes of a layout file
-abbrev pub max_file : ℕ
-max_file = 1048576
-
 -- the most resources that `lookup` takes at a time
 abbrev pub max_ids : ℕ
 max_ids = 64
@@ -32,14 +28,3 @@ bad_syntax = 31
 -- the refusal of a line that is too long
 abbrev pub long_line : ℕ
 long_line = 32
-
--- the refusals of a file that is missing, and of one that is too long
-abbrev pub missing_file : ℕ
-missing_file = 39
-
-abbrev pub long_file : ℕ
-long_file = 40
-
--- the greatest number of a refusal; the first is 1
-abbrev pub last_refusal : ℕ
-last_refusal = 43

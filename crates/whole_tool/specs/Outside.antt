@@ -6,7 +6,7 @@ use Rattle.tool_io.specs.Counts.{raised}
 use Rattle.tool_io.specs.Fetched.{Files}
 use Rattle.tool_io.specs.SinkState.{SinkState}
 use Rattle.view_model.specs.declared.work.Work.{Work}
-use Rattle.whole_tool.specs.Tool.{IsComplete, IsOneOf}
+use Rattle.tool_replies.specs.Endings.{IsComplete, IsOneOf}
 use Rattle.whole_tool.specs.Transcript.{max_script}
 
 -- what is left of the source, how many reads, writes and fetches have failed, the files of the shelf, and the work

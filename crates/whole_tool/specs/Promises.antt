@@ -13,16 +13,17 @@ use Rattle.view_world.specs.frames.Watched.{IsWorth}
 use Rattle.world_parts.specs.Shelves.{layout_fetch}
 use Rattle.world_parts.specs.World.{empty_world}
 use Rattle.whole_tool.specs.Carried.{Alone, Stacked}
-use Rattle.whole_tool.specs.Dump.{dump_page, refuses_file}
+use Rattle.tool_replies.specs.Dump.{dump_page, refuses_file}
 use Rattle.whole_tool.specs.Focus.{AsksWith, IsFocusOf, focus_page, refuses_focus}
 use Rattle.whole_tool.specs.Gen.{gen_page}
-use Rattle.whole_tool.specs.Lookup.{lookup_page, refuses_table, table_fetch}
+use Rattle.tool_replies.specs.Lookup.{lookup_page, refuses_table, table_fetch}
 use Rattle.whole_tool.specs.Run.{StopsAtFetch, StopsBefore}
 use Rattle.whole_tool.specs.Script.{WritesTaken}
 use Rattle.whole_tool.specs.StackPage.{IsPageIsolated}
 use Rattle.whole_tool.specs.Tally.{costs_of_script, costs_of_stack}
-use Rattle.whole_tool.specs.Tool.{Given, IsComplete, IsDumpOf, IsLookupOf, IsOneOf, IsRunOf, IsStackOf, RunsWith}
-use Rattle.whole_tool.specs.Tool.{Writes}
+use Rattle.whole_tool.specs.Tool.{Given, IsDumpOf, IsLookupOf, IsRunOf, IsStackOf, RunsWith}
+use Rattle.tool_replies.specs.Endings.{IsComplete, IsOneOf}
+use Rattle.tool_replies.specs.Endings.{Writes}
 use Rattle.whole_tool.specs.Transcript.{carried_lines, cut_transcript, has_refusal, max_script, refuses_in_stack}
 use Rattle.whole_tool.specs.Transcript.{stack_page}
 use Rattle.whole_tool.specs.Usage.{Usage, Run, Stack, Dump, Gen, Lookup, Focus, Unknown}

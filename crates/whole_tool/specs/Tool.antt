@@ -1,15 +1,14 @@
 -- What a call of the tool is and how it ends.
-use Rattle.std.specs.Prelude.{◌≡◌, ◌⊎◌, ℕ, ◌<◌, ◌≤◌, nat_lt, Bool, true, ◌==◌, if◌then◌else◌, List, length, Option}
-use Rattle.std.specs.Prelude.{Some, Result, Ok, Err}
-use Rattle.std.specs.List.{list_any}
+use Rattle.std.specs.Prelude.{◌≡◌, ℕ, ◌<◌, ◌≤◌, nat_lt, Bool, if◌then◌else◌, List, length, Option, Some, Result}
+use Rattle.std.specs.Prelude.{Ok, Err}
 use Rattle.std.specs.Io.KnownBytes.{Appends}
 use Rattle.script_lines.specs.cutting.Lines.{lines_of}
-use Rattle.text_lines.specs.Prefix.{AppendsPrefix}
 use Rattle.whole_tool.specs.Carried.{Carried}
 use Rattle.whole_tool.specs.declared.run.Stop.TheVariants as stop
 use Rattle.whole_tool.specs.declared.script.End.{End}
 use Rattle.whole_tool.specs.declared.script.End.TheVariants as ends
 use Rattle.tool_io.specs.Fetched.{Files}
+use Rattle.tool_replies.specs.Endings.{IsComplete, Writes}
 use Rattle.whole_tool.specs.Run.{StopsAtFetchFrom, StopsBeforeFrom}
 use Rattle.whole_tool.specs.Script.{WritesTakenFrom}
 use Rattle.whole_tool.specs.Transcript.{after_from, carried_lines, max_script}
@@ -48,10 +47,6 @@ pub record IsLookupOf (call : Given) (name ids : List ℕ) (files : Files) : Typ
   pub words : call.usage ≡ Lookup name ids
   pub shelf : call.held ≡ Some files
 
--- a call that ended by itself: all was done, and nothing or something was refused
-abbrev pub IsComplete : ℕ → Type 0
-IsComplete status = (status ≡ 0) ⊎ (status ≡ 1)
-
 -- the status of a run
 abbrev pub status_of : Result Bool End → ℕ
 status_of (Ok refused) = if refused then 1 else 0
@@ -60,15 +55,6 @@ status_of (Err ends.Long) = 7
 status_of (Err (ends.Stopped stop.Sink)) = 4
 status_of (Err (ends.Stopped stop.NoMemory)) = 5
 status_of (Err (ends.Stopped stop.Shelf)) = 6
-
--- the status is one of these
-abbrev pub IsOneOf : ℕ → List ℕ → Type 0
-IsOneOf status statuses = list_any (λ s. s == status) statuses ≡ true
-
--- what was written when a run ended with a status: the whole text if it ended by itself, and always a front part of it
-pub record Writes (status : ℕ) (old new : Option (List ℕ)) (text : List ℕ) : Type 0 where
-  pub whole : IsComplete status → Appends old new text
-  pub part : AppendsPrefix old new text
 
 -- how a run of a script ended with a status
 pub record RunsWith (start : Carried) (files : Files) (script : List ℕ) (left first last : Option (List ℕ)) (status : ℕ)

@@ -1,6 +1,6 @@
 -- What the tool writes for a script: the texts of its lines, one after another, from the empty world or from no window.
 use Rattle.std.specs.Prelude.{◌≢◌, ℕ, ◌+◌, Bool, nat_lt, if◌then◌else◌, length, List, [], ◌∷◌, ◌++◌, Option, Some, None}
-use Rattle.std.specs.Prelude.{fold, take}
+use Rattle.std.specs.Prelude.{◌≤◌, fold, take}
 use Rattle.script_lines.specs.cutting.Lines.{Line, Text, LongLine, cut_of, is_passed_over, lines_of}
 use Rattle.stack_worlds.specs.PlainStack.{empty_stack}
 use Rattle.tool_io.specs.Fetched.{Files}
@@ -9,7 +9,7 @@ use Rattle.view_model.specs.Refusals.{refusal_numbered}
 use Rattle.whole_tool.specs.Carried.{Carried, Alone, Stacked, LineReply, Done, Refused, BytesWant, asked_by_bytes}
 use Rattle.whole_tool.specs.Carried.{reply_to_bytes}
 use Rattle.whole_tool.specs.Numbers.{long_line}
-use Rattle.whole_tool.specs.Refusals.{refused_line}
+use Rattle.tool_replies.specs.Refusals.{refused_line}
 use Rattle.world_parts.specs.Shelves.{layout_fetch}
 use Rattle.world_parts.specs.World.{empty_world}
 
@@ -97,6 +97,10 @@ has_refusal script files = nat_lt 0 (after_lines files (lines_of script)).refuse
 -- the most bytes that a script may have
 abbrev pub max_script : ℕ
 max_script = 16777216
+
+-- a script that is carried out whole
+abbrev pub IsShortScript : List ℕ → Type 0
+IsShortScript script = length script ≤ max_script
 
 -- the lines of a script that are carried out: all, or if it is too long those whose line feed is among the first bytes
 unfoldable pub carried_lines : List ℕ → List Line

@@ -1,6 +1,6 @@
 -- The forms that the tool's words may have.
-use Rattle.std.specs.Prelude.{ℕ, ◌≤◌, ◌==◌, ◌&&◌, nat_le, Bool, if◌then◌else◌, List, [], ◌∷◌, length, map, Option, Some}
-use Rattle.std.specs.Prelude.{None, is_some, unwrap_or, codes, string_bytes}
+use Rattle.std.specs.Prelude.{ℕ, ◌≤◌, ◌==◌, ◌&&◌, nat_le, Bool, if◌then◌else◌, List, [], ◌∷◌, length, Option, Some}
+use Rattle.std.specs.Prelude.{None, is_some, codes, string_bytes}
 use Rattle.std.specs.List.{list_all}
 use Rattle.std.specs.Result.{result_ok}
 use Rattle.std.specs.Str.{bytes_eq}
@@ -12,6 +12,7 @@ use Rattle.script_lines.specs.words.FileNames.{is_file_name}
 use Rattle.script_lines.specs.words.Names.{hex_of, name_of}
 use Rattle.script_lines.specs.words.Numbers.{natural_of}
 use Rattle.script_lines.specs.declared.words.naming.Name.{Name}
+use Rattle.tool_replies.specs.Lookup.{resource_ids}
 use Rattle.whole_tool.specs.declared.focusing.Question.{Question}
 use Rattle.whole_tool.specs.declared.usage.Form.{Form}
 use Rattle.whole_tool.specs.declared.usage.Form.TheVariants as form
@@ -48,14 +49,8 @@ pair_usage word more = if bytes_eq word (codes "gen") then gen_usage more else d
 abbrev pub is_resource_id : List ℕ → Bool
 is_resource_id word = length word == 8 && is_some (hex_of word)
 
-abbrev pub resource_id : List ℕ → ℕ
-resource_id word = unwrap_or (hex_of word) 0
-
 abbrev pub are_ids : List (String Global) → Bool
 are_ids words = list_all (λ word. is_resource_id (string_bytes word)) words
-
-abbrev pub resource_ids : List (String Global) → List ℕ
-resource_ids words = map (λ word. resource_id (string_bytes word)) words
 
 abbrev pub lookup_usage : List ℕ → List ℕ → List (String Global) → Usage
 lookup_usage word name ids =

@@ -4,7 +4,7 @@ use Rattle.script_lines.specs.cutting.Lines.{lines_of}
 use Rattle.tool_io.specs.Fetched.{Files}
 use Rattle.whole_tool.specs.Carried.{Carried, Alone}
 use Rattle.whole_tool.specs.Script.{WorksTaken}
-use Rattle.whole_tool.specs.Tool.{IsComplete}
+use Rattle.tool_replies.specs.Endings.{IsComplete}
 use Rattle.whole_tool.specs.Transcript.{carried_lines}
 use Rattle.whole_tool.specs.Works.{Trace, Works, WorksBefore, WorksPartFrom, WorksToFetch, WorksToWrite}
 use Rattle.world_parts.specs.World.{empty_world}

@@ -1,6 +1,6 @@
 //! What carries out the lines of a script: a world, or a stack of windows.
 
-ghost use Rattle.std.specs.Prelude.{◌≡◌, ◌≢◌, ◌⊎◌, ◌+◌, ◌-◌, ◌<◌, ◌≤◌, ◌^◌, Err, None, Some, false, length, min};
+ghost use Rattle.std.specs.Prelude.{◌≡◌, ◌≢◌, ◌+◌, ◌-◌, ◌<◌, ◌≤◌, Err, None, Some, false, length};
 ghost use Rattle.script_lines.specs.cutting.Lines.{is_idle, max_line};
 ghost use Rattle.stack_worlds.specs.PlainStack.{empty_stack};
 ghost use Rattle.tool_io.specs.Fetched.{Files};
@@ -12,11 +12,12 @@ ghost use Rattle.whole_tool.specs.Numbers.{max_views, numbers_end};
 ghost use Rattle.whole_tool.specs.Run.{HasTallied, IsShort, line_now};
 ghost use Rattle.whole_tool.specs.Tally.{Tally, after_bytes, with_cost};
 ghost use Rattle.whole_tool.specs.Transcript.{Asks, MayWant, asked_by_line, reply_to_line};
-ghost use Rattle.world_parts.specs.Shelves.{CountsShelf, fetches_after};
-ghost use Rattle.view_world.specs.world.Carried.{IsDone, faults_after_line};
+ghost use Rattle.world_parts.specs.Shelves.{CountsShelf, fetches_after, KeepsFiles};
+ghost use Rattle.view_world.specs.world.Carried.{IsDone, IsDoneOrKeepsBoth, IsDoneOrKeeps, CountsSink};
 ghost use Rattle.world_parts.specs.World.{empty_world};
+ghost use Rattle.view_model.specs.Works.{KeepsPainted, KeepsMeasured};
 
-use script_lines::{LineFault, line};
+use script_lines::LineFault;
 use stack_worlds::Stack;
 use std::alloc::Global;
 use tool_io::{Shelf, Sink};
@@ -50,48 +51,6 @@ impl Carrier {
         Carrier::Stacked(Stack::new())
     }
 
-    /// Carries out a line that is not passed over, and writes its text; of one that is refused nothing is written.
-    fn line<K: Sink, F: Shelf>(
-        &mut self,
-        alloc: Global,
-        bytes: &[u8],
-        shelf: &mut F,
-        sink: &mut K,
-        work: &mut Work,
-    ) -> Result<(), StepFault>
-        requires numbered { next_of self.old < numbers_end }
-        requires short { length bytes.now ≤ max_line }
-        ensures carried { (files : Files)
-            → F.files shelf.old ≡ Some files
-            → WritesLine (reply_to_bytes files (carried_of self.old) bytes.now) (carried_of self.new)
-            (K.state sink.old) (K.state sink.new) result }
-        ensures unchanged { IsDone result ⊎ ((self.new ≡ self.old) × (sink.new ≡ sink.old)) }
-        ensures tallied { (files : Files) (tally : Tally) (first : Work)
-            → F.files shelf.old ≡ Some files
-            → HasTallied first work.old self.old tally
-            → IsDone result
-            → HasTallied first work.new self.new (after_bytes files tally.costs tally.watched bytes.now) }
-        ensures idle { IsDone result ⊎ (work.new ≡ work.old) }
-        ensures memory { result ≡ Err StepFault.NoMemory → BytesWant (carried_of self.old) bytes.now }
-        ensures numbers { next_of self.new ≤ next_of self.old + max_views }
-        ensures sink_failed { (K.state sink.new).faults ≡ faults_after_line result (K.state sink.old).faults }
-        ensures files_stay { F.files shelf.new ≡ F.files shelf.old }
-        ensures shelf_failed { CountsShelf (F.faults shelf.old) (F.faults shelf.new) result }
-        ensures asked { result ≡ Err StepFault.Shelf → asked_by_bytes (carried_of self.old) bytes.now ≢ None }
-        ensures fetched { F.fetches shelf.new
-            ≡ fetches_after (asked_by_bytes (carried_of self.old) bytes.now) (F.fetches shelf.old) }
-        ensures painted { work.old.painted ≤ work.new.painted }
-        ensures measured { min work.old.measured (2 ^ 64 - 1) ≤ work.new.measured }
-    {
-        match self {
-            Carrier::Alone(world) => match line(bytes) {
-                Ok(command) => world.carry(alloc, &command, shelf, sink, work),
-                Err(fault) => Err(StepFault::Refused(refusal_of(fault))),
-            },
-            Carrier::Stacked(_) => self.stacked_line(alloc, bytes, shelf, sink, work),
-        }
-    }
-
     /// The same of a stack. What it holds of a line is not cleared for a line of a world.
     #[inline(never)]
     fn stacked_line<K: Sink, F: Shelf>(
@@ -109,23 +68,23 @@ impl Carrier {
             → F.files shelf.old ≡ Some files
             → WritesLine (reply_to_bytes files (carried_of self.old) bytes.now) (carried_of self.new)
             (K.state sink.old) (K.state sink.new) result }
-        ensures unchanged { IsDone result ⊎ ((self.new ≡ self.old) × (sink.new ≡ sink.old)) }
+        ensures unchanged { IsDoneOrKeepsBoth result self.old self.new sink.old sink.new }
         ensures tallied { (files : Files) (tally : Tally) (first : Work)
             → F.files shelf.old ≡ Some files
             → HasTallied first work.old self.old tally
             → IsDone result
             → HasTallied first work.new self.new (after_bytes files tally.costs tally.watched bytes.now) }
-        ensures idle { IsDone result ⊎ (work.new ≡ work.old) }
+        ensures idle { IsDoneOrKeeps result work.old work.new }
         ensures memory { result ≡ Err StepFault.NoMemory → BytesWant (carried_of self.old) bytes.now }
         ensures numbers { next_of self.new ≤ next_of self.old + max_views }
-        ensures sink_failed { (K.state sink.new).faults ≡ faults_after_line result (K.state sink.old).faults }
-        ensures files_stay { F.files shelf.new ≡ F.files shelf.old }
+        ensures sink_failed { CountsSink (K.state sink.old) (K.state sink.new) result }
+        ensures files_stay { KeepsFiles (F.files shelf.old) (F.files shelf.new) }
         ensures shelf_failed { CountsShelf (F.faults shelf.old) (F.faults shelf.new) result }
         ensures asked { result ≡ Err StepFault.Shelf → asked_by_bytes (carried_of self.old) bytes.now ≢ None }
         ensures fetched { F.fetches shelf.new
             ≡ fetches_after (asked_by_bytes (carried_of self.old) bytes.now) (F.fetches shelf.old) }
-        ensures painted { work.old.painted ≤ work.new.painted }
-        ensures measured { min work.old.measured (2 ^ 64 - 1) ≤ work.new.measured }
+        ensures painted { KeepsPainted work.old work.new }
+        ensures measured { KeepsMeasured work.old work.new }
     {
         match self {
             Carrier::Alone(_) => unreachable!(),
@@ -155,28 +114,34 @@ impl Carrier {
             → F.files shelf.old ≡ Some files
             → WritesLine (reply_to_line files (carried_of self.old) (line_now line.entry)) (carried_of self.new)
             (K.state sink.old) (K.state sink.new) result }
-        ensures unchanged { IsDone result ⊎ ((self.new ≡ self.old) × (sink.new ≡ sink.old)) }
+        ensures unchanged { IsDoneOrKeepsBoth result self.old self.new sink.old sink.new }
         ensures tallied { (files : Files) (tally : Tally) (first : Work)
             → F.files shelf.old ≡ Some files
             → HasTallied first work.old self.old tally
             → IsDone result
             → HasTallied first work.new self.new (with_cost files tally (line_now line.entry)) }
-        ensures idle { IsDone result ⊎ (work.new ≡ work.old) }
+        ensures idle { IsDoneOrKeeps result work.old work.new }
         ensures memory { result ≡ Err StepFault.NoMemory → MayWant (carried_of self.old) (line_now line.entry) }
         ensures numbers { next_of self.new ≤ next_of self.old + max_views }
-        ensures sink_failed { (K.state sink.new).faults ≡ faults_after_line result (K.state sink.old).faults }
-        ensures files_stay { F.files shelf.new ≡ F.files shelf.old }
+        ensures sink_failed { CountsSink (K.state sink.old) (K.state sink.new) result }
+        ensures files_stay { KeepsFiles (F.files shelf.old) (F.files shelf.new) }
         ensures shelf_failed { CountsShelf (F.faults shelf.old) (F.faults shelf.new) result }
         ensures asked { result ≡ Err StepFault.Shelf → Asks (carried_of self.old) (line_now line.entry) }
         ensures fetched { F.fetches shelf.new
             ≡ fetches_after (asked_by_line (carried_of self.old) (line_now line.entry)) (F.fetches shelf.old) }
-        ensures painted { work.old.painted ≤ work.new.painted }
-        ensures measured { min work.old.measured (2 ^ 64 - 1) ≤ work.new.measured }
+        ensures painted { KeepsPainted work.old work.new }
+        ensures measured { KeepsMeasured work.old work.new }
     {
         let Some(bytes) = line else {
             return Err(StepFault::Refused(Refusal::plain(LONG_LINE)));
         };
-        self.line(alloc, bytes, shelf, sink, work)
+        let Carrier::Alone(world) = self else {
+            return self.stacked_line(alloc, bytes, shelf, sink, work);
+        };
+        match script_lines::line(bytes) {
+            Ok(command) => world.carry(alloc, &command, shelf, sink, work),
+            Err(fault) => Err(StepFault::Refused(refusal_of(fault))),
+        }
     }
 }
 

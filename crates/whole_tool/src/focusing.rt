@@ -1,6 +1,6 @@
 //! Which view gets the focus next, after a script.
 
-ghost use Rattle.std.specs.Prelude.{◌≡◌, ℕ, ◌≤◌, ◌-◌, ◌^◌, List, [], IfErr, IfSome, Option, Some, min};
+ghost use Rattle.std.specs.Prelude.{◌≡◌, ℕ, ◌-◌, List, [], IfErr, IfSome, Option, Some};
 ghost use Rattle.std.specs.Option.{option_map};
 ghost use Rattle.text_lines.specs.BufferedText.{Sends};
 ghost use Rattle.text_lines.specs.Delivered.{Delivered};
@@ -15,9 +15,10 @@ ghost use Rattle.whole_tool.specs.Works.{Trace, trace};
 ghost use Rattle.view_tree.specs.Views.{IsLive, number_of};
 ghost use Rattle.view_world.specs.world.KeyedWorld.{world_of};
 ghost use Rattle.world_parts.specs.World.{empty_world};
+ghost use Rattle.view_model.specs.Works.{KeepsPainted, KeepsMeasured};
+ghost use Rattle.world_parts.specs.Shelves.{KeepsFiles};
 
 use crate::carrier::Carrier;
-use crate::refusals::{put_counted, put_refused};
 use crate::run::{Run, Stop};
 use crate::script::{End, run_to_end};
 use crate::status::status;
@@ -26,6 +27,7 @@ use script_lines::Name;
 use std::alloc::Global;
 use text_lines::TextBuffer;
 use tool_io::{Failed, Shelf, Sink, Source};
+use tool_replies::{put_counted, put_refused};
 use view_model::Work;
 use view_model::refusals::{NO_FRAME, NO_ROOT, NO_VIEW, NO_WINDOW, UNSETTLED};
 use view_tree::{Key, ViewTree};
@@ -84,10 +86,10 @@ impl Question {
         ensures asks { AsksFrom (F.files shelf.old) self
             (S.left source.old) (S.left source.new) (trace (K.state sink.old) work.old (F.fetches shelf.old))
             (trace (K.state sink.new) work.new (F.fetches shelf.new)) result }
-        ensures files_stay { F.files shelf.new ≡ F.files shelf.old }
+        ensures files_stay { KeepsFiles (F.files shelf.old) (F.files shelf.new) }
         ensures shelf_failed { CountsEnd (F.faults shelf.old) (F.faults shelf.new) result }
-        ensures painted { work.old.painted ≤ work.new.painted }
-        ensures measured { min work.old.measured (2 ^ 64 - 1) ≤ work.new.measured }
+        ensures painted { KeepsPainted work.old work.new }
+        ensures measured { KeepsMeasured work.old work.new }
         ensures source_failed { S.faults source.new ≡ reads_counted result (S.faults source.old) }
         ensures sink_failed { (K.state sink.new).faults ≡ ends_counted result (K.state sink.old).faults }
     {

@@ -1,6 +1,6 @@
 //! The load, run in a world of its own.
 
-ghost use Rattle.std.specs.Prelude.{◌≡◌, ◌≢◌, ◌≤◌, ◌^◌, ◌==◌, min, false, ◌-◌, [], ◌∷◌, Some, IfOk, IfErr, IfSome, Option, length, if◌then◌else◌};
+ghost use Rattle.std.specs.Prelude.{◌≡◌, ◌≢◌, ◌≤◌, ◌==◌, false, ◌-◌, [], ◌∷◌, Some, IfOk, IfErr, IfSome, Option, if◌then◌else◌};
 ghost use Rattle.hex.specs.Hex.{encode_lower};
 ghost use Rattle.load_maker.specs.Load.{load};
 ghost use Rattle.script_lines.specs.cutting.Lines.{lines_of};
@@ -12,26 +12,27 @@ ghost use Rattle.tool_io.specs.Fetched.{Files};
 ghost use Rattle.tool_io.specs.Fetches.{Unseen};
 ghost use Rattle.whole_tool.specs.Carried.{Alone};
 ghost use Rattle.whole_tool.specs.Carrier.{carried_of, next_of};
-ghost use Rattle.whole_tool.specs.Dump.{Dumps};
+ghost use Rattle.tool_replies.specs.Dump.{Dumps};
 ghost use Rattle.whole_tool.specs.declared.run.LineRunner.{LineRunner};
 ghost use Rattle.whole_tool.specs.Gen.{gen_outcome, gen_page, outcome_text};
 ghost use Rattle.whole_tool.specs.Run.{HasCarriedOut, HasReadUpTo};
 ghost use Rattle.whole_tool.specs.Tally.{costs_of_script, tally_from};
-ghost use Rattle.whole_tool.specs.Tool.{IsOneOf};
-ghost use Rattle.whole_tool.specs.Transcript.{after_lines, max_script};
+ghost use Rattle.tool_replies.specs.Endings.{IsOneOf};
+ghost use Rattle.whole_tool.specs.Transcript.{IsShortScript, after_lines};
 ghost use Rattle.whole_tool.specs.Works.{Trace, WorksPart};
 ghost use Rattle.view_world.specs.frames.Watched.{IsWorth};
 ghost use Rattle.world_parts.specs.World.{empty_world};
+ghost use Rattle.view_model.specs.Works.{KeepsPainted, KeepsMeasured};
 
 use crate::carrier::Carrier;
-use crate::dump::status_of;
 use crate::run::{Run, Stop};
-use crate::status::{ACCEPTED, NO_MEMORY};
 use load_maker::script;
 use sha2::{Digest, Sha256};
 use std::alloc::Global;
 use text_lines::TextBuffer;
 use tool_io::{Failed, MemorySink, Sink, SteadyShelf};
+use tool_replies::dump::status_of;
+use tool_replies::status::{ACCEPTED, NO_MEMORY};
 use view_model::Work;
 
 /// How many bytes of a page are kept at a time.
@@ -58,8 +59,8 @@ pub fn run_load<K: Sink>(alloc: Global, n: u32, sink: &mut K, work: &mut Work) -
     ensures nothing_written { result ≡ 5 → sink.new ≡ sink.old }
     ensures sink_failed { (K.state sink.new).faults
         ≡ (if result == 4 then raised (K.state sink.old).faults else (K.state sink.old).faults) }
-    ensures painted { work.old.painted ≤ work.new.painted }
-    ensures measured { min work.old.measured (2 ^ 64 - 1) ≤ work.new.measured }
+    ensures painted { KeepsPainted work.old work.new }
+    ensures measured { KeepsMeasured work.old work.new }
 {
     match load_outcome(alloc, n, work) {
         Some(outcome) => status_of(ACCEPTED, write_outcome(sink, outcome)),
@@ -73,8 +74,8 @@ fn load_outcome(alloc: Global, n: u32, work: &mut Work) -> Option<Outcome>
     ensures value { IfSome result (λ outcome. outcome ≡ gen_outcome n) }
     ensures worth { IfSome result (λ outcome. IsWorth (costs_of_script (load n) []) work.old work.new) }
     ensures works { WorksPart [] work.old work.new (lines_of (load n)) }
-    ensures painted { work.old.painted ≤ work.new.painted }
-    ensures measured { min work.old.measured (2 ^ 64 - 1) ≤ work.new.measured }
+    ensures painted { KeepsPainted work.old work.new }
+    ensures measured { KeepsMeasured work.old work.new }
 {
     let mut page = MemorySink::new(alloc, PIECE, Vec::new(alloc));
     let Ok(script) = script(alloc, n) else {
@@ -93,15 +94,15 @@ fn carried_out(
     page: &mut MemorySink,
     work: &mut Work,
 ) -> Result<Outcome, Stop>
-    requires short { length script.now ≤ max_script }
+    requires short { IsShortScript script.now }
     ensures stopped { IfErr result (λ stop. WorksPart [] work.old work.new (lines_of script.now)) }
     ensures runs { IfOk result (λ outcome. (runner : LineRunner)
         × HasCarriedOut (record { gone = Some page.old.gone; work = work.old; fetches = Unseen })
         (record { gone = Some page.new.gone; work = work.new; fetches = Unseen }) runner
         (after_lines [] (lines_of script.now)) (tally_from (Alone empty_world) [] (lines_of script.now))
         × (outcome ≡ record { lines = runner.lines; refused = runner.refused; digest = sha256 page.new.gone })) }
-    ensures painted { work.old.painted ≤ work.new.painted }
-    ensures measured { min work.old.measured (2 ^ 64 - 1) ≤ work.new.measured }
+    ensures painted { KeepsPainted work.old work.new }
+    ensures measured { KeepsMeasured work.old work.new }
 {
     let mut run = Run::new(alloc, Carrier::alone(alloc));
     carry_out(alloc, &mut run, script, page, work)
@@ -115,7 +116,7 @@ fn carry_out(
     page: &mut MemorySink,
     work: &mut Work,
 ) -> Result<Outcome, Stop>
-    requires short { length script.now ≤ max_script }
+    requires short { IsShortScript script.now }
     requires start { carried_of run.old.runner.carrier ≡ Alone empty_world }
     requires following { (files : Option Files) (first : Trace)
         → HasReadUpTo (carried_of run.old.runner.carrier) files first first run.old [] }
@@ -130,8 +131,8 @@ fn carry_out(
       refused = run.new.runner.refused;
       digest = sha256 page.new.gone;
     }) }
-    ensures painted { work.old.painted ≤ work.new.painted }
-    ensures measured { min work.old.measured (2 ^ 64 - 1) ≤ work.new.measured }
+    ensures painted { KeepsPainted work.old work.new }
+    ensures measured { KeepsMeasured work.old work.new }
 {
     let mut shelf = SteadyShelf::new(Vec::new(alloc));
     run.piece(script, &mut shelf, page, work)?;

@@ -3,7 +3,7 @@
 //! The work of a run goes along with its text, and not in a list of its own: the lines that were written are those that
 //! were paid for.
 
-ghost use Rattle.std.specs.Prelude.{nat_lt, ◌≡◌, ℕ, ◌+◌, ◌-◌, ◌*◌, ◌<◌, ◌≤◌, ◌^◌, min, List, ◌∷◌, [], ◌++◌, Option, Some, OnOk, IfOk, IfErr, IfSome, length, take};
+ghost use Rattle.std.specs.Prelude.{nat_lt, ◌≡◌, ℕ, ◌+◌, ◌-◌, ◌*◌, ◌<◌, ◌≤◌, ◌^◌, List, ◌∷◌, [], ◌++◌, Option, Some, OnOk, IfOk, IfErr, IfSome, length, take};
 ghost use Rattle.script_lines.specs.cutting.LineBuffer.{IsLent, lines_at};
 ghost use Rattle.script_lines.specs.cutting.Lines.{Line, cut_of, is_idle, lines_of, max_line};
 ghost use Rattle.tool_io.specs.Fetched.{Files};
@@ -15,13 +15,15 @@ ghost use Rattle.whole_tool.specs.Run.{CountsFetches, HasCarriedOut, HasReadUpTo
 ghost use Rattle.whole_tool.specs.Tally.{Tally, tally_from, with_cost};
 ghost use Rattle.whole_tool.specs.Transcript.{ScriptProgress, after_line, after_from};
 ghost use Rattle.whole_tool.specs.Works.{Trace, trace};
+ghost use Rattle.view_model.specs.Works.{KeepsPainted, KeepsMeasured};
+ghost use Rattle.world_parts.specs.Shelves.{KeepsFiles};
 
 use crate::carrier::Carrier;
-use crate::refusals::write_refusal;
 use script_lines::{Ended, LinePlace, Lines, passes_over};
 use std::alloc::Global;
 use text_lines::TextBuffer;
 use tool_io::{Shelf, Sink};
+use tool_replies::write_refusal;
 use view_model::Work;
 use world_parts::StepFault;
 
@@ -96,10 +98,10 @@ impl LineRunner {
             → IfErr result (StopsIn start files first (trace (K.state sink.new) work.new (F.fetches shelf.new))
             (lines ++ line_now line.entry ∷ [])) }
         ensures numbers { next_of self.new.carrier ≤ next_of self.old.carrier + max_views }
-        ensures files_stay { F.files shelf.new ≡ F.files shelf.old }
+        ensures files_stay { KeepsFiles (F.files shelf.old) (F.files shelf.new) }
         ensures shelf_failed { CountsFetches (F.faults shelf.old) (F.faults shelf.new) result }
-        ensures painted { work.old.painted ≤ work.new.painted }
-        ensures measured { min work.old.measured (2 ^ 64 - 1) ≤ work.new.measured }
+        ensures painted { KeepsPainted work.old work.new }
+        ensures measured { KeepsMeasured work.old work.new }
         ensures counted { (K.state sink.new).faults ≡ writes_counted result (K.state sink.old).faults }
     {
         self.lines = self.lines.saturating_add(1);
@@ -223,10 +225,10 @@ impl Run {
             → IfErr result (λ stop. WithFiles (F.files shelf.old) (λ files. StopsIn start files first
             (trace (K.state sink.new) work.new (F.fetches shelf.new)) (cut_of (before ++ piece.now)).lines stop)) }
         ensures numbers { next_of self.new.runner.carrier ≤ next_of self.old.runner.carrier + max_views }
-        ensures files_stay { F.files shelf.new ≡ F.files shelf.old }
+        ensures files_stay { KeepsFiles (F.files shelf.old) (F.files shelf.new) }
         ensures shelf_failed { CountsFetches (F.faults shelf.old) (F.faults shelf.new) result }
-        ensures painted { work.old.painted ≤ work.new.painted }
-        ensures measured { min work.old.measured (2 ^ 64 - 1) ≤ work.new.measured }
+        ensures painted { KeepsPainted work.old work.new }
+        ensures measured { KeepsMeasured work.old work.new }
         ensures counted { (K.state sink.new).faults ≡ writes_counted result (K.state sink.old).faults }
     {
         let passed = self.lines.passed_over(piece);
@@ -265,10 +267,10 @@ impl Run {
             (trace (K.state sink.new) work.new (F.fetches shelf.new)) (cut_of (before ++ piece.now)).lines stop)) }
         ensures numbers { next_of self.new.runner.carrier
             ≤ next_of self.old.runner.carrier + max_views * length piece.now }
-        ensures files_stay { F.files shelf.new ≡ F.files shelf.old }
+        ensures files_stay { KeepsFiles (F.files shelf.old) (F.files shelf.new) }
         ensures shelf_failed { CountsFetches (F.faults shelf.old) (F.faults shelf.new) result }
-        ensures painted { work.old.painted ≤ work.new.painted }
-        ensures measured { min work.old.measured (2 ^ 64 - 1) ≤ work.new.measured }
+        ensures painted { KeepsPainted work.old work.new }
+        ensures measured { KeepsMeasured work.old work.new }
         ensures counted { (K.state sink.new).faults ≡ writes_counted result (K.state sink.old).faults }
     {
         let mut at = 0;
@@ -300,10 +302,10 @@ impl Run {
             (trace (K.state sink.old) work.old (F.fetches shelf.old)) self.old script
             → IfErr result
             (StopsIn start files first (trace (K.state sink.new) work.new (F.fetches shelf.new)) (lines_of script)) }
-        ensures files_stay { F.files shelf.new ≡ F.files shelf.old }
+        ensures files_stay { KeepsFiles (F.files shelf.old) (F.files shelf.new) }
         ensures shelf_failed { CountsFetches (F.faults shelf.old) (F.faults shelf.new) result }
-        ensures painted { work.old.painted ≤ work.new.painted }
-        ensures measured { min work.old.measured (2 ^ 64 - 1) ≤ work.new.measured }
+        ensures painted { KeepsPainted work.old work.new }
+        ensures measured { KeepsMeasured work.old work.new }
         ensures counted { (K.state sink.new).faults ≡ writes_counted result (K.state sink.old).faults }
     {
         match self.lines.finish() {

@@ -1,6 +1,6 @@
 //! A source that is read in pieces while the script on it is carried out.
 
-ghost use Rattle.std.specs.Prelude.{◌≡◌, ℕ, ◌-◌, ◌≤◌, ◌^◌, List, [], Option, Some, Ok, OnOk, min};
+ghost use Rattle.std.specs.Prelude.{◌≡◌, ℕ, ◌-◌, List, [], Option, Some, Ok, OnOk};
 ghost use Rattle.script_lines.specs.cutting.Lines.{lines_of};
 ghost use Rattle.tool_io.specs.Fetched.{Files};
 ghost use Rattle.whole_tool.specs.Carrier.{carried_of, next_of};
@@ -8,6 +8,8 @@ ghost use Rattle.whole_tool.specs.Run.{HasReadUpTo};
 ghost use Rattle.whole_tool.specs.Script.{CountsEnd, RunsFrom, ends_counted, reads_counted};
 ghost use Rattle.whole_tool.specs.Transcript.{after_from};
 ghost use Rattle.whole_tool.specs.Works.{Trace, trace};
+ghost use Rattle.view_model.specs.Works.{KeepsPainted, KeepsMeasured};
+ghost use Rattle.world_parts.specs.Shelves.{KeepsFiles};
 
 use crate::run::{Run, Stop};
 use tool_io::{Shelf, Sink, Source};
@@ -59,10 +61,10 @@ pub fn run_to_end<S: Source, K: Sink, F: Shelf>(
         → S.left source.old ≡ Some script
         → OnOk result (carried_of run.new.runner.carrier
         ≡ (after_from (carried_of run.old.runner.carrier) files (lines_of script)).carried) }
-    ensures files_stay { F.files shelf.new ≡ F.files shelf.old }
+    ensures files_stay { KeepsFiles (F.files shelf.old) (F.files shelf.new) }
     ensures shelf_failed { CountsEnd (F.faults shelf.old) (F.faults shelf.new) result }
-    ensures painted { work.old.painted ≤ work.new.painted }
-    ensures measured { min work.old.measured (2 ^ 64 - 1) ≤ work.new.measured }
+    ensures painted { KeepsPainted work.old work.new }
+    ensures measured { KeepsMeasured work.old work.new }
     ensures source_failed { S.faults source.new ≡ reads_counted result (S.faults source.old) }
     ensures sink_failed { (K.state sink.new).faults ≡ ends_counted result (K.state sink.old).faults }
 {

@@ -5,6 +5,7 @@ ghost use Rattle.script_lines.specs.cutting.Lines.{line_of};
 ghost use Rattle.whole_tool.specs.Carrier.{next_of};
 ghost use Rattle.whole_tool.specs.Numbers.{max_views, numbers_end};
 ghost use Rattle.whole_tool.specs.Run.{IsShort, line_now};
+ghost use Rattle.world_parts.specs.Shelves.{KeepsFiles};
 
 use crate::carrier::Carrier;
 use crate::run::{LineRunner, Stop};
@@ -67,7 +68,7 @@ impl Session {
             → F.files shelf.old ≡ Some files
             → HasRun files script self.old
             → IfOk result (IsAnswered files script bytes.now (K.state sink.old).gone (K.state sink.new).gone) }
-        ensures files_stay { F.files shelf.new ≡ F.files shelf.old }
+        ensures files_stay { KeepsFiles (F.files shelf.old) (F.files shelf.new) }
     {
         self.left -= 1;
         let before = self.runner.refused();

@@ -1,34 +1,13 @@
-//! The statuses that the tool ends with.
+//! The status that a run ends with.
 
 ghost use Rattle.std.specs.Prelude.{◌≡◌};
 ghost use Rattle.whole_tool.specs.Tool.{status_of};
 
 use crate::run::Stop;
 use crate::script::End;
-
-/// Every line was carried out and the question was answered, and none was refused; or the file was printed.
-pub const ACCEPTED: u8 = 0;
-
-/// Every line was carried out, and one was refused, or the question; or the file was.
-pub const REFUSED: u8 = 1;
-
-/// The words have no form.
-pub const USAGE: u8 = 2;
-
-/// A read of the script failed.
-pub const SOURCE_FAILED: u8 = 3;
-
-/// A write failed.
-pub const SINK_FAILED: u8 = 4;
-
-/// There was no memory.
-pub const NO_MEMORY: u8 = 5;
-
-/// A fetch of a file failed.
-pub const SHELF_FAILED: u8 = 6;
-
-/// The script is too long.
-pub const LONG_SCRIPT: u8 = 7;
+use tool_replies::status::{
+    ACCEPTED, LONG_SCRIPT, NO_MEMORY, REFUSED, SHELF_FAILED, SINK_FAILED, SOURCE_FAILED,
+};
 
 /// The status of a run.
 pub fn status(outcome: Result<bool, End>) -> u8

@@ -5,7 +5,7 @@
 
 ghost use Rattle.std.specs.Prelude.{◌≡◌, Some, IfSome, string_bytes};
 ghost use Rattle.std.specs.Str.{bytes_eq};
-ghost use Rattle.whole_tool.specs.Usage.{HasSize, are_ids, dump_usage, focus_usage, form_now, gen_of, gen_usage, is_resource_id, long_usage, lookup_usage, name_from, pair_usage, resource_id, run_usage, side_of, usage};
+ghost use Rattle.whole_tool.specs.Usage.{HasSize, are_ids, dump_usage, focus_usage, form_now, gen_of, gen_usage, is_resource_id, long_usage, lookup_usage, name_from, pair_usage, run_usage, side_of, usage};
 
 use crate::focusing::Question;
 use focus_finder::Side;
@@ -198,16 +198,6 @@ fn is_resource_id(word: &String) -> bool
     ensures { result ≡ is_resource_id (string_bytes word.now) }
 {
     word.len() == 8 && hex(word.as_bytes()).is_some()
-}
-
-/// The id of a resource, or 0 if a word is none.
-pub fn resource_id(word: &String) -> u32
-    ensures { result ≡ resource_id (string_bytes word.now) }
-{
-    match hex(word.as_bytes()) {
-        Some(id) => id,
-        None => 0,
-    }
 }
 
 fn is(word: &String, text: &str) -> bool

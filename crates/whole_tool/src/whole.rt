@@ -10,21 +10,23 @@ ghost use Rattle.world_parts.specs.World.{empty_world};
 ghost use Rattle.whole_tool.specs.Carried.{Alone, Stacked};
 ghost use Rattle.whole_tool.specs.Outside.{EndsWith, outside};
 ghost use Rattle.whole_tool.specs.Promises.{FetchesFiles, CountsWork, HasStatus, LeavesAlone, LeavesRest, ReportsFailures, ReportsRefusals, Stops, WritesPages, failures};
-ghost use Rattle.whole_tool.specs.Tool.{IsRunOf, RunsWith, Writes, given};
+ghost use Rattle.whole_tool.specs.Tool.{IsRunOf, RunsWith, given};
+ghost use Rattle.tool_replies.specs.Endings.{Writes};
 ghost use Rattle.whole_tool.specs.Transcript.{max_script, transcript};
 ghost use Rattle.whole_tool.specs.Usage.{usage};
 ghost use Rattle.whole_tool.specs.Works.{trace};
 ghost use Rattle.whole_tool.specs.WorksWith.{WorksWith, WorksWithFrom};
 
 use crate::carrier::Carrier;
-use crate::dump::dump;
 use crate::loading::run_load;
-use crate::lookup::lookup;
 use crate::script::run_to_end;
-use crate::status::{USAGE, status};
+use crate::status::status;
 use crate::usage::{Form, form_of};
 use std::alloc::Global;
 use tool_io::{Shelf, Sink, Source};
+use tool_replies::dump::dump;
+use tool_replies::lookup::lookup;
+use tool_replies::status::USAGE;
 use view_model::Work;
 
 /// The whole tool. The words are those after the program's name.

@@ -1,10 +1,11 @@
 -- How the order of windows changes.
-use Rattle.std.proofs.Common.{◌≡◌, ◌≢◌, ℕ, ◌<◌, ◌≤◌, ◌+◌, ℤ, List, [], ◌∷◌, ◌++◌, length, take, drop, get_or, set, Option, None, Some, true, false, refl, sym, ◌∙◌, ap, inl, inr, arith, eqb, subst}
+use Rattle.std.proofs.Common.{◌≡◌, ◌≢◌, ℕ, ◌<◌, ◌≤◌, ◌+◌, ℤ, List, [], ◌∷◌, ◌++◌, length, suc, take, drop, get_or, set, Option, None, Some, true, false, refl, sym, ◌∙◌, ap, inl, inr, arith, eqb, subst}
 use Rattle.std.proofs.lemmas.Bool.{cases_Bool, cases_eq, eq-eqb, ne_eqb}
 use Rattle.std.proofs.lemmas.List.{append-nil, drop_all, drop-set-lt, drop_more, length-set, length-map, map-append, take_all, take_more, take_more_set}
+use Rattle.std.proofs.lemmas.List.Folds.{find_at}
 use Rattle.std.proofs.lemmas.Map.Steps.{length-le_from_distinct_below}
-use Rattle.std.specs.List.{AllByRecursion, IsDistinct, list_any, refill}
-use Rattle.std.specs.Option.{is_some}
+use Rattle.std.specs.List.{AllByRecursion, IsDistinct, list_any, position_or_len, refill, remove, slice_get}
+use Rattle.std.specs.Option.{IfNone, OnSome, is_some}
 use Rattle.std.specs.Prelude.{◌==◌, map, IfSome}
 use Rattle.window_stack.specs.PlainPanes.{AreOpen, IsStack, holder_without, is_under, only, pane_at, pane_under, placed, without}
 use Rattle.geom_core.specs.declared.geometry.Size.{Size}
@@ -254,3 +255,42 @@ pub under_first : (x y : ℤ) (sizes : List (Option Size)) (panes : List Pane) (
 under_first x y sizes panes index other within holds =
     ap (pane_under x y sizes) (drop_more panes index other within)
     ∙ (let first : pane_under x y sizes (get_or panes index other ∷ drop (index + 1) panes) ≡ Some (get_or panes index other) = rw holds refl in first)
+
+-- all stay where there is no such window
+without-absent : (k : ℕ) (panes : List Pane) → pane_at panes k ≡ None → without k panes ≡ panes
+without-absent k [] none = refl
+without-absent k (pane ∷ panes) none = elim (cases_Bool (pane.k == k)) [
+  | inl e ↦ absurd (let none = rw e at none in cc)
+  | inr e ↦ let none = rw e at none in rw e (ap (λ (l : List Pane). pane ∷ l) (without-absent k panes none))
+]
+
+-- where a window is, if it is there
+abbrev pub place_in : ℕ → List Pane → ℕ
+place_in k panes = position_or_len (λ (pane : Pane). pane.k == k) panes
+
+place_later : (k : ℕ) (pane : Pane) (panes : List Pane) → (pane.k == k) ≡ false → place_in k (pane ∷ panes) ≡ suc (place_in k panes)
+place_later k pane panes e = rw e (one_more (place_in k panes))
+  where
+    one_more : (n : ℕ) → 1 + n ≡ suc n
+    one_more n = omega arith
+
+without_later : (k : ℕ) (pane : Pane) (panes : List Pane) → (pane.k == k) ≡ false → without k (pane ∷ panes) ≡ pane ∷ without k panes
+without_later k pane panes e = rw e refl
+
+remove-found : (k : ℕ) (panes : List Pane) → AreOpen panes → remove panes (place_in k panes) ≡ without k panes
+remove-found k [] are = refl
+remove-found k (pane ∷ panes) are = elim (cases_eq pane.k k) [
+  | inl e ↦ rw (eq-eqb pane.k k e) (sym (without-absent k panes (subst (λ n. pane_at panes n ≡ None) e are.1)))
+  | inr e ↦
+      let other = ne_eqb pane.k k e in
+      ap (remove (pane ∷ panes)) (place_later k pane panes other) ∙ ap (λ (l : List Pane). pane ∷ l) (remove-found k panes are.2) ∙ sym (without_later k pane panes other)
+]
+
+pub place_finds : (k : ℕ) (panes : List Pane) → slice_get panes (place_in k panes) ≡ pane_at panes k
+place_finds k panes = sym (find_at (λ (pane : Pane). pane.k == k) panes)
+
+-- what is left once a window is taken from its place
+pub left_without : (k : ℕ) (old now : List Pane) (taken : Option Pane) (stays : Type 0) → AreOpen old → (stays → now ≡ old) → taken ≡ pane_at old k
+    → OnSome taken (now ≡ remove old (place_in k old)) → IfNone taken stays → now ≡ without k old
+left_without k old now (Some pane) stays are same found some none = some ∙ remove-found k old are
+left_without k old now None stays are same found some none = same none ∙ sym (without-absent k old (sym found))

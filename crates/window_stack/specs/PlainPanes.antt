@@ -15,6 +15,10 @@ pub record PlainPanes : Type 0 where
 abbrev pub no_panes : PlainPanes
 no_panes = record { panes = []; holder = None }
 
+-- the number of a window
+abbrev pub IsPane : ℕ → Type 0
+IsPane k = k ≤ max_pane
+
 -- a window, if it is open
 abbrev pub pane_at : List Pane → ℕ → Option Pane
 pane_at panes k = find (λ (pane : Pane). pane.k == k) panes

@@ -1,5 +1,5 @@
 -- The grammar of a line of a stack, over its words. All words are read before a number's bounds are looked at.
-use Rattle.std.specs.Prelude.{ℕ, ◌≤◌, ◌||◌, Bool, if◌then◌else◌, ℤ, pos, List, codes, Result, Ok, Err}
+use Rattle.std.specs.Prelude.{ℕ, ◌≤◌, ◌||◌, Bool, if◌then◌else◌, ℤ, pos, List, codes, length, Result, Ok, Err}
 use Rattle.std.specs.Str.{bytes_eq, is_utf8}
 use Rattle.script_lines.specs.reading.Commands.{IsInBounds, command_of}
 use Rattle.script_lines.specs.words.Numbers.{IsWithin, integer_in, integer_of, natural_within, within_of}
@@ -170,3 +170,11 @@ IsLineInBounds (Down p x y) = IsTouchInBounds p x y
 IsLineInBounds (Move p x y) = IsTouchInBounds p x y
 IsLineInBounds (Up p) = p ≤ max_pointer
 IsLineInBounds Cancel = Unit {0}
+
+-- the same of a line of the code
+abbrev pub IsStackLineInBounds : StackLine → Type 0
+IsStackLineInBounds line = IsLineInBounds (plain_line line)
+
+-- the text of a line is no longer than these bytes
+abbrev pub HasTextIn : List ℕ → StackLine → Type 0
+HasTextIn bytes line = text_length_in (plain_line line) ≤ length bytes

@@ -1,7 +1,8 @@
 //! The order of the windows of a stack.
 
-ghost use Rattle.std.specs.Prelude.{◌≡◌, ◌≤◌, ◌∷◌, ◌+ℤ◌, int_lt, true, map, IfSome};
-ghost use Rattle.window_stack.specs.PlainPanes.{AreOpen, closed, corner_of, holder_without, holds_point, is_open, is_under, lies_from, no_panes, order_of, pane_at, pane_under, placed, raised, set_at, size_at, topmost, without};
+ghost use Rattle.std.specs.Prelude.{◌≡◌, ◌==◌, ◌≤◌, ◌∷◌, ◌+ℤ◌, int_lt, true, map, IfSome};
+ghost use Rattle.std.specs.List.{position_or_len};
+ghost use Rattle.window_stack.specs.PlainPanes.{AreOpen, closed, corner_of, holder_without, holds_point, is_open, is_under, lies_from, no_panes, order_of, pane_at, pane_under, placed, raised, set_at, size_at, topmost, without, IsPane};
 ghost use Rattle.window_stack.specs.Numbers.{max_pane};
 
 use arrayvec::ArrayVec;
@@ -72,7 +73,7 @@ impl Panes {
 
     /// Sets the corner of a window, in pixels. A window that is not open is opened on top, an open one stays in its place.
     pub fn set(&mut self, k: u8, x: i32, y: i32)
-        requires name { k ≤ max_pane }
+        requires name { IsPane k }
         ensures { self.new ≡ set_at self.old k x y }
     {
         if self.pane(k).is_some() {
@@ -87,10 +88,9 @@ impl Panes {
         requires open { is_open self.old k ≡ true }
         ensures { self.new ≡ raised self.old k }
     {
-        let Some(pane) = self.pane(k) else {
-            return;
+        let Some(pane) = take_out(&mut self.panes, k) else {
+            unreachable!()
         };
-        take_out(&mut self.panes, k);
         put_on_top(&mut self.panes, pane);
     }
 
@@ -182,11 +182,25 @@ fn put_on_top(panes: &mut ArrayVec<Pane, MAX_PANES>, pane: Pane)
     panes.insert(0, pane);
 }
 
-/// Takes a window out of these.
-fn take_out(panes: &mut ArrayVec<Pane, MAX_PANES>, k: u8)
-    ensures { panes.new.items ≡ without k panes.old.items }
+/// Takes a window out of these, if it is there. The others keep their order.
+fn take_out(panes: &mut ArrayVec<Pane, MAX_PANES>, k: u8) -> Option<Pane>
+    requires { AreOpen panes.old.items }
+    ensures taken { result ≡ pane_at panes.old.items k }
+    ensures others { panes.new.items ≡ without k panes.old.items }
 {
-    panes.retain(|pane| pane.k != k);
+    let at = place_of(panes.as_slice(), k);
+    panes.pop_at(at)
+}
+
+/// How many of these come before a window; all, if it is not there.
+fn place_of(panes: &[Pane], k: u8) -> usize
+    ensures { result ≡ position_or_len (λ pane. pane.k == k) panes.now }
+{
+    let mut at = 0;
+    while at < panes.len() && panes[at].k != k {
+        at += 1;
+    }
+    at
 }
 
 /// The window that has the gesture after one of them is closed.

@@ -3,8 +3,8 @@
 ghost use Rattle.std.specs.Prelude.{◌≡◌, ◌≤◌, true, length, Err, IfOk};
 ghost use Rattle.script_lines.specs.cutting.Lines.{is_passed_over};
 ghost use Rattle.script_lines.specs.words.Words.{map_ok, words};
-ghost use Rattle.window_stack.specs.StackLines.{IsLineInBounds, at_of, close_of, compose_of, given_of, in_of, is_touch_word, pane_of, part_by, plain_line, raise_of, stack_line_of, scancel_of, sdown_of, smove_of, sup_of, text_length_in, touch_line_by};
-ghost use Rattle.script_lines.specs.reading.Commands.{IsInBounds};
+ghost use Rattle.window_stack.specs.StackLines.{at_of, close_of, compose_of, given_of, in_of, is_touch_word, pane_of, part_by, plain_line, raise_of, stack_line_of, scancel_of, sdown_of, smove_of, sup_of, text_length_in, touch_line_by, IsStackLineInBounds, HasTextIn};
+ghost use Rattle.script_lines.specs.reading.Commands.{IsCommandInBounds};
 ghost use Rattle.script_lines.specs.commands.PlainCommands.{plain_command, text_length};
 ghost use Rattle.window_stack.specs.Numbers.{max_pane};
 
@@ -29,8 +29,8 @@ fn pane(n: i64) -> Result<u8, LineFault>
 #[tactic(auto, unfolding(crate::specs::StackLines::at_of))]
 fn at(bytes: &[u8]) -> Result<StackLine<'_>, LineFault>
     ensures value { map_ok plain_line result ≡ at_of (words bytes.now) }
-    ensures bounds { IfOk result (λ line. IsLineInBounds (plain_line line)) }
-    ensures short { IfOk result (λ line. text_length_in (plain_line line) ≤ length bytes.now) }
+    ensures bounds { IfOk result IsStackLineInBounds }
+    ensures short { IfOk result (HasTextIn bytes.now) }
 {
     let (k, rest) = number(bytes)?;
     let (x, rest) = number(rest)?;
@@ -46,8 +46,8 @@ fn at(bytes: &[u8]) -> Result<StackLine<'_>, LineFault>
 #[tactic(auto, unfolding(crate::specs::StackLines::raise_of))]
 fn raise(bytes: &[u8]) -> Result<StackLine<'_>, LineFault>
     ensures value { map_ok plain_line result ≡ raise_of (words bytes.now) }
-    ensures bounds { IfOk result (λ line. IsLineInBounds (plain_line line)) }
-    ensures short { IfOk result (λ line. text_length_in (plain_line line) ≤ length bytes.now) }
+    ensures bounds { IfOk result IsStackLineInBounds }
+    ensures short { IfOk result (HasTextIn bytes.now) }
 {
     let (k, rest) = number(bytes)?;
     end(rest)?;
@@ -59,8 +59,8 @@ fn raise(bytes: &[u8]) -> Result<StackLine<'_>, LineFault>
 #[tactic(auto, unfolding(crate::specs::StackLines::close_of))]
 fn close(bytes: &[u8]) -> Result<StackLine<'_>, LineFault>
     ensures value { map_ok plain_line result ≡ close_of (words bytes.now) }
-    ensures bounds { IfOk result (λ line. IsLineInBounds (plain_line line)) }
-    ensures short { IfOk result (λ line. text_length_in (plain_line line) ≤ length bytes.now) }
+    ensures bounds { IfOk result IsStackLineInBounds }
+    ensures short { IfOk result (HasTextIn bytes.now) }
 {
     let (k, rest) = number(bytes)?;
     end(rest)?;
@@ -80,7 +80,7 @@ fn is_touch_word(head: &[u8]) -> bool
 #[tactic(auto, unfolding(crate::specs::StackLines::given_of))]
 fn given(bytes: &[u8]) -> Result<Command<'_>, LineFault>
     ensures value { map_ok plain_command result ≡ given_of bytes.now }
-    ensures bounds { IfOk result (λ command. IsInBounds (plain_command command)) }
+    ensures bounds { IfOk result IsCommandInBounds }
     ensures short { IfOk result (λ command. text_length (plain_command command) ≤ length bytes.now) }
 {
     let (head, _) = word(bytes)?;
@@ -95,8 +95,8 @@ fn given(bytes: &[u8]) -> Result<Command<'_>, LineFault>
 #[tactic(auto, unfolding(crate::specs::StackLines::in_of))]
 fn inside(bytes: &[u8]) -> Result<StackLine<'_>, LineFault>
     ensures value { map_ok plain_line result ≡ in_of bytes.now }
-    ensures bounds { IfOk result (λ line. IsLineInBounds (plain_line line)) }
-    ensures short { IfOk result (λ line. text_length_in (plain_line line) ≤ length bytes.now) }
+    ensures bounds { IfOk result IsStackLineInBounds }
+    ensures short { IfOk result (HasTextIn bytes.now) }
 {
     let (name, rest) = word(bytes)?;
     let k = integer(name)?;
@@ -109,7 +109,7 @@ fn inside(bytes: &[u8]) -> Result<StackLine<'_>, LineFault>
 #[tactic(auto, unfolding(crate::specs::StackLines::part_by))]
 fn part(x: i64, y: i64, w: i64, h: i64) -> Result<StackLine<'static>, LineFault>
     ensures value { map_ok plain_line result ≡ part_by x y w h }
-    ensures bounds { IfOk result (λ line. IsLineInBounds (plain_line line)) }
+    ensures bounds { IfOk result IsStackLineInBounds }
     ensures short { IfOk result (λ line. text_length_in (plain_line line) ≡ 0) }
 {
     let x = within(0, MAX_POINT, x)?;
@@ -127,8 +127,8 @@ fn part(x: i64, y: i64, w: i64, h: i64) -> Result<StackLine<'static>, LineFault>
 #[tactic(auto, unfolding(crate::specs::StackLines::compose_of))]
 fn compose(bytes: &[u8]) -> Result<StackLine<'_>, LineFault>
     ensures value { map_ok plain_line result ≡ compose_of (words bytes.now) }
-    ensures bounds { IfOk result (λ line. IsLineInBounds (plain_line line)) }
-    ensures short { IfOk result (λ line. text_length_in (plain_line line) ≤ length bytes.now) }
+    ensures bounds { IfOk result IsStackLineInBounds }
+    ensures short { IfOk result (HasTextIn bytes.now) }
 {
     let (x, rest) = number(bytes)?;
     let (y, rest) = number(rest)?;
@@ -141,8 +141,8 @@ fn compose(bytes: &[u8]) -> Result<StackLine<'_>, LineFault>
 /// The line `sdown p x y`, without its first word.
 fn sdown(bytes: &[u8]) -> Result<StackLine<'_>, LineFault>
     ensures value { map_ok plain_line result ≡ sdown_of (words bytes.now) }
-    ensures bounds { IfOk result (λ line. IsLineInBounds (plain_line line)) }
-    ensures short { IfOk result (λ line. text_length_in (plain_line line) ≤ length bytes.now) }
+    ensures bounds { IfOk result IsStackLineInBounds }
+    ensures short { IfOk result (HasTextIn bytes.now) }
 {
     let touch = read_touch(bytes)?;
     Ok(StackLine::Down {
@@ -155,8 +155,8 @@ fn sdown(bytes: &[u8]) -> Result<StackLine<'_>, LineFault>
 /// The line `smove p x y`, without its first word.
 fn smove(bytes: &[u8]) -> Result<StackLine<'_>, LineFault>
     ensures value { map_ok plain_line result ≡ smove_of (words bytes.now) }
-    ensures bounds { IfOk result (λ line. IsLineInBounds (plain_line line)) }
-    ensures short { IfOk result (λ line. text_length_in (plain_line line) ≤ length bytes.now) }
+    ensures bounds { IfOk result IsStackLineInBounds }
+    ensures short { IfOk result (HasTextIn bytes.now) }
 {
     let touch = read_touch(bytes)?;
     Ok(StackLine::Move {
@@ -170,8 +170,8 @@ fn smove(bytes: &[u8]) -> Result<StackLine<'_>, LineFault>
 #[tactic(auto, unfolding(crate::specs::StackLines::sup_of))]
 fn sup(bytes: &[u8]) -> Result<StackLine<'_>, LineFault>
     ensures value { map_ok plain_line result ≡ sup_of (words bytes.now) }
-    ensures bounds { IfOk result (λ line. IsLineInBounds (plain_line line)) }
-    ensures short { IfOk result (λ line. text_length_in (plain_line line) ≤ length bytes.now) }
+    ensures bounds { IfOk result IsStackLineInBounds }
+    ensures short { IfOk result (HasTextIn bytes.now) }
 {
     let (id, rest) = number(bytes)?;
     end(rest)?;
@@ -183,8 +183,8 @@ fn sup(bytes: &[u8]) -> Result<StackLine<'_>, LineFault>
 #[tactic(auto, unfolding(crate::specs::StackLines::scancel_of))]
 fn scancel(bytes: &[u8]) -> Result<StackLine<'_>, LineFault>
     ensures value { map_ok plain_line result ≡ scancel_of (words bytes.now) }
-    ensures bounds { IfOk result (λ line. IsLineInBounds (plain_line line)) }
-    ensures short { IfOk result (λ line. text_length_in (plain_line line) ≤ length bytes.now) }
+    ensures bounds { IfOk result IsStackLineInBounds }
+    ensures short { IfOk result (HasTextIn bytes.now) }
 {
     end(bytes)?;
     Ok(StackLine::Cancel)
@@ -194,8 +194,8 @@ fn scancel(bytes: &[u8]) -> Result<StackLine<'_>, LineFault>
 #[inline(never)]
 fn read_touch_line<'a>(head: &[u8], bytes: &'a [u8]) -> Result<StackLine<'a>, LineFault>
     ensures value { map_ok plain_line result ≡ touch_line_by head.now (words bytes.now) }
-    ensures bounds { IfOk result (λ line. IsLineInBounds (plain_line line)) }
-    ensures short { IfOk result (λ line. text_length_in (plain_line line) ≤ length bytes.now) }
+    ensures bounds { IfOk result IsStackLineInBounds }
+    ensures short { IfOk result (HasTextIn bytes.now) }
 {
     if is(head, b"sdown") {
         return sdown(bytes);
@@ -217,9 +217,9 @@ fn read_touch_line<'a>(head: &[u8], bytes: &'a [u8]) -> Result<StackLine<'a>, Li
 #[tactic(auto, unfolding(crate::specs::StackLines::stack_line_of, crate::specs::StackLines::stack_line_by), using(crate::proofs::TextLaws::short_in))]
 pub fn stack_line(bytes: &[u8]) -> Result<StackLine<'_>, LineFault>
     ensures value { map_ok plain_line result ≡ stack_line_of bytes.now }
-    ensures bounds { IfOk result (λ line. IsLineInBounds (plain_line line)) }
+    ensures bounds { IfOk result IsStackLineInBounds }
     ensures passed { is_passed_over bytes.now ≡ true → result ≡ Err LineFault.Syntax }
-    ensures short { IfOk result (λ line. text_length_in (plain_line line) ≤ length bytes.now) }
+    ensures short { IfOk result (HasTextIn bytes.now) }
 {
     if !is_text(bytes) {
         return Err(LineFault::Syntax);

@@ -11,6 +11,10 @@ use Rattle.world_parts.specs.declared.fault.StepFault.TheVariants as fault
 abbrev pub AreAtHand : Files → Option Files → Option (List ℕ) → Type 0
 AreAtHand files reported asked = (reported ≡ Some files) ⊎ (asked ≡ None)
 
+-- what a shelf shows of its files stays
+abbrev pub KeepsFiles : Option Files → Option Files → Type 0
+KeepsFiles old new = new ≡ old
+
 -- A shelf's count of failed calls after a command: a fetch that failed raised it by one. Running out of memory may
 -- count as a failed call.
 abbrev pub CountsShelf : {A : Type 0} → ℕ → ℕ → Result A StepFault → Type 0

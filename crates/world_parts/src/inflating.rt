@@ -11,9 +11,10 @@ ghost use Rattle.script_lines.specs.commands.PlainCommands.{plain_command};
 ghost use Rattle.tool_io.specs.Fetched.{Files, file_of};
 ghost use Rattle.tool_io.specs.Fetches.{with_fetch};
 ghost use Rattle.view_model.specs.Refusals.{plain_refusal};
-ghost use Rattle.world_parts.specs.Shelves.{CountsShelf, layout_fetch};
+ghost use Rattle.world_parts.specs.Shelves.{CountsShelf, layout_fetch, KeepsFiles};
 ghost use Rattle.world_parts.specs.Given.{Gives, HasBytes};
 ghost use Rattle.world_parts.specs.Inflating.{bytes_in, fault_refusal, inflation_of, views_in};
+ghost use Rattle.world_parts.specs.Faults.{HasFile};
 
 use crate::fault::StepFault;
 use axml_chunks::{Fault, ReadFault};
@@ -61,7 +62,7 @@ pub fn fetch<F: Shelf>(alloc: Global, shelf: &mut F, name: &str) -> Result<Vec<u
     ensures bytes { (files : Files)
         → F.files shelf.old ≡ Some files
         → Gives HasBytes (bytes_in (file_of files name.now)) result }
-    ensures files_stay { F.files shelf.new ≡ F.files shelf.old }
+    ensures files_stay { KeepsFiles (F.files shelf.old) (F.files shelf.new) }
     ensures shelf_failed { CountsShelf (F.faults shelf.old) (F.faults shelf.new) result }
     ensures fetched { F.fetches shelf.new ≡ with_fetch (F.fetches shelf.old) (layout_fetch name.now) }
     ensures no_sink { result ≢ Err StepFault.Sink }
@@ -94,7 +95,7 @@ pub fn views_of(
     dpi: u32,
 ) -> Result<Grown, StepFault>
     ensures views { Gives IsGrown (views_in bytes.now resources.now dpi) result }
-    ensures no_shelf { result ≢ Err StepFault.Shelf }
+    ensures no_shelf { HasFile result }
 {
     let doc = match read(alloc, bytes) {
         Ok(doc) => doc,

@@ -1,11 +1,12 @@
 //! The views that lines name.
 
-ghost use Rattle.std.specs.Prelude.{◌≡◌, ◌≢◌, Err, IfSome};
+ghost use Rattle.std.specs.Prelude.{◌≡◌, Err, IfSome};
 ghost use Rattle.std.specs.Option.{option_map};
 ghost use Rattle.view_tree.specs.Views.{IsLive, IsTree, number_of, plain_of};
 ghost use Rattle.world_parts.specs.Given.{Gives, IsPlace, Resolved};
 ghost use Rattle.world_parts.specs.Inflating.{place_in};
 ghost use Rattle.world_parts.specs.Naming.{named};
+ghost use Rattle.world_parts.specs.Faults.{HasFile, HasMemory};
 
 use crate::fault::StepFault;
 use script_lines::Name;
@@ -16,7 +17,7 @@ use view_tree::{Key, ViewTree};
 /// The view that a name means, if there is one.
 pub fn find(tree: &ViewTree, name: Name) -> Option<Key>
     ensures number { option_map (number_of tree.now) result ≡ named (plain_of tree.now) name }
-    ensures live { IfSome result (λ view. IsLive tree.now view) }
+    ensures live { IfSome result (IsLive tree.now) }
 {
     match name {
         Name::Number(number) => tree.find(number),
@@ -41,8 +42,8 @@ pub fn resolve(tree: &ViewTree, name: Name) -> Result<Key, StepFault>
 /// Where the tree of a file goes: below the view that a line names, or if none is named, as the root.
 pub fn place_of(tree: &ViewTree, into: Option<Name>) -> Result<Option<Key>, StepFault>
     ensures place { Gives (IsPlace tree.now) (place_in (plain_of tree.now) into) result }
-    ensures no_shelf { result ≢ Err StepFault.Shelf }
-    ensures no_memory { result ≢ Err StepFault.NoMemory }
+    ensures no_shelf { HasFile result }
+    ensures no_memory { HasMemory result }
 {
     let Some(name) = into else {
         if tree.root().is_some() {

@@ -1,10 +1,11 @@
 //! The resources that lines give.
 
-ghost use Rattle.std.specs.Prelude.{◌≡◌, ◌<◌, ◌^◌, IfOk, chars, length};
+ghost use Rattle.std.specs.Prelude.{◌≡◌, ◌<◌, ◌^◌, IfOk, chars};
 ghost use Rattle.res_values.specs.Values.{resource};
 ghost use Rattle.script_lines.specs.words.Escapes.{unescaped};
 ghost use Rattle.script_lines.specs.commands.PlainCommands.{given_text_length, plain_given};
 ghost use Rattle.world_parts.specs.Resources.{resource_given};
+ghost use Rattle.view_model.specs.Texts.{IsShortText};
 
 use res_values::Value;
 use script_lines::{Given, Unescaped};
@@ -21,7 +22,7 @@ fn characters_of(alloc: Global, text: &str) -> Result<Vec<char>, AllocError>
 
 /// A text with escapes as written, which are resolved here.
 fn unescaped(alloc: Global, text: &str) -> Result<Text, AllocError>
-    requires { length text.now < 2 ^ 31 }
+    requires { IsShortText text.now }
     ensures { IfOk result (λ resolved. resolved ≡ unescaped (chars text.now)) }
 {
     let characters = characters_of(alloc, text)?;

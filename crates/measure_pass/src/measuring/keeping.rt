@@ -2,7 +2,7 @@
 ghost use Rattle.std.specs.Prelude.{◌≡◌, ◌+◌, ◌-◌, ◌^◌, min};
 ghost use Rattle.measure_pass.specs.Caches.{pair_in};
 ghost use Rattle.measure_pass.specs.Measured.{current, done_with, hit_with, made_up};
-ghost use Rattle.view_tree.specs.Views.{IsLive, KeepsOthers, SameTree, held_of};
+ghost use Rattle.view_tree.specs.Views.{IsLive, KeepsOthers, SameTree, held_of, KeepsCounts};
 
 use geom_core::{Size, Spec};
 use measure_cache::{Entry, same_spec};
@@ -36,7 +36,7 @@ pub fn hit(tree: &mut ViewTree, view: Key, ws: Spec, hs: Spec, size: Size)
     ensures same { SameTree tree.old tree.new }
     ensures held { held_of tree.new view ≡ hit_with (held_of tree.old view) (record { across = ws; down = hs }) size }
     ensures others { KeepsOthers tree.old tree.new view }
-    ensures counts { tree.new.counts ≡ tree.old.counts }
+    ensures counts { KeepsCounts tree.old tree.new }
 {
     let mut state = tree.state(view);
     state.measured = size;

@@ -2,16 +2,34 @@
 ghost use Rattle.std.specs.Prelude.{◌≡◌, ◌<◌, ◌≤◌, ◌*◌, pos};
 ghost use Rattle.view_model.specs.Numbers.{cell_height};
 ghost use Rattle.view_model.specs.Facts.{layout_facts};
-ghost use Rattle.view_model.specs.Leaf.{view_size};
+ghost use Rattle.view_model.specs.Layout.{for_layout};
+ghost use Rattle.view_model.specs.Leaf.{leaf_size, view_size};
 ghost use Rattle.view_model.specs.TextView.{cells_across, cells_in, text_height, text_size, text_width};
+ghost use Rattle.view_tree.specs.Rows.{head_view, part_from};
+ghost use Rattle.view_tree.specs.Views.{IsLive, class_of};
 
 use cell_text::{cells_in, count, widest};
 use geom_core::{Size, Spec, default_size};
 use view_model::limits::{CELL_HEIGHT, CELL_WIDTH};
 use view_model::{Facts, Text, own_side};
+use view_tree::{Key, ViewTree};
+
+/// The size of a view that has no children, by its class, under these specs.
+#[inline(always)]
+pub fn leaf_size(tree: &ViewTree, view: Key, ws: Spec, hs: Spec) -> Size
+    requires { IsLive tree.now view }
+    ensures { result ≡ leaf_size (class_of tree.now view) (for_layout (head_view (part_from view tree.now.tree)))
+        (record { across = ws; down = hs }) }
+{
+    let facts = tree.facts(view);
+    if tree.class(view).has_text() {
+        return text_size(facts, tree.text(view), ws, hs);
+    }
+    minimal_size(facts, ws, hs)
+}
 
 /// The size of a plain view under these specs.
-pub fn minimal_size(facts: &Facts, ws: Spec, hs: Spec) -> Size
+fn minimal_size(facts: &Facts, ws: Spec, hs: Spec) -> Size
     ensures { result ≡ view_size (layout_facts facts.now) (record { across = ws; down = hs }) }
 {
     Size {
@@ -21,7 +39,7 @@ pub fn minimal_size(facts: &Facts, ws: Spec, hs: Spec) -> Size
 }
 
 /// The size of a view with this text. How many lines the text takes depends on the width that results.
-pub fn text_size(own: &Facts, text: &Text, ws: Spec, hs: Spec) -> Size
+fn text_size(own: &Facts, text: &Text, ws: Spec, hs: Spec) -> Size
     ensures { result ≡ text_size (layout_facts own.now) text.now (record { across = ws; down = hs }) }
 {
     let width = text_width(own, text, ws);

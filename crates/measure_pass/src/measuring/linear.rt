@@ -1,9 +1,9 @@
 //! Measuring a linear layout: its children in order, phase by phase, as its plan asks for them.
-ghost use Rattle.std.specs.Prelude.{◌≡◌, ◌≤◌};
+ghost use Rattle.std.specs.Prelude.{◌≡◌};
 ghost use Rattle.kept_views.specs.Kept.{Ready};
 ghost use Rattle.measure_pass.specs.Courses.{IsMeasuredBelow};
 ghost use Rattle.measure_pass.specs.Measured.{KeepsRest, kids_from, tree_from};
-ghost use Rattle.measure_pass.specs.Phases.{MeasuresAll, MeasuresNext, MeasuresPhase};
+ghost use Rattle.measure_pass.specs.Phases.{MeasuresAll, MeasuresNext, MeasuresPhase, ArePhasesLeft};
 ghost use Rattle.measure_pass.specs.Plans.{Ends, Linear};
 ghost use Rattle.view_model.specs.declared.class.Class.TheVariants.{LinearLayout};
 ghost use Rattle.view_tree.specs.Rows.{part_from};
@@ -52,7 +52,7 @@ fn measure_phases(
     work: &mut Work,
 ) -> Outcome
     requires live { IsLive tree.old view }
-    requires left { left ≤ 2 }
+    requires left { ArePhasesLeft left }
     requires ready { Ready (held_of tree.old) (kids_from view tree.old.tree) }
     ensures is_tree { IsTree tree.old }
     ensures phases { MeasuresAll left (Linear plan.old) tree.old tree.new (kids_from view tree.old.tree)
@@ -83,7 +83,7 @@ fn measure_more(
     work: &mut Work,
 ) -> Outcome
     requires live { IsLive tree.old view }
-    requires left { left ≤ 2 }
+    requires left { ArePhasesLeft left }
     requires ready { Ready (held_of tree.old) (kids_from view tree.old.tree) }
     ensures is_tree { IsTree tree.old }
     ensures phases { MeasuresAll left (Linear plan.old) tree.old tree.new (kids_from view tree.old.tree)

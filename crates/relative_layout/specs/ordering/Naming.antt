@@ -1,13 +1,14 @@
 -- Which children name which ids on an axis, as lists by the last child with an id.
-use Rattle.std.specs.Prelude.{◌≡◌, ℕ, ◌<◌, ◌==◌, true, if◌then◌else◌, List, [], ◌∷◌, length, map, nat_eq, Option, Some}
-use Rattle.std.specs.Prelude.{IfSome, slice_index, slice_index_or, Vec, ◌++◌, None, slice_set}
+use Rattle.std.specs.Prelude.{◌≡◌, ℕ, ◌<◌, ◌≤◌, ◌==◌, true, if◌then◌else◌, List, [], ◌∷◌, length, map, nat_eq, Option}
+use Rattle.std.specs.Prelude.{IfSome, Some, slice_index, slice_index_or, Vec, ◌++◌, None, slice_set}
 use Rattle.std.specs.declared.alloc.Global.{Global}
-use Rattle.indexmap.specs.IndexMap.{get as place_in}
+use Rattle.indexmap.specs.IndexMap.{IndexMap, get as place_in}
 use Rattle.relative_layout.specs.declared.ordering.naming.Naming.{Naming}
 use Rattle.view_model.specs.declared.facts.Rules.{Rules}
 use Rattle.view_model.specs.declared.relative.Axis.{Axis}
 use Rattle.view_model.specs.declared.relative.Axis.TheVariants.{Horizontal, Vertical}
 use Rattle.view_model.specs.declared.relative.Link.{Link}
+use Rattle.view_model.specs.Numbers.{max_views}
 use Rattle.view_model.specs.SiblingRules.{last_with_id, names, no_link, value_of}
 use Rattle.view_model.specs.Verbs as verb
 
@@ -66,7 +67,19 @@ pub record AreNamers (axis : Axis) (kids : List Link) (below : ℕ) (rows : List
   pub whole : (q place : ℕ) → place < below → last_with_id kids (id_at kids q) ≡ Some q → NamesId axis kids q place
       → Has (row_at rows q) place
 
+-- no more children than a tree has views
+abbrev pub AreFewKids : List Link → Type 0
+AreFewKids kids = length kids ≤ max_views
+
+-- one of these children is at a place
+abbrev pub HasPlace : List Link → ℕ → Type 0
+HasPlace kids place = place < length kids
+
+-- a table has for each id the last child with it
+abbrev pub FindsLast : {S : Type 0} → List Link → IndexMap ℕ ℕ S → Type 0
+FindsLast kids lasts = (id : ℕ) → place_in nat_eq lasts id ≡ last_with_id kids id
+
 -- the tables of some children on the axis that they are for
 pub record IsNaming (kids : List Link) (naming : Naming) : Type 0 where
-  pub table : (id : ℕ) → place_in nat_eq naming.lasts id ≡ last_with_id kids id
+  pub table : FindsLast kids naming.lasts
   pub rows : AreNamers naming.axis kids (length kids) (lists_of naming.namers.items)

@@ -1,7 +1,7 @@
 //! Which children reach themselves: a search for strong components that follows each rule once (Gabow 2000,
 //! path-based).
 ghost use Rattle.std.specs.Prelude.{◌≡◌, ◌≢◌, ◌<◌, ◌≤◌, ◌-◌, ◌+◌, ◌++◌, ◌∷◌, ℕ, [], IfNone, IfOk, IfSome, None, OnOk, Some, false, length, replicate, slice_index, slice_set, take, true};
-ghost use Rattle.relative_layout.specs.ordering.Naming.{IsNaming, lists_of};
+ghost use Rattle.relative_layout.specs.ordering.Naming.{IsNaming, lists_of, AreFewKids};
 ghost use Rattle.relative_layout.specs.ordering.Components.{AreMarked, HasTwo, IsLastPart, IsSearching, Joins, Leaves, LedTo, Visits, begins_after, fresh, heads_in, search_effort, status_of};
 ghost use Rattle.relative_layout.specs.ordering.Points.{Goes};
 ghost use Rattle.relative_layout.specs.declared.ordering.components.Status.TheVariants.{Done, Fresh, OnPath};
@@ -49,7 +49,7 @@ pub fn marks_of_members(
     kids: &[Link],
     naming: &Naming,
 ) -> Result<Vec<bool>, AllocError>
-    requires few { length kids.now ≤ max_views }
+    requires few { AreFewKids kids.now }
     requires naming { IsNaming kids.now naming.now }
     ensures size { IfOk result (λ marks. length marks.items ≡ length kids.now) }
     ensures marks { IfOk result (λ marks. AreMarked (leads naming.now.axis kids.now) (length kids.now) marks.items) }
@@ -81,7 +81,7 @@ impl Search {
 
     /// Searches from each point.
     fn search_all(&mut self, kids: &[Link], naming: &Naming) -> Result<(), AllocError>
-        requires few { length kids.now ≤ max_views }
+        requires few { AreFewKids kids.now }
         requires naming { IsNaming kids.now naming.now }
         requires search { IsSearching kids.now naming.now self.old None }
         requires parts { self.old.parts.items ≡ [] }
@@ -103,7 +103,7 @@ impl Search {
         naming: &Naming,
         point: usize,
     ) -> Result<(), AllocError>
-        requires few { length kids.now ≤ max_views }
+        requires few { AreFewKids kids.now }
         requires point { point < length kids.now + length kids.now }
         requires naming { IsNaming kids.now naming.now }
         requires search { IsSearching kids.now naming.now self.old None }
@@ -122,7 +122,7 @@ impl Search {
 
     /// Goes on until the path is empty.
     fn leave_all(&mut self, kids: &[Link], naming: &Naming) -> Result<(), AllocError>
-        requires few { length kids.now ≤ max_views }
+        requires few { AreFewKids kids.now }
         requires naming { IsNaming kids.now naming.now }
         requires search { IsSearching kids.now naming.now self.old None }
         ensures search { OnOk result (IsSearching kids.now naming.now self.new None) }
@@ -147,7 +147,7 @@ impl Search {
 
     /// Follows one edge of the last part, or finishes the part if there is none.
     fn step(&mut self, kids: &[Link], naming: &Naming, part: Part) -> Result<(), AllocError>
-        requires few { length kids.now ≤ max_views }
+        requires few { AreFewKids kids.now }
         requires naming { IsNaming kids.now naming.now }
         requires search { IsSearching kids.now naming.now self.old None }
         requires last { IsLastPart self.old.parts.items part }
@@ -184,7 +184,7 @@ impl Search {
 
     /// Follows an edge of the last part to this point.
     fn look_at(&mut self, kids: &[Link], naming: &Naming, point: usize) -> Result<(), AllocError>
-        requires few { length kids.now ≤ max_views }
+        requires few { AreFewKids kids.now }
         requires point { point < length kids.now + length kids.now }
         requires naming { IsNaming kids.now naming.now }
         requires search { IsSearching kids.now naming.now self.old (Some point) }
@@ -206,7 +206,7 @@ impl Search {
 
     /// Puts a fresh point on the path, as a part of its own.
     fn enter(&mut self, kids: &[Link], naming: &Naming, point: usize) -> Result<(), AllocError>
-        requires few { length kids.now ≤ max_views }
+        requires few { AreFewKids kids.now }
         requires point { point < length kids.now + length kids.now }
         requires naming { IsNaming kids.now naming.now }
         requires search { IsSearching kids.now naming.now self.old (Some point) }

@@ -1,9 +1,8 @@
 //! The ids of children, and those that their rules name.
-ghost use Rattle.std.specs.Prelude.{◌≡◌, ◌≤◌, ℕ, IfOk, OnOk, length, nat_eq};
+ghost use Rattle.std.specs.Prelude.{◌≡◌, ℕ, IfOk, OnOk, nat_eq};
 ghost use Rattle.indexmap.specs.IndexMap.{get as place_in};
-ghost use Rattle.relative_layout.specs.ordering.Naming.{padded_ids, with_last};
+ghost use Rattle.relative_layout.specs.ordering.Naming.{padded_ids, with_last, AreFewKids};
 ghost use Rattle.view_model.specs.SiblingRules.{last_with_id};
-ghost use Rattle.view_model.specs.Numbers.{max_views};
 
 use indexmap::IndexMap;
 use std::alloc::{AllocError, Global};
@@ -44,7 +43,7 @@ pub fn named_ids(axis: Axis, rules: &Rules) -> [u32; 8]
 
 /// The last child with each id.
 pub fn last_places(alloc: Global, kids: &[Link]) -> Result<IndexMap<u32, u32>, AllocError>
-    requires few { length kids.now ≤ max_views }
+    requires few { AreFewKids kids.now }
     ensures { IfOk result (λ lasts. (id : ℕ) → place_in nat_eq lasts id ≡ last_with_id kids.now id) }
 {
     let mut lasts = IndexMap::new(alloc);

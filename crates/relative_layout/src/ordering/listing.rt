@@ -1,8 +1,7 @@
 //! Children whose order is that of the list.
-ghost use Rattle.std.specs.Prelude.{◌≡◌, ◌<◌, ◌≤◌, ℕ, IfOk, IfSome, length, nat_eq, slice_index, true};
-ghost use Rattle.indexmap.specs.IndexMap.{get as place_in};
-ghost use Rattle.relative_layout.specs.ordering.Naming.{NamesBack};
-ghost use Rattle.view_model.specs.SiblingRules.{last_with_id, leads};
+ghost use Rattle.std.specs.Prelude.{◌≡◌, ◌<◌, ◌≤◌, ℕ, IfOk, IfSome, length, slice_index, true};
+ghost use Rattle.relative_layout.specs.ordering.Naming.{NamesBack, FindsLast, HasPlace};
+ghost use Rattle.view_model.specs.SiblingRules.{leads};
 ghost use Rattle.view_model.specs.Numbers.{max_views};
 
 use crate::ordering::ids::named_ids;
@@ -13,7 +12,7 @@ use view_model::{Axis, Link};
 
 /// Whether a quick look shows that each child leads only to children before it, as in most layouts.
 pub fn leads_back(axis: Axis, kids: &[Link], lasts: &IndexMap<u32, u32>) -> bool
-    requires { (id : ℕ) → place_in nat_eq lasts.now id ≡ last_with_id kids.now id }
+    requires { FindsLast kids.now lasts.now }
     ensures { result ≡ true → (place anchor : ℕ) → leads axis kids.now place anchor ≡ true → anchor < place }
 {
     for place in 0..kids.len() {
@@ -26,8 +25,8 @@ pub fn leads_back(axis: Axis, kids: &[Link], lasts: &IndexMap<u32, u32>) -> bool
 
 /// Whether all children whose ids a child names are before it.
 fn names_back(axis: Axis, kids: &[Link], lasts: &IndexMap<u32, u32>, place: usize) -> bool
-    requires place { place < length kids.now }
-    requires table { (id : ℕ) → place_in nat_eq lasts.now id ≡ last_with_id kids.now id }
+    requires place { HasPlace kids.now place }
+    requires table { FindsLast kids.now lasts.now }
     ensures { result ≡ true → NamesBack axis kids.now place }
 {
     for id in named_ids(axis, &kids[place].rules).iter() {

@@ -2,11 +2,9 @@
 //!
 //! Each rule of an axis that names a sibling counts, also one that a start form replaces, and every child with the id
 //! that it names except the child itself: so an order stays right when a direction turns or a child goes.
-ghost use Rattle.std.specs.Prelude.{◌≡◌, ◌<◌, ◌≤◌, ◌+◌, [], IfOk, IfSome, None, OnOk, Some, length, nat_eq, replicate, vec_len, ℕ};
+ghost use Rattle.std.specs.Prelude.{◌≡◌, ◌<◌, ◌+◌, [], IfOk, IfSome, None, OnOk, Some, length, nat_eq, replicate, vec_len};
 ghost use Rattle.indexmap.specs.IndexMap.{get as place_in};
-ghost use Rattle.relative_layout.specs.ordering.Naming.{AreNamers, lists_of, row_at, with_place};
-ghost use Rattle.view_model.specs.SiblingRules.{last_with_id};
-ghost use Rattle.view_model.specs.Numbers.{max_views};
+ghost use Rattle.relative_layout.specs.ordering.Naming.{AreNamers, lists_of, row_at, with_place, AreFewKids, FindsLast, HasPlace};
 
 use crate::ordering::ids::{last_places, named_ids};
 use indexmap::IndexMap;
@@ -26,7 +24,7 @@ impl Naming {
     ghost use Rattle.relative_layout.specs.ordering.Naming.{IsNaming};
 
     pub fn new(alloc: Global, axis: Axis, kids: &[Link]) -> Result<Naming, AllocError>
-        requires few { length kids.now ≤ max_views }
+        requires few { AreFewKids kids.now }
         ensures axis { IfOk result (λ naming. naming.axis ≡ axis) }
         ensures naming { IfOk result (λ naming. IsNaming kids.now naming) }
     {
@@ -62,8 +60,8 @@ fn namers(
     kids: &[Link],
     lasts: &IndexMap<u32, u32>,
 ) -> Result<Vec<Vec<u32>>, AllocError>
-    requires few { length kids.now ≤ max_views }
-    requires table { (id : ℕ) → place_in nat_eq lasts.now id ≡ last_with_id kids.now id }
+    requires few { AreFewKids kids.now }
+    requires table { FindsLast kids.now lasts.now }
     ensures { IfOk result (λ rows. AreNamers axis kids.now (length kids.now) (lists_of rows.items)) }
 {
     let mut rows = empty_rows(alloc, kids.len())?;
@@ -81,9 +79,9 @@ fn add_names(
     lasts: &IndexMap<u32, u32>,
     place: usize,
 ) -> Result<(), AllocError>
-    requires few { length kids.now ≤ max_views }
-    requires place { place < length kids.now }
-    requires table { (id : ℕ) → place_in nat_eq lasts.now id ≡ last_with_id kids.now id }
+    requires few { AreFewKids kids.now }
+    requires place { HasPlace kids.now place }
+    requires table { FindsLast kids.now lasts.now }
     requires rows { AreNamers axis kids.now place (lists_of rows.old.items) }
     ensures { OnOk result (AreNamers axis kids.now (place + 1) (lists_of rows.new.items)) }
 {

@@ -1,6 +1,6 @@
 //! The points among which cycles are searched: the children, and after them the ids.
 ghost use Rattle.std.specs.Prelude.{◌≡◌, ◌<◌, ◌≤◌, ◌+◌, ◌++◌, IfSome, OnOk, length};
-ghost use Rattle.relative_layout.specs.ordering.Naming.{IsNaming, lists_of};
+ghost use Rattle.relative_layout.specs.ordering.Naming.{IsNaming, lists_of, AreFewKids};
 ghost use Rattle.relative_layout.specs.ordering.Points.{heads_of, id_point};
 ghost use Rattle.view_model.specs.Numbers.{max_views};
 
@@ -16,7 +16,7 @@ pub fn put_heads(
     naming: &Naming,
     point: usize,
 ) -> Result<(), AllocError>
-    requires few { length kids.now ≤ max_views }
+    requires few { AreFewKids kids.now }
     requires point { point < length kids.now + length kids.now }
     requires naming { IsNaming kids.now naming.now }
     ensures { OnOk result (points.new.items

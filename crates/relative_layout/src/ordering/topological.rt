@@ -1,6 +1,6 @@
 //! Taking children into an order, each after all to which it leads (Kahn 1962).
 ghost use Rattle.std.specs.Prelude.{◌≡◌, ◌==◌, ◌<◌, ◌≤◌, ◌-◌, ◌+◌, ◌++◌, ◌∷◌, ℕ, [], IfNone, IfOk, IfSome, OnOk, Some, false, if◌then◌else◌, length, nat_lt, replicate, slice_index, slice_set, true};
-ghost use Rattle.relative_layout.specs.ordering.Naming.{Has, IsNaming, lists_of, row_at};
+ghost use Rattle.relative_layout.specs.ordering.Naming.{Has, IsNaming, lists_of, row_at, AreFewKids, HasPlace};
 ghost use Rattle.relative_layout.specs.ordering.Topological.{AreCounts, CountsBelow, IsTaking, LeadsIn, Waits, counted_up, effort, has_more, is_marked};
 ghost use Rattle.view_model.specs.SiblingRules.{leads};
 ghost use Rattle.view_model.specs.Numbers.{max_views};
@@ -25,7 +25,7 @@ pub struct Taking {
 impl Taking {
     /// Before any child is taken: all are to be looked at, the first of them first.
     pub fn start(alloc: Global, kids: &[Link], naming: &Naming) -> Result<Taking, AllocError>
-        requires few { length kids.now ≤ max_views }
+        requires few { AreFewKids kids.now }
         requires naming { IsNaming kids.now naming.now }
         ensures { IfOk result (λ taking. IsTaking naming.now.axis kids.now taking.left.items taking.taken.items
             taking.todo.items taking.order.items) }
@@ -42,7 +42,7 @@ impl Taking {
 
     /// Takes children while there is one that can be taken.
     pub fn take_all(&mut self, kids: &[Link], naming: &Naming) -> Result<(), AllocError>
-        requires few { length kids.now ≤ max_views }
+        requires few { AreFewKids kids.now }
         requires naming { IsNaming kids.now naming.now }
         requires taking { IsTaking naming.now.axis kids.now self.old.left.items self.old.taken.items
             self.old.todo.items self.old.order.items }
@@ -69,8 +69,8 @@ impl Taking {
 
     /// Takes a child if it can be taken and is not yet.
     fn look_at(&mut self, kids: &[Link], naming: &Naming, place: usize) -> Result<(), AllocError>
-        requires few { length kids.now ≤ max_views }
-        requires place { place < length kids.now }
+        requires few { AreFewKids kids.now }
+        requires place { HasPlace kids.now place }
         requires naming { IsNaming kids.now naming.now }
         requires taking { IsTaking naming.now.axis kids.now self.old.left.items self.old.taken.items
             (self.old.todo.items ++ place ∷ []) self.old.order.items }
@@ -92,7 +92,7 @@ impl Taking {
 
     /// Whether a child that is not taken leads to another that is not.
     fn must_wait(&self, kids: &[Link], naming: &Naming, place: usize) -> bool
-        requires place { place < length kids.now }
+        requires place { HasPlace kids.now place }
         requires naming { IsNaming kids.now naming.now }
         requires size { length self.now.taken.items ≡ length kids.now }
         requires counts { AreCounts kids.now self.now.taken.items self.now.left.items }
@@ -121,8 +121,8 @@ impl Taking {
 
     /// Takes a child that leads only to taken ones.
     fn take(&mut self, kids: &[Link], naming: &Naming, place: usize) -> Result<(), AllocError>
-        requires few { length kids.now ≤ max_views }
-        requires place { place < length kids.now }
+        requires few { AreFewKids kids.now }
+        requires place { HasPlace kids.now place }
         requires naming { IsNaming kids.now naming.now }
         requires fresh { is_marked self.old.taken.items place ≡ false }
         requires ready { LeadsIn (leads naming.now.axis kids.now) place self.old.taken.items }
@@ -188,7 +188,7 @@ fn own_count(own: u32, id: u32) -> u32
 
 /// For the last child with an id, how many have it.
 fn counts(alloc: Global, kids: &[Link], naming: &Naming) -> Result<Vec<u32>, AllocError>
-    requires few { length kids.now ≤ max_views }
+    requires few { AreFewKids kids.now }
     requires naming { IsNaming kids.now naming.now }
     ensures { IfOk result (λ left. CountsBelow kids.now (length kids.now) left.items) }
 {

@@ -3,6 +3,7 @@ ghost use Rattle.std.specs.Prelude.{◌≡◌, ◌-ℤ◌, ◌≤ℤ◌, IfSome,
 ghost use Rattle.std.specs.Option.{option_map};
 ghost use Rattle.geom_core.specs.Limits.{IsCoordinate};
 ghost use Rattle.view_model.specs.RelativeLayout.{after_anchor, at_most, available_to, before_anchor, begins_at_parent, begins_with, both_insets, bounded_spec, ends_at_parent, ends_with, exactly, far_inset, far_side, loose_spec, loose_spec_in, near_inset, near_side, outer_far, outer_near, room_of, side_spec, spec_in, unbounded_spec, width_of};
+ghost use Rattle.view_model.specs.Sums.{IsNoLessThanTwo, IsNoMoreThanApart};
 
 use geom_core::{MATCH, Mode, Spec, to_coordinate, to_size};
 use view_model::{Anchor, Anchors, ChildAxis, GroupAxis};
@@ -20,8 +21,8 @@ pub fn room(group: &GroupAxis) -> Option<i32>
 /// The near side of an anchor with its margin.
 fn outer_near(anchor: &Anchor) -> i64
     ensures value { result ≡ outer_near anchor.now }
-    ensures low { negsuc 4294967295 ≤ℤ result }
-    ensures high { result ≤ℤ pos 4294967295 }
+    ensures low { IsNoLessThanTwo result }
+    ensures high { IsNoMoreThanApart result }
 {
     i64::from(anchor.near) - i64::from(anchor.margin_near)
 }
@@ -29,8 +30,8 @@ fn outer_near(anchor: &Anchor) -> i64
 /// The far side of an anchor with its margin.
 fn outer_far(anchor: &Anchor) -> i64
     ensures value { result ≡ outer_far anchor.now }
-    ensures low { negsuc 4294967295 ≤ℤ result }
-    ensures high { result ≤ℤ pos 4294967295 }
+    ensures low { IsNoLessThanTwo result }
+    ensures high { IsNoMoreThanApart result }
 {
     i64::from(anchor.far) + i64::from(anchor.margin_far)
 }
@@ -38,8 +39,8 @@ fn outer_far(anchor: &Anchor) -> i64
 /// What the padding and the child's margin take on the near side.
 pub fn near_inset(group: &GroupAxis, kid: &ChildAxis) -> i64
     ensures value { result ≡ near_inset group.now kid.now }
-    ensures low { negsuc 4294967295 ≤ℤ result }
-    ensures high { result ≤ℤ pos 4294967295 }
+    ensures low { IsNoLessThanTwo result }
+    ensures high { IsNoMoreThanApart result }
 {
     i64::from(group.padding_near) + i64::from(kid.margin_near)
 }
@@ -47,8 +48,8 @@ pub fn near_inset(group: &GroupAxis, kid: &ChildAxis) -> i64
 /// What the padding and the child's margin take on the far side.
 pub fn far_inset(group: &GroupAxis, kid: &ChildAxis) -> i64
     ensures value { result ≡ far_inset group.now kid.now }
-    ensures low { negsuc 4294967295 ≤ℤ result }
-    ensures high { result ≤ℤ pos 4294967295 }
+    ensures low { IsNoLessThanTwo result }
+    ensures high { IsNoMoreThanApart result }
 {
     i64::from(group.padding_far) + i64::from(kid.margin_far)
 }
@@ -183,8 +184,8 @@ fn bounded_spec(available: i64, dim: i32) -> Spec
 /// Where a child may begin at the earliest.
 fn near_limit(group: &GroupAxis, kid: &ChildAxis, near: Option<i32>) -> i64
     ensures value { result ≡ unwrap_or near (near_inset group.now kid.now) }
-    ensures low { negsuc 4294967295 ≤ℤ result }
-    ensures high { result ≤ℤ pos 4294967295 }
+    ensures low { IsNoLessThanTwo result }
+    ensures high { IsNoMoreThanApart result }
 {
     match near {
         Some(near) => i64::from(near),

@@ -2,6 +2,7 @@
 ghost use Rattle.std.specs.Prelude.{◌≡◌, ◌+ℤ◌, ◌-ℤ◌, ◌≤ℤ◌, IfSome, negsuc, pos};
 ghost use Rattle.geom_core.specs.Limits.{IsCoordinate, IsSide};
 ghost use Rattle.view_model.specs.RelativeLayout.{centered_in, far_inset, free_near, moved_span, rect_between, rest_near, span_at, span_of};
+ghost use Rattle.view_model.specs.Sums.{IsNoLessThanTwo, IsNoMoreThanApart};
 
 use crate::plan::sides::{far_inset, near_inset};
 use geom_core::{Rect, to_coordinate};
@@ -79,8 +80,8 @@ pub fn span_of(
 /// What a child of this length takes before the far side.
 fn far_share(group: &GroupAxis, length: i32) -> i64
     ensures value { result ≡ group.now.padding_far +ℤ length }
-    ensures low { negsuc 4294967295 ≤ℤ result }
-    ensures high { result ≤ℤ pos 4294967295 }
+    ensures low { IsNoLessThanTwo result }
+    ensures high { IsNoMoreThanApart result }
 {
     i64::from(group.padding_far) + i64::from(length)
 }

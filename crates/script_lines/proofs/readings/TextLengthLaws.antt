@@ -5,9 +5,10 @@ use Rattle.std.specs.List.{prefix_len}
 use Rattle.std.specs.Str.{bytes_eq, is_utf8}
 use Rattle.std.proofs.lemmas.Bool.{cases_lt}
 use Rattle.script_lines.specs.reading.Changes.{act_by}
-use Rattle.script_lines.specs.reading.Commands.{add_of, bounds_of, class_of, command_by, command_in, command_of, digest_of, dpi_of, disallow_of, frame_of, inflate_of, into_of, remove_of, set_of, set_text_of, hook_of}
+use Rattle.script_lines.specs.reading.Commands.{add_of, bounds_of, command_by, command_in, command_of, digest_of, dpi_of, disallow_of, frame_of, inflate_of, into_of, remove_of, set_of, set_text_of, hook_of}
 use Rattle.script_lines.specs.words.Dimensions.{extents_of}
 use Rattle.script_lines.specs.words.Escapes.{escaped_text_of, has_escapes, rest_of}
+use Rattle.view_model.specs.Classes.{class_named}
 use Rattle.script_lines.specs.words.FileNames.{file_name_in}
 use Rattle.script_lines.specs.reading.Hooks.{edits_of}
 use Rattle.script_lines.specs.cutting.Lines.{is_space}
@@ -133,7 +134,7 @@ command_by-short verb.Inflate rest =
     if_then P (file_name_in (words rest)) _ (λ name. if_map P (Inflate name.0) (into_of name.1) (λ _. none_short (length rest)))
 command_by-short verb.Add rest =
     let P = Short (length rest) in
-    if_then P (parent_in (words rest)) _ (λ parent. if_then P (word_in parent.1) _ (λ c. if_then P (class_of c.0) _ (λ class. if_map P _ (extents_of c.1) (λ _. none_short (length rest)))))
+    if_then P (parent_in (words rest)) _ (λ parent. if_then P (word_in parent.1) _ (λ c. if_then P (known (class_named c.0)) _ (λ class. if_map P _ (extents_of c.1) (λ _. none_short (length rest)))))
 command_by-short verb.Remove rest =
     let P = Short (length rest) in
     if_then P (name_in (words rest)) _ (λ view. if_then P (end_of view.1) _ (λ _. none_short (length rest)))

@@ -1,10 +1,9 @@
 -- The first words of lines, and what each asks for.
-use Rattle.std.proofs.Common.{◌≡◌, ◌≢◌, ℕ, refl, ap, sym, ◌∙◌, inl, inr, List, [], ◌∷◌}
+use Rattle.std.proofs.Common.{◌≡◌, ◌≢◌, ℕ, refl, ap, sym, ◌∙◌, List}
 use Rattle.std.specs.Prelude.{IfOk, Option, Some, None}
-use Rattle.std.specs.Str.{bytes_eq}
-use Rattle.std.proofs.lemmas.Bool.{cases_Bool}
-use Rattle.std.proofs.lemmas.Slice.Eq.{bytes_eq-Decides}
-use Rattle.script_lines.specs.reading.Verbs.{act_named, act_verbs, act_word, change_named, change_verbs, change_word, line_verbs, line_word, named, or_else, verb_named}
+use Rattle.view_model.proofs.WordLaws.{named_is}
+use Rattle.view_model.specs.Words.{named}
+use Rattle.script_lines.specs.reading.Verbs.{act_named, act_verbs, act_word, change_named, change_verbs, change_word, line_verbs, line_word, or_else, verb_named}
 use Rattle.script_lines.specs.words.Names.{known}
 use Rattle.script_lines.specs.declared.verbs.ActVerb.{ActVerb}
 use Rattle.script_lines.specs.declared.verbs.ActVerb.TheVariants as act_verb
@@ -15,13 +14,6 @@ use Rattle.script_lines.specs.declared.verbs.Verb.TheVariants as verb
 use Rattle.script_lines.proofs.readings.OkLaws.{if_known}
 
 -- a word names what has it
-named_is : {A : Type 0} (word_of : A → List ℕ) (all : List A) (word : List ℕ) (a : A) → named word_of all word ≡ Some a → word ≡ word_of a
-named_is word_of [] word a h = absurd (cc)
-named_is word_of (b ∷ more) word a h = elim (cases_Bool (bytes_eq word (word_of b))) [
-  | inl same ↦ (let e : Some b ≡ Some a = rw same at h in let is : b ≡ a = cc in (bytes_eq-Decides word (word_of b)).0 same ∙ ap word_of is)
-  | inr other ↦ (let e : named word_of more word ≡ Some a = rw other at h in named_is word_of more word a e)
-]
-
 or_else_is : {A B : Type 0} (P : B → Type 0) (make : A → B) (first : Option A) (second : Option B) → ((a : A) → first ≡ Some a → P (make a)) → ((b : B) → second ≡ Some b → P b) → (b : B) → or_else make first second ≡ Some b → P b
 or_else_is P make (Some a) second here there b h = let is : make a ≡ b = cc in rw (sym is) (here a refl)
 or_else_is P make None second here there b h = there b h

@@ -3,6 +3,8 @@ use Rattle.std.proofs.Common.{◌≡◌, ℕ, ◌<◌, ◌≤◌, ◌^◌, Bool,
 use Rattle.std.specs.Prelude.{if◌then◌else◌, ℤ, pos, codes, Some, None, Ok, ◌*ℤ◌, ◌≤ℤ◌}
 use Rattle.std.specs.Fmt.{decimal, signed_decimal}
 use Rattle.std.proofs.lemmas.Int.{ints}
+use Rattle.view_model.proofs.ClassLaws.{class_named-word}
+use Rattle.view_model.specs.Classes.{class_word}
 use Rattle.view_model.specs.Numbers.{max_size}
 use Rattle.view_model.specs.declared.changes.Act.{Act}
 use Rattle.view_model.specs.declared.changes.Act.TheVariants as act
@@ -17,11 +19,11 @@ use Rattle.view_model.specs.declared.visibility.Visibility.TheVariants as visibi
 use Rattle.view_model.specs.declared.placing.Direction.{Direction}
 use Rattle.view_model.specs.declared.placing.Direction.TheVariants.{Inherit, Ltr, Rtl}
 use Rattle.script_lines.specs.reading.Changes.{IsActInBounds, act_by, answer_named, answer_of, direction_named, direction_of, flag_named, flag_of, new_id_of, orient_of, scroll_of, vertical_of, visibility_of, visible_of}
-use Rattle.script_lines.specs.reading.Commands.{IsInBounds, add_of, bounds_of, class_of, command_by, command_of, digest_of, disallow_of, dpi_of, frame_of, inflate_of, into_of, remove_of, set_of, hook_of}
+use Rattle.script_lines.specs.reading.Commands.{IsInBounds, add_of, bounds_of, command_by, command_of, digest_of, disallow_of, dpi_of, frame_of, inflate_of, into_of, remove_of, set_of, hook_of}
 use Rattle.script_lines.specs.words.Numbers.{IsWithin}
 use Rattle.script_lines.specs.reading.Pixels.{IsPart, is_small, part_of, pixels_of}
 use Rattle.script_lines.specs.reading.Rules.{rule_of}
-use Rattle.script_lines.specs.commands.Spelled.{ActHasLine, HasLine, act_head, act_verb_of, act_words, class_text, edits_words, event_answer_text, extent_text, flag_text, hook_edits, name_text, on_text, parent_text, spelled, touch_words, visibility_text, direction_text}
+use Rattle.script_lines.specs.commands.Spelled.{ActHasLine, HasLine, act_head, act_verb_of, act_words, edits_words, event_answer_text, extent_text, flag_text, hook_edits, name_text, on_text, parent_text, spelled, touch_words, visibility_text, direction_text}
 use Rattle.script_lines.specs.reading.States.{restore_of, save_of}
 use Rattle.script_lines.specs.reading.Touches.{cancel_of, up_of}
 use Rattle.script_lines.specs.words.Words.{on_of}
@@ -45,22 +47,9 @@ use Rattle.script_lines.proofs.readings.StateLaws.{state_text_of-text, state_wor
 use Rattle.script_lines.proofs.spelled.SpelledWords.{AreWords, IsWord, command_of-joined, word_by}
 
 -- classes
-pub class_of-text : (class : Class) → class_of (class_text class) ≡ Ok class
-unfolding class_of
-class_of-text class.View = refl
-class_of-text class.TextView = refl
-class_of-text class.FrameLayout = refl
-class_of-text class.LinearLayout = refl
-class_of-text class.RelativeLayout = refl
-class_of-text class.ScrollView = refl
-
-class_word : (class : Class) → IsWord (class_text class)
-class_word class.View = word_by (codes "View") refl
-class_word class.TextView = word_by (codes "TextView") refl
-class_word class.FrameLayout = word_by (codes "FrameLayout") refl
-class_word class.LinearLayout = word_by (codes "LinearLayout") refl
-class_word class.RelativeLayout = word_by (codes "RelativeLayout") refl
-class_word class.ScrollView = word_by (codes "ScrollView") refl
+class_is_word : (class : Class) → IsWord (class_word class)
+class_is_word class.View = word_by (class_word class.View) refl
+class_is_word _ = word_by _ refl
 
 -- visibilities
 visibility_of-text : (visibility : Visibility) → visibility_of (visibility_text visibility) ≡ Ok visibility
@@ -245,8 +234,8 @@ command_of-spelled (plain.Inflate name (Some view)) b l =
     let j = command_of-joined verb.Inflate (name ∷ codes "into" ∷ name_text view ∷ []) (word_by (codes "inflate") refl, (file_name_word name b, (word_by (codes "into") refl, (name_word view l, tt)))) in
     j.command ∙ rw (j.words, b, name_of-text view l) refl
 command_of-spelled (plain.Add parent class width height) b l =
-    let j = command_of-joined verb.Add (parent_text parent ∷ class_text class ∷ extent_text width ∷ extent_text height ∷ []) (word_by (codes "add") refl, (parent_word parent l, (class_word class, (extent_word width b.0, (extent_word height b.1, tt))))) in
-    j.command ∙ rw (j.words, parent_of-text parent l, class_of-text class, extents_of-text width height b.0 b.1) refl
+    let j = command_of-joined verb.Add (parent_text parent ∷ class_word class ∷ extent_text width ∷ extent_text height ∷ []) (word_by (codes "add") refl, (parent_word parent l, (class_is_word class, (extent_word width b.0, (extent_word height b.1, tt))))) in
+    j.command ∙ rw (j.words, parent_of-text parent l, class_named-word class, extents_of-text width height b.0 b.1) refl
 command_of-spelled (plain.Remove view) b l =
     let j = command_of-joined verb.Remove (name_text view ∷ []) (word_by (codes "remove") refl, (name_word view l, tt)) in
     j.command ∙ rw (j.words, name_of-text view l) refl

@@ -11,6 +11,7 @@ use Rattle.view_model.specs.declared.changes.Act.{Act}
 use Rattle.view_model.specs.declared.changes.Act.TheVariants as act
 use Rattle.view_model.specs.declared.changes.Change.{Change}
 use Rattle.view_model.specs.declared.changes.Change.TheVariants as change
+use Rattle.view_model.proofs.ClassLaws.{class_named-word}
 use Rattle.view_model.specs.Numbers.{max_edits}
 use Rattle.script_lines.specs.reading.Changes.{IsActInBounds, IsChangeInBounds, act_by, change_by, gravity_change_of, new_id_of}
 use Rattle.script_lines.specs.reading.Commands.{IsInBounds, add_of, bounds_of, command_by, command_in, command_of, digest_of, disallow_of, dpi_of, frame_of, inflate_of, into_of, remove_of, set_of, set_text_of, hook_of}
@@ -39,7 +40,7 @@ use Rattle.script_lines.specs.declared.verbs.Verb.TheVariants as verb
 use Rattle.script_lines.specs.declared.reading.resources.LengthUnit.{LengthUnit}
 use Rattle.script_lines.proofs.written.ReadWords.{actions_of-read, answer_in-read, gravity_of-read, id_of-read, last_color-read, name_of-read, parent_of-read, weight_of-read}
 use Rattle.script_lines.proofs.spelled.SpelledChanges.{change_reads, extents_of-text, kids_of-text}
-use Rattle.script_lines.proofs.spelled.SpelledCommands.{act_reads, class_of-text, dpi_short, on_of-text, pixels_of-text, side_of_window}
+use Rattle.script_lines.proofs.spelled.SpelledCommands.{act_reads, dpi_short, on_of-text, pixels_of-text, side_of_window}
 use Rattle.script_lines.proofs.spelled.SpelledNumbers.{differs, integer_of-signed, natural_within-within, pair_of-signed, short_within, within_of-within}
 use Rattle.script_lines.proofs.spelled.SpelledResources.{dimen_word-unit, mantissa-dimen, unit_of-number}
 use Rattle.script_lines.proofs.spelled.SpelledRules.{verb_of-text}
@@ -233,7 +234,7 @@ command_of-given (plain.Res id value) line utf8 b (first, name, given) = read_li
 command_of-given (plain.Inflate name None) line utf8 b (ws, all, are) = read_line line verb.Inflate ws utf8 all ∙ rw (words_after line (codes "inflate") ws all, are, b) refl
 command_of-given (plain.Inflate name (Some view)) line utf8 b (ws, all, (word, are, h)) = read_line line verb.Inflate ws utf8 all ∙ rw (words_after line (codes "inflate") ws all, are, b, name_of-read view word h) refl
 command_of-given (plain.Add parent class width height) line utf8 b (ws, all, (word, are, h)) =
-    read_line line verb.Add ws utf8 all ∙ rw (words_after line (codes "add") ws all, are, parent_of-read parent word h, class_of-text class, extents_of-text width height b.0 b.1) refl
+    read_line line verb.Add ws utf8 all ∙ rw (words_after line (codes "add") ws all, are, parent_of-read parent word h, class_named-word class, extents_of-text width height b.0 b.1) refl
 command_of-given (plain.Remove view) line utf8 b (ws, all, (word, are, h)) = read_line line verb.Remove ws utf8 all ∙ rw (words_after line (codes "remove") ws all, are, name_of-read view word h) refl
 command_of-given (plain.Act view act) line utf8 b (ws, all, (word, rest, are, h, acts)) =
     read_line line (verb.Act (act_verb_of act)) ws utf8 all ∙ rw (words_after line (act_head act) ws all, are, name_of-read view word h, act_by-read act rest b acts) refl

@@ -7,10 +7,12 @@ use Rattle.std.specs.Str.{is_utf8}
 use Rattle.std.proofs.lemmas.Bool.{cases_Bool, cases_lt}
 use Rattle.std.proofs.lemmas.Bool.Decides.{nat_tests}
 use Rattle.view_model.specs.declared.changes.Act.{Act}
+use Rattle.view_model.proofs.ClassLaws.{class_named-is}
+use Rattle.view_model.specs.Classes.{class_named, class_word}
 use Rattle.view_model.specs.Numbers.{max_edits}
 use Rattle.script_lines.specs.reading.Changes.{act_by}
 use Rattle.script_lines.specs.words.Colors.{last_color}
-use Rattle.script_lines.specs.reading.Commands.{add_of, bounds_of, class_of, command_by, command_in, command_of, digest_of, disallow_of, dpi_of, frame_of, inflate_of, into_of, remove_of, set_of, set_text_of, hook_of}
+use Rattle.script_lines.specs.reading.Commands.{add_of, bounds_of, command_by, command_in, command_of, digest_of, disallow_of, dpi_of, frame_of, inflate_of, into_of, remove_of, set_of, set_text_of, hook_of}
 use Rattle.script_lines.specs.words.Dimensions.{extents_of}
 use Rattle.script_lines.specs.words.Escapes.{escaped_text_of, has_escapes, rest_of}
 use Rattle.script_lines.specs.words.FileNames.{file_name_in}
@@ -21,7 +23,7 @@ use Rattle.script_lines.specs.reading.Pixels.{is_small, part_of, pixels_of}
 use Rattle.script_lines.specs.commands.PlainCommands.{PlainCommand, PlainGiven}
 use Rattle.script_lines.specs.commands.PlainCommands as plain
 use Rattle.script_lines.specs.reading.Resources.{dimen_given, given_by, given_of, res_of, resource_id, unit_number, unit_of}
-use Rattle.script_lines.specs.commands.Spelled.{class_text, extent_text, on_text, touch_words, unit_text}
+use Rattle.script_lines.specs.commands.Spelled.{extent_text, on_text, touch_words, unit_text}
 use Rattle.script_lines.specs.reading.States.{is_state_text, restore_of, save_of, state_text_of}
 use Rattle.script_lines.specs.reading.Touches.{cancel_of, pointer_of, touch_of, up_of}
 use Rattle.script_lines.specs.reading.Verbs.{act_word, line_word, verb_named}
@@ -35,13 +37,13 @@ use Rattle.script_lines.specs.declared.reading.touches.Touch.{Touch}
 use Rattle.script_lines.specs.declared.verbs.ActVerb.{ActVerb}
 use Rattle.script_lines.specs.declared.verbs.Verb.{Verb}
 use Rattle.script_lines.specs.declared.verbs.Verb.TheVariants as verb
-use Rattle.script_lines.proofs.readings.OkLaws.{if_either, if_map_with, if_test, if_then_with, if_word}
+use Rattle.script_lines.proofs.readings.OkLaws.{if_either, if_known, if_map_with, if_test, if_then_with, if_word}
 use Rattle.script_lines.proofs.readings.VerbLaws.{verb_named-written}
 use Rattle.script_lines.proofs.spelled.SpelledResources.{dimen_word-unit, mantissa-dimen}
 use Rattle.script_lines.proofs.texts.WordLaws.{one_add, words_none, words_some}
 use Rattle.script_lines.proofs.written.WrittenActs.{AreAct, act_by-written, extents_of-written, natural_within-written, pair_of-written, within_of-written}
 use Rattle.script_lines.proofs.written.WrittenHooks.{edits_of-written}
-use Rattle.script_lines.proofs.written.WrittenWords.{FirstWord, class_of-written, end_of-written, file_name_in-written, id_in-written, integer_in-written, last_color-written, literal_in-written, name_in-written, on_of-written, parent_in-written, unit_of-written, word_in-written}
+use Rattle.script_lines.proofs.written.WrittenWords.{FirstWord, end_of-written, file_name_in-written, id_in-written, integer_in-written, last_color-written, literal_in-written, name_in-written, on_of-written, parent_in-written, unit_of-written, word_in-written}
 
 -- a line that begins with a word
 pub record LineBegins (line head : List ℕ) : Type 0 where
@@ -181,7 +183,7 @@ add_of-written line ws all =
     let P = λ (command : PlainCommand). IsWritten command line in
     if_then_with (λ (r : Option Name × List (List ℕ)). FirstWord (IsParentWord r.0) ws r.1) P (parent_in ws) _ (parent_in-written ws) (λ parent h.
     if_then_with (λ (r : List ℕ × List (List ℕ)). parent.1 ≡ r.0 ∷ r.1) P (word_in parent.1) _ (word_in-written parent.1) (λ c more.
-    if_then_with (λ class. c.0 ≡ class_text class) P (class_of c.0) _ (class_of-written c.0) (λ class is.
+    if_then_with (λ class. c.0 ≡ class_word class) P (known (class_named c.0)) _ (if_known (λ class. c.0 ≡ class_word class) (class_named c.0) (class_named-is c.0)) (λ class is.
     if_map_with (λ (extents : ℤ × ℤ). c.1 ≡ extent_text extents.0 ∷ extent_text extents.1 ∷ []) P _ (extents_of c.1) (extents_of-written c.1) (λ extents last.
     (ws, all, (h.word, h.are ∙ rw (more, is, last) refl, h.fits))))))
 

@@ -14,13 +14,12 @@ use Rattle.std.proofs.lemmas.Str.Parse.{digits_value_short}
 use Rattle.geom_core.specs.declared.color.Argb.{Argb}
 use Rattle.script_lines.specs.reading.Changes.{answer_named, direction_named, flag_named, kids_of, vertical_of, visibility_of}
 use Rattle.script_lines.specs.words.Colors.{color_of, last_color}
-use Rattle.script_lines.specs.reading.Commands.{class_of}
 use Rattle.script_lines.specs.words.FileNames.{file_name_in, file_name_of, is_file_name}
 use Rattle.script_lines.specs.words.Names.{begins_with, hex_of, hex_value, id_in, id_of, known, name_in, name_of, parent_in, parent_of}
 use Rattle.script_lines.specs.words.Numbers.{digits_value, integer_in, integer_of, is_natural, natural_of, negative, positive}
 use Rattle.script_lines.specs.reading.Resources.{unit_number, unit_of}
 use Rattle.script_lines.specs.reading.Rules.{verb_of, verbs}
-use Rattle.script_lines.specs.commands.Spelled.{class_text, direction_text, event_answer_text, flag_text, on_text, unit_text, verb_text, visibility_text}
+use Rattle.script_lines.specs.commands.Spelled.{direction_text, event_answer_text, flag_text, on_text, unit_text, verb_text, visibility_text}
 use Rattle.script_lines.specs.words.Words.{end_of, literal_in, on_of, word_in}
 use Rattle.script_lines.specs.commands.Written.{IsColorWord, IsHexWord, IsNameWord, IsParentWord}
 use Rattle.script_lines.specs.declared.words.naming.Name.{Name}
@@ -28,7 +27,6 @@ use Rattle.script_lines.specs.declared.words.naming.Name.TheVariants.{Number, Id
 use Rattle.script_lines.specs.declared.reading.resources.LengthUnit.{LengthUnit}
 use Rattle.view_model.specs.declared.changes.Flag.{Flag}
 use Rattle.view_model.specs.declared.answer.Answer.{Answer}
-use Rattle.view_model.specs.declared.class.Class.{Class}
 use Rattle.view_model.specs.declared.visibility.Visibility.{Visibility}
 use Rattle.view_model.specs.declared.placing.Direction.{Direction}
 use Rattle.script_lines.proofs.readings.CommandLaws.{and-left, and-right}
@@ -207,14 +205,6 @@ unfolding on_of
 on_of-written word =
     let P = λ (on : Bool). word ≡ on_text on in
     if_word P word (codes "yes") _ _ (λ e. e) (if_word P word (codes "no") _ _ (λ e. e) tt)
-
-pub class_of-written : (word : List ℕ) → IfOk (class_of word) (λ class. word ≡ class_text class)
-unfolding class_of
-class_of-written word =
-    let P = λ (class : Class). word ≡ class_text class in
-    if_word P word (codes "View") _ _ (λ e. e) (if_word P word (codes "TextView") _ _ (λ e. e)
-    (if_word P word (codes "FrameLayout") _ _ (λ e. e) (if_word P word (codes "LinearLayout") _ _ (λ e. e)
-    (if_word P word (codes "RelativeLayout") _ _ (λ e. e) (if_word P word (codes "ScrollView") _ _ (λ e. e) tt)))))
 
 pub visibility_of-written : (word : List ℕ) → IfOk (visibility_of word) (λ visibility. word ≡ visibility_text visibility)
 unfolding visibility_of

@@ -7,6 +7,7 @@ use Rattle.std.specs.List.{All, join_with_byte}
 use Rattle.std.specs.Str.{is_utf8}
 use Rattle.geom_core.specs.declared.color.Argb.{Argb}
 use Rattle.geom_core.specs.declared.geometry.Insets.{Insets}
+use Rattle.view_model.specs.Classes.{class_word}
 use Rattle.view_model.specs.Dimensions.{mantissa}
 use Rattle.view_model.specs.Facts.{no_gravity}
 use Rattle.view_model.specs.declared.changes.Act.{Act}
@@ -17,8 +18,6 @@ use Rattle.view_model.specs.declared.changes.Flag.{Flag}
 use Rattle.view_model.specs.declared.changes.Flag.TheVariants as flag
 use Rattle.view_model.specs.declared.answer.Answer.{Answer}
 use Rattle.view_model.specs.declared.answer.Answer.TheVariants as answer
-use Rattle.view_model.specs.declared.class.Class.{Class}
-use Rattle.view_model.specs.declared.class.Class.TheVariants as class
 use Rattle.view_model.specs.declared.visibility.Visibility.{Visibility}
 use Rattle.view_model.specs.declared.visibility.Visibility.TheVariants as visibility
 use Rattle.view_model.specs.declared.placing.Across.{Across}
@@ -50,14 +49,6 @@ name_text (Id id) = codes "@" ++ digits 16 false id
 abbrev pub parent_text : Option Name → List ℕ
 parent_text None = codes "root"
 parent_text (Some view) = name_text view
-
-abbrev pub class_text : Class → List ℕ
-class_text class.View = codes "View"
-class_text class.TextView = codes "TextView"
-class_text class.FrameLayout = codes "FrameLayout"
-class_text class.LinearLayout = codes "LinearLayout"
-class_text class.RelativeLayout = codes "RelativeLayout"
-class_text class.ScrollView = codes "ScrollView"
 
 -- a dimension as facts keep it
 abbrev pub extent_text : ℤ → List ℕ
@@ -254,7 +245,7 @@ command_words (plain.Res id value) = line_word verb.Res ∷ name_text (Id id) �
 command_words (plain.Inflate name None) = line_word verb.Inflate ∷ name ∷ []
 command_words (plain.Inflate name (Some view)) = line_word verb.Inflate ∷ name ∷ codes "into" ∷ name_text view ∷ []
 command_words (plain.Add parent class width height) =
-    codes "add" ∷ parent_text parent ∷ class_text class ∷ extent_text width ∷ extent_text height ∷ []
+    codes "add" ∷ parent_text parent ∷ class_word class ∷ extent_text width ∷ extent_text height ∷ []
 command_words (plain.Remove view) = line_word verb.Remove ∷ name_text view ∷ []
 command_words (plain.Act view act) = act_head act ∷ name_text view ∷ act_words act
 command_words (plain.SetText view text) = line_word verb.Text ∷ name_text view ∷ text ∷ []

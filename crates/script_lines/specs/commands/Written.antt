@@ -7,6 +7,7 @@ use Rattle.std.specs.Fmt.{decimal, signed_decimal}
 use Rattle.std.specs.List.{All, list_all, slice_split}
 use Rattle.std.specs.Str.{is_utf8}
 use Rattle.geom_core.specs.declared.color.Argb.{Argb}
+use Rattle.view_model.specs.Classes.{class_word}
 use Rattle.view_model.specs.Dimensions.{mantissa}
 use Rattle.view_model.specs.Facts.{no_gravity}
 use Rattle.view_model.specs.declared.changes.Act.{Act}
@@ -27,7 +28,7 @@ use Rattle.script_lines.specs.commands.PlainCommands.{PlainCommand, PlainGiven}
 use Rattle.script_lines.specs.commands.PlainCommands as plain
 use Rattle.script_lines.specs.reading.Rules.{names_sibling}
 use Rattle.script_lines.specs.commands.Spelled.{act_words, action_words, answer_text, change_head, change_words}
-use Rattle.script_lines.specs.commands.Spelled.{class_text, command_words, extent_text, name_text, on_text, unit_text}
+use Rattle.script_lines.specs.commands.Spelled.{command_words, extent_text, name_text, on_text, unit_text}
 use Rattle.script_lines.specs.commands.Spelled.{verb_text, weight_words}
 use Rattle.script_lines.specs.words.Words.{after_word, first_word, words}
 use Rattle.script_lines.specs.declared.commands.Asked.{Asked}
@@ -171,7 +172,7 @@ abbrev pub AreArguments : PlainCommand → List (List ℕ) → Type 0
 AreArguments (plain.Inflate name (Some view)) ws =
     (word : List ℕ) × (ws ≡ name ∷ codes "into" ∷ word ∷ []) × IsNameWord view word
 AreArguments (plain.Add parent class width height) ws =
-    (word : List ℕ) × (ws ≡ word ∷ class_text class ∷ extent_text width ∷ extent_text height ∷ [])
+    (word : List ℕ) × (ws ≡ word ∷ class_word class ∷ extent_text width ∷ extent_text height ∷ [])
     × IsParentWord parent word
 AreArguments (plain.Remove view) ws = (word : List ℕ) × (ws ≡ word ∷ []) × IsNameWord view word
 AreArguments (plain.Act view act) ws =

@@ -2,9 +2,8 @@
 use Rattle.std.specs.Prelude.{ℕ, ◌<◌, ◌≤◌, IsTrue, if◌then◌else◌, pos, List, [], ◌∷◌, length, codes, Option, Some, None}
 use Rattle.std.specs.Prelude.{Result, Ok, Err}
 use Rattle.std.specs.List.{All}
-use Rattle.std.specs.Str.{bytes_eq, is_utf8}
-use Rattle.view_model.specs.declared.class.Class.{Class}
-use Rattle.view_model.specs.declared.class.Class.TheVariants as class
+use Rattle.std.specs.Str.{is_utf8}
+use Rattle.view_model.specs.Classes.{class_named}
 use Rattle.view_model.specs.Numbers.{max_edits}
 use Rattle.script_lines.specs.reading.Changes.{IsActInBounds, IsChangeInBounds, act_by}
 use Rattle.script_lines.specs.words.Dimensions.{IsExtent, extents_of}
@@ -17,13 +16,14 @@ use Rattle.script_lines.specs.words.Numbers.{IsWithin, integer_in, natural_withi
 use Rattle.script_lines.specs.reading.Pixels.{IsPart, pixels_of}
 use Rattle.script_lines.specs.commands.PlainCommands.{PlainCommand, Window, Dpi, Res, Inflate, Add, Remove, Act}
 use Rattle.script_lines.specs.commands.PlainCommands.{SetText, Disallow, Hook, Down, Move, Up, Cancel, Frame, Bounds}
-use Rattle.script_lines.specs.commands.PlainCommands.{Pixels, Digest, Save, Restore}
+use Rattle.script_lines.specs.commands.PlainCommands.{Pixels, Digest, Save, Restore, plain_command}
 use Rattle.script_lines.specs.reading.Resources.{IsGivenInBounds, res_of}
 use Rattle.script_lines.specs.reading.States.{is_state_text, restore_of, save_of}
 use Rattle.script_lines.specs.reading.Touches.{IsTouchInBounds, cancel_of, down_of, move_of, up_of}
 use Rattle.script_lines.specs.reading.Verbs.{verb_named}
 use Rattle.script_lines.specs.words.Words.{after_word, ◌>>=◌, map_ok, literal_in, on_of, word_in, end_of, words}
 use Rattle.script_lines.specs.Numbers.{max_dpi, max_pointer, max_window, min_dpi}
+use Rattle.script_lines.specs.declared.commands.Command.{Command}
 use Rattle.script_lines.specs.declared.fault.LineFault.{LineFault}
 use Rattle.script_lines.specs.declared.fault.LineFault.TheVariants.{Syntax}
 use Rattle.script_lines.specs.declared.verbs.ActVerb.{ActVerb}
@@ -56,22 +56,12 @@ inflate_of words = do
   name ← file_name_in words
   map_ok (Inflate name.0) (into_of name.1)
 
-unfoldable pub class_of : List ℕ → Result Class LineFault
-class_of word =
-    if bytes_eq word (codes "View") then Ok class.View else (
-    if bytes_eq word (codes "TextView") then Ok class.TextView else (
-    if bytes_eq word (codes "FrameLayout") then Ok class.FrameLayout else (
-    if bytes_eq word (codes "LinearLayout") then Ok class.LinearLayout else (
-    if bytes_eq word (codes "RelativeLayout") then Ok class.RelativeLayout else (
-    if bytes_eq word (codes "ScrollView") then Ok class.ScrollView else
-    Err Syntax)))))
-
 -- `P C W H`, a parent, and the view that is added to it
 unfoldable pub add_of : List (List ℕ) → Result PlainCommand LineFault
 add_of words = do
   parent ← parent_in words
   c ← word_in parent.1
-  class ← class_of c.0
+  class ← known (class_named c.0)
   map_ok (λ extents. Add parent.0 class extents.0 extents.1) (extents_of c.1)
 
 -- `V`
@@ -180,3 +170,7 @@ IsInBounds Digest = Unit {0}
 IsInBounds Save = Unit {0}
 IsInBounds (Restore None) = Unit {0}
 IsInBounds (Restore (Some text)) = IsTrue (is_state_text text)
+
+-- the same of a command of the code
+abbrev pub IsCommandInBounds : Command → Type 0
+IsCommandInBounds command = IsInBounds (plain_command command)

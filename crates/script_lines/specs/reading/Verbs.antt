@@ -1,6 +1,6 @@
 -- The words with which lines begin, and what each asks for.
-use Rattle.std.specs.Prelude.{ℕ, if◌then◌else◌, List, [], ◌∷◌, codes, Option, Some, None}
-use Rattle.std.specs.Str.{bytes_eq}
+use Rattle.std.specs.Prelude.{ℕ, List, [], ◌∷◌, codes, Option, Some, None}
+use Rattle.view_model.specs.Words.{named}
 use Rattle.script_lines.specs.declared.verbs.ActVerb.{ActVerb}
 use Rattle.script_lines.specs.declared.verbs.ActVerb.TheVariants as act
 use Rattle.script_lines.specs.declared.verbs.ChangeVerb.{ChangeVerb}
@@ -72,11 +72,6 @@ line_verbs =
     verb.Window ∷ verb.Dpi ∷ verb.Res ∷ verb.Inflate ∷ verb.Add ∷ verb.Remove ∷ verb.Text ∷ verb.Disallow ∷ verb.Hook
     ∷ verb.Down ∷ verb.Move ∷ verb.Up ∷ verb.Cancel ∷ verb.Frame ∷ verb.Bounds ∷ verb.Pixels ∷ verb.Digest ∷ verb.Save
     ∷ verb.Restore ∷ []
-
--- the first of these whose word this is
-abbrev pub named : {A : Type 0} → (A → List ℕ) → List A → List ℕ → Option A
-named word_of [] word = None
-named word_of (a ∷ more) word = if bytes_eq word (word_of a) then Some a else named word_of more word
 
 -- what is made of something, or else another thing
 abbrev pub or_else : {A B : Type 0} → (A → B) → Option A → Option B → Option B

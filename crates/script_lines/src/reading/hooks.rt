@@ -4,7 +4,7 @@ ghost use Rattle.std.specs.Prelude.{◌≡◌, ◌≤◌, ◌+◌, ◌∷◌, []
 ghost use Rattle.std.specs.List.{All};
 ghost use Rattle.arrayvec.specs.ArrayVec.{array_vec_len};
 ghost use Rattle.script_lines.specs.reading.Changes.{IsChangeInBounds};
-ghost use Rattle.script_lines.specs.reading.Commands.{IsInBounds, hook_of};
+ghost use Rattle.script_lines.specs.reading.Commands.{hook_of, IsCommandInBounds};
 ghost use Rattle.script_lines.specs.reading.Gathered.{following, edits_after, edits_in, reading_of};
 ghost use Rattle.script_lines.specs.reading.Hooks.{asked_of, edit_of, edits_of, edits_written, unmade_of};
 ghost use Rattle.script_lines.specs.commands.PlainCommands.{plain_command};
@@ -143,7 +143,7 @@ fn gather(bytes: &[u8]) -> Result<Gathered, LineFault>
 #[tactic(auto, unfolding(crate::specs::reading::Commands::hook_of, crate::specs::reading::Hooks::edits_written), using(crate::proofs::readings::HookLaws::edits_end))]
 pub fn hook(bytes: &[u8]) -> Result<Command<'_>, LineFault>
     ensures value { map_ok plain_command result ≡ hook_of (words bytes.now) }
-    ensures bounds { IfOk result (λ command. IsInBounds (plain_command command)) }
+    ensures bounds { IfOk result IsCommandInBounds }
 {
     let (view, rest) = name_word(bytes)?;
     let gathered = gather(rest)?;

@@ -1,7 +1,7 @@
 //! The part of the picture that a line asks for.
 
 ghost use Rattle.std.specs.Prelude.{◌≡◌, true, ◌*ℤ◌, ◌≤ℤ◌, pos, IfOk};
-ghost use Rattle.script_lines.specs.reading.Commands.{IsInBounds};
+ghost use Rattle.script_lines.specs.reading.Commands.{IsCommandInBounds};
 ghost use Rattle.script_lines.specs.words.Numbers.{IsWithin};
 ghost use Rattle.script_lines.specs.reading.Pixels.{is_small, part_of, pixels_of};
 ghost use Rattle.script_lines.specs.commands.PlainCommands.{plain_command};
@@ -28,7 +28,7 @@ pub fn is_small(w: i32, h: i32) -> bool
 #[tactic(auto, unfolding(crate::specs::reading::Pixels::part_of))]
 fn part(x: i64, y: i64, w: i64, h: i64) -> Result<Command<'static>, LineFault>
     ensures value { map_ok plain_command result ≡ part_of x y w h }
-    ensures bounds { IfOk result (λ command. IsInBounds (plain_command command)) }
+    ensures bounds { IfOk result IsCommandInBounds }
 {
     let x = within(0, MAX_POINT, x)?;
     let y = within(0, MAX_POINT, y)?;
@@ -44,7 +44,7 @@ fn part(x: i64, y: i64, w: i64, h: i64) -> Result<Command<'static>, LineFault>
 #[tactic(auto, unfolding(crate::specs::reading::Pixels::pixels_of))]
 pub fn pixels(bytes: &[u8]) -> Result<Command<'_>, LineFault>
     ensures value { map_ok plain_command result ≡ pixels_of (words bytes.now) }
-    ensures bounds { IfOk result (λ command. IsInBounds (plain_command command)) }
+    ensures bounds { IfOk result IsCommandInBounds }
 {
     let (x, rest) = number(bytes)?;
     let (y, rest) = number(rest)?;

@@ -4,7 +4,7 @@ ghost use Rattle.std.specs.Prelude.{◌≡◌, ◌<◌, IfOk};
 ghost use Rattle.script_lines.specs.Numbers.{max_mantissa, min_mantissa};
 ghost use Rattle.script_lines.specs.words.Numbers.{IsWithin};
 ghost use Rattle.script_lines.specs.commands.PlainCommands.{plain_command, plain_given};
-ghost use Rattle.script_lines.specs.reading.Commands.{IsInBounds};
+ghost use Rattle.script_lines.specs.reading.Commands.{IsCommandInBounds};
 ghost use Rattle.script_lines.specs.reading.Resources.{IsGivenInBounds, color_given, dimen_given, dimen_word, given_by, given_of, in_24_bits, res_of, resource_id, unit_number, unit_of};
 ghost use Rattle.script_lines.specs.words.Words.{map_ok, words};
 
@@ -160,7 +160,7 @@ fn resource_id(id: u32) -> Result<u32, LineFault>
 #[tactic(auto, unfolding(crate::specs::reading::Resources::res_of))]
 pub fn res(bytes: &[u8]) -> Result<Command<'_>, LineFault>
     ensures value { map_ok plain_command result ≡ res_of bytes.now }
-    ensures bounds { IfOk result (λ command. IsInBounds (plain_command command)) }
+    ensures bounds { IfOk result IsCommandInBounds }
 {
     let (id, rest) = id_word(bytes)?;
     let value = given(rest)?;

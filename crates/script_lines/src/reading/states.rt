@@ -1,7 +1,7 @@
 //! Saved states: the line that saves one, and the line that restores one.
 
 ghost use Rattle.std.specs.Prelude.{◌≡◌, IfOk, IsTrue};
-ghost use Rattle.script_lines.specs.reading.Commands.{IsInBounds};
+ghost use Rattle.script_lines.specs.reading.Commands.{IsCommandInBounds};
 ghost use Rattle.script_lines.specs.commands.PlainCommands.{plain_command};
 ghost use Rattle.script_lines.specs.reading.States.{is_state_text, restore_of, save_of, state_text_of};
 ghost use Rattle.script_lines.specs.words.Words.{map_ok, words};
@@ -15,7 +15,7 @@ use crate::words::{end, text, word};
 #[tactic(auto, unfolding(crate::specs::reading::States::save_of))]
 pub fn save(bytes: &[u8]) -> Result<Command<'_>, LineFault>
     ensures value { map_ok plain_command result ≡ save_of (words bytes.now) }
-    ensures bounds { IfOk result (λ command. IsInBounds (plain_command command)) }
+    ensures bounds { IfOk result IsCommandInBounds }
 {
     end(bytes)?;
     Ok(Command::Save)
@@ -46,7 +46,7 @@ fn read_state_text(word: &[u8]) -> Result<&str, LineFault>
 #[tactic(auto, unfolding(crate::specs::reading::States::restore_of))]
 pub fn restore(bytes: &[u8]) -> Result<Command<'_>, LineFault>
     ensures value { map_ok plain_command result ≡ restore_of (words bytes.now) }
-    ensures bounds { IfOk result (λ command. IsInBounds (plain_command command)) }
+    ensures bounds { IfOk result IsCommandInBounds }
 {
     if end(bytes).is_ok() {
         return Ok(Command::Restore(None));

@@ -1,7 +1,7 @@
 //! What a pointer does, and where.
 
 ghost use Rattle.std.specs.Prelude.{◌≡◌, ◌≤◌, IfOk};
-ghost use Rattle.script_lines.specs.reading.Commands.{IsInBounds};
+ghost use Rattle.script_lines.specs.reading.Commands.{IsCommandInBounds};
 ghost use Rattle.script_lines.specs.commands.PlainCommands.{plain_command};
 ghost use Rattle.script_lines.specs.reading.Touches.{IsTouchInBounds, cancel_of, down_of, move_of, pointer_of, touch_of, up_of};
 ghost use Rattle.script_lines.specs.words.Words.{map_ok, words};
@@ -50,7 +50,7 @@ pub fn read_touch(bytes: &[u8]) -> Result<Touch, LineFault>
 #[inline(never)]
 pub fn down(bytes: &[u8]) -> Result<Command<'_>, LineFault>
     ensures value { map_ok plain_command result ≡ down_of (words bytes.now) }
-    ensures bounds { IfOk result (λ command. IsInBounds (plain_command command)) }
+    ensures bounds { IfOk result IsCommandInBounds }
 {
     let touch = read_touch(bytes)?;
     Ok(Command::Down {
@@ -64,7 +64,7 @@ pub fn down(bytes: &[u8]) -> Result<Command<'_>, LineFault>
 #[inline(never)]
 pub fn moved(bytes: &[u8]) -> Result<Command<'_>, LineFault>
     ensures value { map_ok plain_command result ≡ move_of (words bytes.now) }
-    ensures bounds { IfOk result (λ command. IsInBounds (plain_command command)) }
+    ensures bounds { IfOk result IsCommandInBounds }
 {
     let touch = read_touch(bytes)?;
     Ok(Command::Move {
@@ -79,7 +79,7 @@ pub fn moved(bytes: &[u8]) -> Result<Command<'_>, LineFault>
 #[tactic(auto, unfolding(crate::specs::reading::Touches::up_of))]
 pub fn up(bytes: &[u8]) -> Result<Command<'_>, LineFault>
     ensures value { map_ok plain_command result ≡ up_of (words bytes.now) }
-    ensures bounds { IfOk result (λ command. IsInBounds (plain_command command)) }
+    ensures bounds { IfOk result IsCommandInBounds }
 {
     let (id, rest) = number(bytes)?;
     end(rest)?;
@@ -91,7 +91,7 @@ pub fn up(bytes: &[u8]) -> Result<Command<'_>, LineFault>
 #[tactic(auto, unfolding(crate::specs::reading::Touches::cancel_of))]
 pub fn cancel(bytes: &[u8]) -> Result<Command<'_>, LineFault>
     ensures value { map_ok plain_command result ≡ cancel_of (words bytes.now) }
-    ensures bounds { IfOk result (λ command. IsInBounds (plain_command command)) }
+    ensures bounds { IfOk result IsCommandInBounds }
 {
     end(bytes)?;
     Ok(Command::Cancel)

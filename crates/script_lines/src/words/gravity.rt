@@ -7,7 +7,7 @@ ghost use Rattle.std.specs.Prelude.{◌≡◌};
 ghost use Rattle.script_lines.specs.words.Gravities.{across_of, down_of, gravity_of, is_set_across, is_set_down, one_across, one_down, with_word, with_words};
 
 use crate::fault::LineFault;
-use crate::places::place_of;
+use crate::offsets::offset_of;
 use crate::words::is;
 use view_model::{Across, Down, Gravity};
 
@@ -141,7 +141,7 @@ fn add_word(gravity: Gravity, word: &[u8]) -> Result<Gravity, LineFault>
 fn add_words(gravity: Gravity, words: &[u8]) -> Result<Gravity, LineFault>
     ensures { result ≡ with_words gravity words.now }
 {
-    let len = place_of(b'|', words);
+    let len = offset_of(b'|', words);
     let more = add_word(gravity, &words[..len])?;
     if len == words.len() {
         return Ok(more);

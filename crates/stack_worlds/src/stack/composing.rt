@@ -2,7 +2,7 @@
 
 #![tactic(auto, using(text_lines::proofs::Sending::sends_both))]
 
-ghost use Rattle.std.specs.Prelude.{◌≡◌, ◌<◌, ◌≤◌, ◌+◌, ◌-ℤ◌, unsigned_abs, Some};
+ghost use Rattle.std.specs.Prelude.{◌≡◌, ◌<◌, ◌+◌, ◌-ℤ◌, unsigned_abs, Some};
 ghost use Rattle.std.specs.Option.{option_map};
 ghost use Rattle.pixel_raster.specs.Raster.{size_of};
 ghost use Rattle.script_lines.specs.reading.Pixels.{IsPart};
@@ -14,8 +14,7 @@ ghost use Rattle.stack_worlds.specs.KeptStack.{kept_world, stack_of};
 ghost use Rattle.stack_worlds.specs.PlainStack.{color_from, color_in, color_of_picture, color_of_world, composed_text, settled_size, settled_sizes};
 ghost use Rattle.view_world.specs.world.KeyedWorld.{world_of};
 ghost use Rattle.world_replies.specs.Replies.{pixel_text, pixels_text, row_text, separator};
-ghost use Rattle.window_stack.specs.Numbers.{max_pane};
-ghost use Rattle.window_stack.specs.PlainPanes.{topmost};
+ghost use Rattle.window_stack.specs.PlainPanes.{topmost, IsPane};
 
 use crate::stack::Stack;
 use geom_core::{Argb, BLACK, Size};
@@ -85,7 +84,7 @@ impl Stack {
 
     /// The colour of a point of a window, by the coordinates of the stack.
     fn color_in(&self, k: u8, x: i32, y: i32) -> Argb
-        requires { k ≤ max_pane }
+        requires { IsPane k }
         ensures { result ≡ color_in (stack_of self.now) x y (Some k) }
     {
         match self.world(k) {

@@ -1,6 +1,6 @@
 //! Where a line of a stack goes.
 
-ghost use Rattle.std.specs.Prelude.{◌≡◌, ◌<◌, ◌≤◌, ◌^◌, true, IfSome, Some};
+ghost use Rattle.std.specs.Prelude.{◌≡◌, ◌<◌, ◌^◌, true, IfSome, Some};
 ghost use Rattle.script_lines.specs.reading.Commands.{IsInBounds};
 ghost use Rattle.script_lines.specs.commands.PlainCommands.{Down, Move, plain_command, text_length};
 ghost use Rattle.script_lines.specs.words.Numbers.{IsWithin};
@@ -9,8 +9,7 @@ ghost use Rattle.stack_worlds.specs.KeptStack.{stack_of};
 ghost use Rattle.stack_worlds.specs.Numbers.{max_touch, min_touch};
 ghost use Rattle.stack_worlds.specs.PlainStack.{Given as GivenTo, ToStack, from_corner, from_edge, target_of, way_down, way_held, way_move, way_of, way_open};
 ghost use Rattle.stack_worlds.specs.StackCarried.{IsOwnSound, IsWaySound, plain_way};
-ghost use Rattle.window_stack.specs.Numbers.{max_pane};
-ghost use Rattle.window_stack.specs.PlainPanes.{corner_of, is_open};
+ghost use Rattle.window_stack.specs.PlainPanes.{corner_of, is_open, IsPane};
 ghost use Rattle.window_stack.specs.StackLines.{IsLineInBounds, plain_line, text_length_in};
 
 use crate::stack::Stack;
@@ -92,7 +91,7 @@ impl Stack {
 
     /// The way of a command that names its window.
     fn way_in<'a>(&self, k: u8, command: Command<'a>) -> Way<'a>
-        requires name { k ≤ max_pane }
+        requires name { IsPane k }
         requires bounds { IsInBounds (plain_command command) }
         requires short { text_length (plain_command command) < 2 ^ 31 }
         ensures value { plain_way result

@@ -1,6 +1,6 @@
 //! The worlds of the windows of a stack, each in the place of its window.
 
-ghost use Rattle.std.specs.Prelude.{◌≡◌, ◌⊎◌, ◌<◌, ◌≤◌, ◌^◌, [], true, Err, None, Ok, OnErr, Option, Some, slice_set};
+ghost use Rattle.std.specs.Prelude.{◌≡◌, ◌<◌, ◌≤◌, ◌^◌, [], true, Err, None, Ok, OnErr, Option, Some, slice_set};
 ghost use Rattle.std.specs.Option.{option_map};
 ghost use Rattle.script_lines.specs.reading.Commands.{IsInBounds};
 ghost use Rattle.script_lines.specs.commands.PlainCommands.{plain_command, text_length};
@@ -8,7 +8,7 @@ ghost use Rattle.tool_io.specs.Fetched.{Files};
 ghost use Rattle.stack_worlds.specs.KeptStack.{HaveNumbers, kept_world, keyed_at, stack_of};
 ghost use Rattle.stack_worlds.specs.PlainStack.{asked_on, is_none_down, size_in, sizes_of};
 ghost use Rattle.world_parts.specs.Shelves.{AreAtHand, AsksShelf};
-ghost use Rattle.view_world.specs.world.Carried.{IsDone, MayWantMemory, WritesReply, faults_after_line};
+ghost use Rattle.view_world.specs.world.Carried.{MayWantMemory, WritesReply, IsDoneOrKeepsBoth, CountsSink};
 ghost use Rattle.world_parts.specs.Inflating.{asked_file};
 ghost use Rattle.view_world.specs.world.KeyedWorld.{KeyedWorld, new_world, world_of};
 ghost use Rattle.stack_worlds.specs.StackCarried.{plain_given};
@@ -17,7 +17,7 @@ ghost use Rattle.world_parts.specs.Reply.{Done};
 ghost use Rattle.view_world.specs.world.Step.{step};
 ghost use Rattle.world_parts.specs.World.{World as PlainWorld};
 ghost use Rattle.window_stack.specs.Numbers.{max_pane};
-ghost use Rattle.window_stack.specs.PlainPanes.{is_open};
+ghost use Rattle.window_stack.specs.PlainPanes.{is_open, IsPane};
 
 use crate::stack::Stack;
 use crate::stack::way::Given;
@@ -35,7 +35,7 @@ pub fn open_in(
     alloc: Global,
     k: u8,
 ) -> Result<(), AllocError>
-    requires { k ≤ max_pane }
+    requires { IsPane k }
     ensures opened { result ≡ Ok tt → (b : _) × (b.value ≡ new_world) × (worlds.new ≡ slice_set worlds.old k (Some b)) }
     ensures unchanged { OnErr result (worlds.new ≡ worlds.old) }
 {
@@ -78,11 +78,11 @@ impl Stack {
         ensures panes { self.new.panes ≡ self.old.panes }
         ensures there { is_open self.old.panes given.entry.k ≡ true
             → (world : KeyedWorld) × (keyed_at self.old given.entry.k ≡ Some world) }
-        ensures unchanged { IsDone result ⊎ ((self.new ≡ self.old) × (sink.new ≡ sink.old)) }
+        ensures unchanged { IsDoneOrKeepsBoth result self.old self.new sink.old sink.new }
         ensures shelf { AsksShelf F.files F.fetches F.faults
             (asked_on (stack_of self.old) (plain_given given.entry)) result shelf.old shelf.new }
         ensures memory { result ≡ Err StepFault.NoMemory → MayWantMemory (plain_command given.entry.command) }
-        ensures sink_failed { (K.state sink.new).faults ≡ faults_after_line result (K.state sink.old).faults }
+        ensures sink_failed { CountsSink (K.state sink.old) (K.state sink.new) result }
     {
         let Some(world) = &mut self.worlds[usize::from(given.k)] else {
             return Ok(());
@@ -92,7 +92,7 @@ impl Stack {
 
     /// The world of a window, if it is open.
     pub fn world(&self, k: u8) -> Option<&World>
-        requires { k ≤ max_pane }
+        requires { IsPane k }
         ensures { option_map (λ world. world.now) result ≡ keyed_at self.now k }
     {
         match &self.worlds[usize::from(k)] {
@@ -103,7 +103,7 @@ impl Stack {
 
     /// Whether no pointer is down in a window.
     pub fn is_untouched(&self, k: u8) -> bool
-        requires { k ≤ max_pane }
+        requires { IsPane k }
         ensures { (world : KeyedWorld)
             → keyed_at self.now k ≡ Some world
             → result ≡ is_none_down (world_of world).pointers }

@@ -3,8 +3,8 @@ use Rattle.std.proofs.Common.{◌≡◌, ℕ, ℤ, Option, Some, refl, sym, ◌�
 use mathlib.Core.Path.{fun_ext}
 use Rattle.std.proofs.lemmas.Bool.{cases_Bool, cases_eq}
 use Rattle.geom_core.specs.declared.geometry.Rect.{Rect}
-use Rattle.kept_views.proofs.Brought.{brought_again}
-use Rattle.kept_views.proofs.Dragged.{InRanges, offsets_kept, with_offsets}
+use Rattle.kept_views.proofs.laid.Brought.{brought_again}
+use Rattle.kept_views.proofs.edits.Dragged.{InRanges, offsets_kept, with_offsets}
 use Rattle.kept_views.specs.Kept.{IsConsistent, IsKept, first_place}
 use Rattle.touch_dispatch.specs.Dispatch.{range_for}
 use Rattle.touch_dispatch.specs.reaching.TreeEvents.{own_range}

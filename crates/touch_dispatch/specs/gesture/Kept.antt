@@ -48,6 +48,9 @@ gesture_of kept = record {
 abbrev pub is_open : Kept → ℕ → Bool
 is_open kept view = has_seat kept.seats view
 
+abbrev pub IsOpen : Kept → ℕ → Type 0
+IsOpen kept view = is_open kept view ≡ true
+
 -- one more view has a place
 abbrev pub with_place : ℕ → Kept → Kept
 with_place view kept = record kept { seats = with_seat view kept.seats }

@@ -44,6 +44,10 @@ progress_of views kept log = progress_by (offsets_in views) (gesture_of kept) lo
 abbrev pub room_of : Log → ℕ
 room_of log = vec_capacity log.entries
 
+-- there is as much room for entries as before
+abbrev pub KeepsRoom : Log → Log → Type 0
+KeepsRoom old new = room_of new ≡ room_of old
+
 abbrev pub below_first : Forest PlainView → Forest PlainView
 below_first Nothing = Nothing
 below_first (Branch view below after) = below

@@ -1,5 +1,5 @@
 //! How a scroll view moves its child at an event.
-ghost use Rattle.std.specs.Prelude.{◌≡◌, ◌≤◌, ℕ, ℤ, true, IfSome};
+ghost use Rattle.std.specs.Prelude.{◌≡◌, ◌≤◌, ℤ, true, IfSome};
 ghost use Rattle.geom_core.specs.Limits.{IsSide};
 ghost use Rattle.kept_views.specs.Kept.{first_place};
 ghost use Rattle.touch_dispatch.specs.reaching.Delivery.{IsReadAt};
@@ -7,11 +7,12 @@ ghost use Rattle.touch_dispatch.specs.Dispatch.{first_rect, range_for, receiver}
 ghost use Rattle.touch_dispatch.specs.handling.Drags.{IsWay};
 ghost use Rattle.touch_dispatch.specs.gesture.Gestures.{PlainGesture, at_number};
 ghost use Rattle.touch_dispatch.specs.handling.Handling.{drag_handled, is_same_offset, many, moved_by, offset_after};
-ghost use Rattle.touch_dispatch.specs.gesture.Kept.{is_open};
-ghost use Rattle.touch_dispatch.specs.reaching.TreeEvents.{OnlyScrolls, kids_of, offsets_in, own_of, own_range, progress_by, progress_of, room_of, scene_of};
+ghost use Rattle.touch_dispatch.specs.gesture.Kept.{IsOpen};
+ghost use Rattle.touch_dispatch.specs.reaching.TreeEvents.{OnlyScrolls, kids_of, offsets_in, own_of, own_range, progress_by, progress_of, room_of, scene_of, KeepsRoom};
 ghost use Rattle.view_model.specs.ScrollView.{offset_within};
 ghost use Rattle.view_tree.specs.Rows.{children_of_first, part_from};
 ghost use Rattle.view_tree.specs.Views.{IsLive, IsTree, facts_of, held_of, number_of};
+ghost use Rattle.touch_targets.specs.Seats.{KeepsOpen};
 
 use crate::gesture::Gesture;
 use crate::handling::drag::pulled;
@@ -83,15 +84,15 @@ pub fn handle_drag(
     own: &Receiver,
 ) -> bool
     requires read { IsReadAt tree.old delivery.now.view own.now }
-    requires open { is_open gesture.old own.now.number ≡ true }
+    requires open { IsOpen gesture.old own.now.number }
     requires fits { many
         (drag_handled own.now delivery.now.event.now (progress_of tree.old gesture.old log.old)).progress
         ≤ room_of log.old }
     ensures handled { drag_handled own.now delivery.now.event.now (progress_of tree.old gesture.old log.old)
         ≡ record { yes = result; progress = progress_of tree.new gesture.new log.new } }
     ensures scrolls { OnlyScrolls tree.old tree.new }
-    ensures opened { (view : ℕ) → is_open gesture.new view ≡ is_open gesture.old view }
-    ensures room { room_of log.new ≡ room_of log.old }
+    ensures opened { KeepsOpen gesture.old.seats gesture.new.seats }
+    ensures room { KeepsRoom log.old log.new }
 {
     let said = drag_answer(own, delivery.event.action);
     note(log, own.number, Kind::Touch, delivery.event, said);
@@ -118,7 +119,7 @@ fn move_child(
         → progress_by (offsets_in tree.new) g log.new.entries.items
         ≡ moved_by by own.now delivery.now.event.now (progress_by (offsets_in tree.old) g log.old.entries.items) }
     ensures scrolls { OnlyScrolls tree.old tree.new }
-    ensures room { room_of log.new ≡ room_of log.old }
+    ensures room { KeepsRoom log.old log.new }
 {
     let Some(way) = by else {
         return;

@@ -7,6 +7,7 @@ ghost use Rattle.touch_dispatch.specs.reaching.Points.{acting_point, cancel_even
 ghost use Rattle.touch_event.specs.PointerSets.{has_id};
 ghost use Rattle.touch_event.specs.Splitting.{kept_points, split_event};
 ghost use Rattle.touch_event.specs.Numbers.{max_pointers};
+ghost use Rattle.touch_event.specs.Touches.{IsPointer};
 
 use crate::handling::receiver::Receiver;
 use arrayvec::ArrayVec;
@@ -202,9 +203,9 @@ fn local_event(rect: Option<Rect>, own: &Facts, event: &Event) -> Event
 /// What a child gets that is tried.
 #[inline(never)]
 pub fn tried_event(own: &Facts, rect: Option<Rect>, event: &Event) -> Event
-    requires { event.now.pointer < max_pointers }
+    requires { IsPointer event.now.pointer }
     ensures value { result ≡ local_event rect own.now.offset (tried_event own.now.split event.now) }
-    ensures pointer { result.pointer < max_pointers }
+    ensures pointer { IsPointer result.pointer }
 {
     if own.split
         && let Some(part) = split(event, id_bit(event.pointer))
@@ -225,7 +226,7 @@ pub fn id_bit(id: u8) -> u32
 
 /// The pointers that a child gets which was tried and took an event.
 pub fn tried_ids(is_split: bool, event: &Event) -> u32
-    requires { event.now.pointer < max_pointers }
+    requires { IsPointer event.now.pointer }
     ensures value { has_id result ≡ tried_ids is_split event.now }
     ensures some { result ≢ 0 }
 {

@@ -5,8 +5,9 @@ ghost use Rattle.touch_dispatch.specs.gesture.Gestures.{set_targets};
 ghost use Rattle.touch_dispatch.specs.gesture.Kept.{MayCapture, gesture_of, is_open};
 ghost use Rattle.touch_dispatch.specs.reaching.TreeEvents.{progress_by};
 ghost use Rattle.touch_dispatch.specs.declared.log.Entry.{Entry};
-ghost use Rattle.touch_event.specs.Numbers.{max_pointers};
 ghost use Rattle.touch_targets.specs.Captures.{drop_pointers, is_target};
+ghost use Rattle.touch_targets.specs.Seats.{KeepsOpen};
+ghost use Rattle.touch_event.specs.Touches.{IsPointer};
 
 use crate::gesture::Gesture;
 use crate::reaching::points::{id_bit, is_down};
@@ -46,7 +47,7 @@ pub fn begin(gesture: &mut Gesture, group: u64, action: Action)
     ensures begun { (offsets : ℕ → ℤ) (entries : List Entry)
         → progress_by offsets (gesture_of gesture.new) entries
         ≡ begun group action (progress_by offsets (gesture_of gesture.old) entries) }
-    ensures opened { (view : ℕ) → is_open gesture.new view ≡ is_open gesture.old view }
+    ensures opened { KeepsOpen gesture.old.seats gesture.new.seats }
 {
     if is_down(action) {
         gesture.clear(group);
@@ -56,7 +57,7 @@ pub fn begin(gesture: &mut Gesture, group: u64, action: Action)
 
 /// The oldest target gets the pointer that no child took.
 pub fn settle(gesture: &mut Gesture, group: u64, event: &Event, taker: Taker)
-    requires pointer { event.now.pointer < max_pointers }
+    requires pointer { IsPointer event.now.pointer }
     requires may { (child : ℕ)
         → is_target child ((gesture_of gesture.old).targets group) ≡ true
         → MayCapture gesture.old group child }
@@ -64,7 +65,7 @@ pub fn settle(gesture: &mut Gesture, group: u64, event: &Event, taker: Taker)
         → settled group event.now
         (record { taker = taker; progress = progress_by offsets (gesture_of gesture.old) entries })
         ≡ record { taker = taker; progress = progress_by offsets (gesture_of gesture.new) entries } }
-    ensures opened { (view : ℕ) → is_open gesture.new view ≡ is_open gesture.old view }
+    ensures opened { KeepsOpen gesture.old.seats gesture.new.seats }
 {
     match taker {
         Taker::NoChild => give_to_oldest(gesture, group, event.pointer),
@@ -73,13 +74,13 @@ pub fn settle(gesture: &mut Gesture, group: u64, event: &Event, taker: Taker)
 }
 
 fn give_to_oldest(gesture: &mut Gesture, group: u64, pointer: u8)
-    requires pointer { pointer < max_pointers }
+    requires pointer { IsPointer pointer }
     requires may { (child : ℕ)
         → is_target child ((gesture_of gesture.old).targets group) ≡ true
         → MayCapture gesture.old group child }
     ensures given { gesture_of gesture.new
         ≡ given (oldest ((gesture_of gesture.old).targets group)) group pointer (gesture_of gesture.old) }
-    ensures opened { (view : ℕ) → is_open gesture.new view ≡ is_open gesture.old view }
+    ensures opened { KeepsOpen gesture.old.seats gesture.new.seats }
 {
     if let Some(child) = oldest(gesture, group) {
         gesture.put(group, child, id_bit(pointer));
@@ -88,12 +89,12 @@ fn give_to_oldest(gesture: &mut Gesture, group: u64, pointer: u8)
 
 /// The end of a gesture, or of a pointer. An interception leaves no target.
 pub fn end(gesture: &mut Gesture, group: u64, split: bool, event: &Event, intercepted: bool)
-    requires pointer { event.now.pointer < max_pointers }
+    requires pointer { IsPointer event.now.pointer }
     requires open { is_open gesture.old group ≡ true }
     ensures ended { (offsets : ℕ → ℤ) (entries : List Entry)
         → progress_by offsets (gesture_of gesture.new) entries
         ≡ ended group split event.now intercepted (progress_by offsets (gesture_of gesture.old) entries) }
-    ensures opened { (view : ℕ) → is_open gesture.new view ≡ is_open gesture.old view }
+    ensures opened { KeepsOpen gesture.old.seats gesture.new.seats }
 {
     clear_intercepted(gesture, group, intercepted);
     match event.action {
@@ -109,7 +110,7 @@ pub fn end(gesture: &mut Gesture, group: u64, split: bool, event: &Event, interc
 fn clear_intercepted(gesture: &mut Gesture, group: u64, intercepted: bool)
     ensures cleared { gesture_of gesture.new
         ≡ (if intercepted then set_targets group [] (gesture_of gesture.old) else gesture_of gesture.old) }
-    ensures opened { (view : ℕ) → is_open gesture.new view ≡ is_open gesture.old view }
+    ensures opened { KeepsOpen gesture.old.seats gesture.new.seats }
 {
     if intercepted {
         gesture.clear(group);
@@ -118,10 +119,10 @@ fn clear_intercepted(gesture: &mut Gesture, group: u64, intercepted: bool)
 
 /// A pointer leaves the targets of a group that splits events.
 fn lift(gesture: &mut Gesture, group: u64, split: bool, pointer: u8)
-    requires { pointer < max_pointers }
+    requires { IsPointer pointer }
     ensures lifted { gesture_of gesture.new ≡ (if split then set_targets group (drop_pointers (only pointer)
         ((gesture_of gesture.old).targets group)) (gesture_of gesture.old) else gesture_of gesture.old) }
-    ensures opened { (view : ℕ) → is_open gesture.new view ≡ is_open gesture.old view }
+    ensures opened { KeepsOpen gesture.old.seats gesture.new.seats }
 {
     if split {
         gesture.drop_ids(group, id_bit(pointer));

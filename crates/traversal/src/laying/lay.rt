@@ -3,13 +3,14 @@ ghost use Rattle.std.specs.Prelude.{◌≡◌, ◌≢◌, ◌+◌, ◌-ℤ◌, �
 ghost use Rattle.damage_rect.specs.Within.{LiesIn};
 ghost use Rattle.geom_core.specs.Rects.{holds};
 ghost use Rattle.geom_core.specs.declared.geometry.Rect.{Rect};
-ghost use Rattle.seen_parts.specs.Frames.{IsCanvas};
+ghost use Rattle.seen_parts.specs.Frames.{IsCanvas, IsNearCanvas};
 ghost use Rattle.seen_parts.specs.Meeting.{Follows, as_seen};
 ghost use Rattle.kept_views.specs.Kept.{owed};
 ghost use Rattle.kept_views.specs.Laying.{Fit, IsPut, IsQuiet, IsQuietAll, IsQuietBack, moved_to, same_place};
 ghost use Rattle.kept_views.specs.Passes.{settled, settled_at};
 ghost use Rattle.measure_pass.specs.Caches.{Grown};
 ghost use Rattle.measure_pass.specs.Measured.{IsFit, Keeps};
+ghost use Rattle.measure_pass.specs.Sharing.{SharesOut};
 ghost use Rattle.view_model.specs.Classes.{is_relative, lays_in_line};
 ghost use Rattle.view_model.specs.declared.limits.TheConstants.{MAX_VIEWS};
 ghost use Rattle.view_model.specs.Forest.{count_of};
@@ -22,7 +23,7 @@ ghost use Rattle.view_model.specs.RelativeLayout.{sides_of};
 ghost use Rattle.view_model.specs.Visible.{canvas_below, seen_in};
 ghost use Rattle.view_tree.specs.Rows.{children_of_first, first_key, part_from};
 ghost use Rattle.scroll_offsets.specs.Bringing.{range_at};
-ghost use Rattle.view_tree.specs.Views.{IsLive, IsTree, KeepsOthers, KeepsOutside, SameTree, class_of, facts_of, held_of, offset_of, specs_of, state_of};
+ghost use Rattle.view_tree.specs.Views.{IsLive, IsTree, KeepsOthers, KeepsOutside, SameTree, class_of, facts_of, held_of, offset_of, specs_of, state_of, KeepsCounts, KeepsMeasures};
 ghost use Rattle.traversal.specs.Counting.{IsMeasuringCounted};
 ghost use Rattle.traversal.specs.Laying.{AreFitToLay, HasLaid, stage_of};
 ghost use Rattle.traversal.specs.Narrow.{IsNarrow, IsNarrowFor, IsStretch};
@@ -65,7 +66,7 @@ pub fn lay(
 )
     requires fit { IsFit tree.old view }
     requires narrow { IsNarrow rect }
-    requires near { IfSome canvas.now (IsCanvas (2 ^ 37)) }
+    requires near { IfSome canvas.now IsNearCanvas }
     ensures done { HasLaid canvas.now (stage_of tree.old context.old) (stage_of tree.new context.new)
         (subtree_at tree.old view) }
     ensures put { IsPut (held_of tree.old) (held_of tree.new) view (part_from view tree.old.tree) rect }
@@ -100,7 +101,7 @@ pub fn lay_open(
 )
     requires fit { IsFit tree.old view }
     requires narrow { IsNarrow rect }
-    requires near { IfSome canvas.now (IsCanvas (2 ^ 37)) }
+    requires near { IfSome canvas.now IsNearCanvas }
     ensures done { HasLaid canvas.now (stage_of tree.old context.old) (stage_of tree.new context.new)
         (subtree_at tree.old view) }
     ensures put { IsPut (held_of tree.old) (settled_at view (held_of tree.new)) view
@@ -151,9 +152,9 @@ fn follow_in(
     canvas: &Option<Canvas>,
     damage: &mut Damage,
 ) -> Option<Canvas>
-    requires { IfSome canvas.now (IsCanvas (2 ^ 37)) }
+    requires { IfSome canvas.now IsNearCanvas }
     ensures grew { LiesIn damage.old.rect damage.new.rect }
-    ensures near { IfSome result (IsCanvas (2 ^ 37)) }
+    ensures near { IfSome result IsNearCanvas }
     ensures follows { IfSome canvas.now
         (λ canvas. Follows facts.now before rect (as_seen canvas) damage.new.rect result) }
     ensures within { (box : Rect) → LiesIn damage.old.rect box
@@ -181,7 +182,7 @@ fn follow_seen(
 ) -> Option<Canvas>
     requires { IsCanvas (2 ^ 37) canvas.now }
     ensures grew { LiesIn damage.old.rect damage.new.rect }
-    ensures near { IfSome result (IsCanvas (2 ^ 37)) }
+    ensures near { IfSome result IsNearCanvas }
     ensures follows { Follows facts.now before rect (as_seen canvas.now) damage.new.rect result }
     ensures within { (box : Rect) → LiesIn damage.old.rect box
         → (before ≢ Some rect → LiesIn (seen_in before (as_seen canvas.now)) box
@@ -198,12 +199,12 @@ fn follow_seen(
 #[inline(always)]
 fn bring(tree: &mut ViewTree, view: Key, rect: Rect, canvas: &Option<Canvas>, damage: &mut Damage)
     requires live { IsLive tree.old view }
-    requires near { IfSome canvas.now (IsCanvas (2 ^ 37)) }
+    requires near { IfSome canvas.now IsNearCanvas }
     ensures same { SameTree tree.old tree.new }
     ensures held { held_of tree.new view
         ≡ record (held_of tree.old view) { offset = brought (range_at tree.old view) (offset_of tree.old view) } }
     ensures others { KeepsOthers tree.old tree.new view }
-    ensures counts { tree.new.counts ≡ tree.old.counts }
+    ensures counts { KeepsCounts tree.old tree.new }
     ensures grew { LiesIn damage.old.rect damage.new.rect }
     ensures seen { IfSome canvas.now (λ canvas. (offset_of tree.new view ≡ offset_of tree.old view)
         ⊎ ((x y : ℤ) → holds damage.new.rect x y ≡ false → holds (seen_in (Some rect) (as_seen canvas)) x y ≡ false)) }
@@ -228,12 +229,12 @@ fn bring_scrolled(
     damage: &mut Damage,
 )
     requires live { IsLive tree.old view }
-    requires near { IfSome canvas.now (IsCanvas (2 ^ 37)) }
+    requires near { IfSome canvas.now IsNearCanvas }
     ensures same { SameTree tree.old tree.new }
     ensures held { held_of tree.new view
         ≡ record (held_of tree.old view) { offset = brought (range_at tree.old view) (offset_of tree.old view) } }
     ensures others { KeepsOthers tree.old tree.new view }
-    ensures counts { tree.new.counts ≡ tree.old.counts }
+    ensures counts { KeepsCounts tree.old tree.new }
     ensures grew { LiesIn damage.old.rect damage.new.rect }
     ensures seen { IfSome canvas.now (λ canvas. (offset_of tree.new view ≡ offset_of tree.old view)
         ⊎ ((x y : ℤ) → holds damage.new.rect x y ≡ false → holds (seen_in (Some rect) (as_seen canvas)) x y ≡ false)) }
@@ -282,6 +283,8 @@ fn make_fit(tree: &mut ViewTree, view: Key, work: &mut Work)
     ensures counted { IsMeasuringCounted tree.old tree.new work.old work.new }
     ensures caches { Grown (λ place other. other ≡ specs_of (state_of tree.old view)) (held_of tree.old)
         (held_of tree.new) (subtree_at tree.old view) }
+    ensures shares { SharesOut (λ place other. other ≡ specs_of (state_of tree.old view)) (λ place. 0)
+        (held_of tree.old) (held_of tree.new) (subtree_at tree.old view) work.old.measured work.new.measured }
     ensures still { (state_of tree.old view).measure_first ≡ false → (tree.new ≡ tree.old) × (work.new ≡ work.old) }
 {
     let _in_range = work.measured;
@@ -321,7 +324,7 @@ fn move_to(tree: &mut ViewTree, view: Key, rect: Rect) -> bool
         ≡ (if result then moved_to (held_of tree.old view) rect else held_of tree.old view) }
     ensures others { KeepsOthers tree.old tree.new view }
     ensures laid { tree.new.counts.laid ≤ tree.old.counts.laid + (if result then 1 else 0) }
-    ensures measures { tree.new.counts.measures ≡ tree.old.counts.measures }
+    ensures measures { KeepsMeasures tree.old tree.new }
     ensures still { result ≡ false → tree.new ≡ tree.old }
 {
     if lies_at(tree.state(view).bounds, rect) {
@@ -338,7 +341,7 @@ pub fn settle(tree: &mut ViewTree, view: Key)
     ensures same { SameTree tree.old tree.new }
     ensures held { held_of tree.new view ≡ settled (held_of tree.old view) }
     ensures others { KeepsOthers tree.old tree.new view }
-    ensures counts { tree.new.counts ≡ tree.old.counts }
+    ensures counts { KeepsCounts tree.old tree.new }
     ensures still { (state_of tree.old view).forced ≡ false
         → (state_of tree.old view).layout_needed ≡ false
         → tree.new ≡ tree.old }
@@ -488,7 +491,7 @@ fn lay_kid(
     requires fit { Fit (held_of tree.old) (subtree_at tree.old kid) }
     requires narrow { is_shown (facts_of tree.old kid) ≡ true
         → IsNarrowFor placer.old (sides_of (state_of tree.old kid).edges) }
-    requires near { IfSome canvas.now (IsCanvas (2 ^ 37)) }
+    requires near { IfSome canvas.now IsNearCanvas }
     ensures done { HasLaid canvas.now (stage_of tree.old context.old) (stage_of tree.new context.new)
         (subtree_at tree.old kid) }
     ensures quiet { (spot : Spot) (before : List Measured)

@@ -8,6 +8,7 @@ ghost use Rattle.kept_views.specs.Laying.{differ};
 ghost use Rattle.kept_views.specs.Passes.{InPass};
 ghost use Rattle.measure_pass.specs.Caches.{Grown};
 ghost use Rattle.measure_pass.specs.Measured.{current};
+ghost use Rattle.measure_pass.specs.Sharing.{SharesOut};
 ghost use Rattle.seen_parts.specs.Meeting.{KeepsSight};
 ghost use Rattle.view_model.specs.Facts.{is_shown};
 ghost use Rattle.view_model.specs.Geometry.{rect_at};
@@ -59,6 +60,8 @@ pub fn lay_root(tree: &mut ViewTree, root: Key, window: Size, damage: &mut Damag
     ensures counted { IsMeasuringCounted tree.old tree.new work.old work.new }
     ensures caches { Grown (λ place other. other ≡ root_specs window (head_view tree.old.tree).facts) (held_of tree.old)
         (held_of tree.new) tree.old.tree }
+    ensures shares { SharesOut (λ place other. other ≡ root_specs window (head_view tree.old.tree).facts) (λ place. 1)
+        (held_of tree.old) (held_of tree.new) tree.old.tree work.old.measured work.new.measured }
 {
     let (ws, hs) = specs_in(window, tree.facts(root));
     let size = measure(tree, root, ws, hs, work);

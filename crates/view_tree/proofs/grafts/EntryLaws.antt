@@ -15,8 +15,8 @@ use Rattle.view_model.specs.PlainTree.{PlainView}
 use Rattle.view_model.specs.Refusals.{PlainRefusal, plain_refusal}
 use Rattle.view_model.specs.declared.fault.Fault.{Fault}
 use Rattle.view_model.specs.declared.fault.Fault.TheVariants as fault
-use Rattle.view_tree.specs.declared.groups.Group.{Group}
-use Rattle.view_tree.specs.groups.Latest.{AreRising}
+use Rattle.view_tree.specs.declared.sibling_orders.SiblingOrders.{SiblingOrders}
+use Rattle.view_tree.specs.sibling_orders.Latest.{AreRising}
 use Rattle.view_tree.specs.Faults.{IsRefusedOrCyclic}
 use Rattle.view_tree.specs.tree.Grafting.{AreEntries, HasAdded, IsFollowing, IsGroupOrCycle, IsMadeUnless, IsOwnFor, IsParentEntry, following, cycle_of, links_following, links_then, numbers_following, numbers_then, parent_cycle, sprout_link}
 use Rattle.view_tree.specs.Rows.{Row, children_of_first, count_of_key, head_view, later_siblings, part_from, views_of}
@@ -140,7 +140,7 @@ near_then views parent is live p small =
     ]
 
 -- a group that is made is added
-pub added : (relative : Bool) (name : ℕ → Member) (number : ℕ) (links : List Link) (numbers : List ℕ) (group : Group) (old new : List (ℕ × Group)) (result : Result (Unit {0}) Fault)
+pub added : (relative : Bool) (name : ℕ → Member) (number : ℕ) (links : List Link) (numbers : List ℕ) (group : SiblingOrders) (old new : List (ℕ × SiblingOrders)) (result : Result (Unit {0}) Fault)
     → relative ≡ true → IsGroupOrCycle name links numbers (Ok group) → IsMadeUnless None (λ _. new ≡ old ++ (number, group) ∷ []) result
     → IsMadeUnless (if relative then cycle_of name links numbers else None) (λ _. HasAdded old new (IsOwnFor relative number links numbers)) result
 added false name number links numbers group old new result is made push = absurd (cc)
@@ -150,7 +150,7 @@ added true name number links numbers group old new (Err (fault.Refused refusal))
 added true name number links numbers group old new (Err fault.NoMemory) is made push = tt
 
 -- the same as all that there is, of a parent
-pub parent_added : (views : Views) (parent : ℕ) (sprout : Sprout) (group : Group) (result : Result (Vec (ℕ × Group) Global) Fault) → is_relative (class_of views parent) ≡ true
+pub parent_added : (views : Views) (parent : ℕ) (sprout : Sprout) (group : SiblingOrders) (result : Result (Vec (ℕ × SiblingOrders) Global) Fault) → is_relative (class_of views parent) ≡ true
     → IsGroupOrCycle (member_from views.next) (links_then views parent (sprout_link sprout)) (numbers_then views parent) (Ok group)
     → IsMadeUnless None (λ entries. entries.items ≡ (number_of views parent, group) ∷ []) result
     → IsMadeUnless (parent_cycle views (Some parent) sprout) (λ entries. IsParentEntry views (Some parent) sprout entries.items) result
@@ -159,16 +159,16 @@ parent_added views parent sprout group (Err (fault.Refused refusal)) is made pus
 parent_added views parent sprout group (Err fault.NoMemory) is made push = tt
 
 -- one more view of a sapling is handled
-pub entries_on : (number start : ℕ) (first : List (ℕ × Group)) (sprout : Sprout) (more all : List Sprout) (old new : List (ℕ × Group))
-    → ((tail : List (ℕ × Group)) → AreEntries number (sprout ∷ more) tail → HasAdded first (old ++ tail) (AreEntries start all))
+pub entries_on : (number start : ℕ) (first : List (ℕ × SiblingOrders)) (sprout : Sprout) (more all : List Sprout) (old new : List (ℕ × SiblingOrders))
+    → ((tail : List (ℕ × SiblingOrders)) → AreEntries number (sprout ∷ more) tail → HasAdded first (old ++ tail) (AreEntries start all))
     → HasAdded old new (IsFollowing number sprout more)
-    → (tail : List (ℕ × Group)) → AreEntries (suc number) more tail → HasAdded first (new ++ tail) (AreEntries start all)
+    → (tail : List (ℕ × SiblingOrders)) → AreEntries (suc number) more tail → HasAdded first (new ++ tail) (AreEntries start all)
 entries_on number start first sprout more all old new made own tail are =
     subst (λ entries. HasAdded first entries (AreEntries start all)) (sym (append_assoc old own.added tail) ∙ ap (λ entries. entries ++ tail) (sym own.is))
     (made (own.added ++ tail) (own.added, tail, refl, own.made, are))
 
-pub entries_end : (number start : ℕ) (first : List (ℕ × Group)) (all : List Sprout) (old : List (ℕ × Group))
-    → ((tail : List (ℕ × Group)) → AreEntries number [] tail → HasAdded first (old ++ tail) (AreEntries start all)) → HasAdded first old (AreEntries start all)
+pub entries_end : (number start : ℕ) (first : List (ℕ × SiblingOrders)) (all : List Sprout) (old : List (ℕ × SiblingOrders))
+    → ((tail : List (ℕ × SiblingOrders)) → AreEntries number [] tail → HasAdded first (old ++ tail) (AreEntries start all)) → HasAdded first old (AreEntries start all)
 entries_end number start first all old made = subst (λ entries. HasAdded first entries (AreEntries start all)) (append-nil old) (made [] refl)
 
 -- why a sapling is refused

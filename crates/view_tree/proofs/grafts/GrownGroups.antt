@@ -18,11 +18,11 @@ use Rattle.view_model.specs.Growth.{grown_at}
 use Rattle.view_model.specs.PlainTree.{PlainView, grown}
 use Rattle.view_model.specs.Refusals.{PlainRefusal}
 use Rattle.view_model.specs.Sprouts.{IsPreorder, Seed, numbered, preorder, seeds_of, sprout_of}
-use Rattle.view_tree.specs.declared.groups.Group.{Group}
-use Rattle.view_tree.specs.groups.Cycles.{HasNoCycle, IsFree}
+use Rattle.view_tree.specs.declared.sibling_orders.SiblingOrders.{SiblingOrders}
+use Rattle.view_tree.specs.sibling_orders.Cycles.{HasNoCycle, IsFree}
 use Rattle.view_tree.specs.tree.Directions.{is_rtl_at}
 use Rattle.view_tree.specs.tree.Grafting.{AreEntries, AreGrafted, IsOwnFor, IsParentEntry, cycle_in, cycle_of, entries_cycle, links_then, noted, numbers_then, parent_cycle, sprout_link}
-use Rattle.view_tree.specs.groups.Ordering.{IsGrouped, IsGroupedAt, IsKeptFor, PlainGroup}
+use Rattle.view_tree.specs.sibling_orders.Ordering.{IsGrouped, IsGroupedAt, IsKeptFor, PlainGroup}
 use Rattle.view_tree.specs.Rows.{Row, children_of_first, head_view, part_from, views_of}
 use Rattle.view_tree.specs.Views.{IsLive, IsTree, Views, class_of, group_number, held_of, number_of, plain_of, plain_rows}
 use Rattle.view_tree.proofs.forest.KeyLaws.{number_live}
@@ -102,7 +102,7 @@ module _ (old : Views) (parent : ℕ) (sprout : Sprout) (more : List Sprout) (pr
       ∙ ap (λ numbers. if is_relative (class_of old parent) then cycle_of name (links_then old parent (sprout_link sprout)) numbers else None) numbers_grown
 
 -- what is kept then
-module _ (at now : Groups) (old : Views) (sprout : Sprout) (more : List Sprout) (own rest entries : List (ℕ × Group)) (is : entries ≡ own ++ rest)
+module _ (at now : Groups) (old : Views) (sprout : Sprout) (more : List Sprout) (own rest entries : List (ℕ × SiblingOrders)) (is : entries ≡ own ++ rest)
     (are : AreEntries old.next (sprout ∷ more) rest) (pre : IsPreorder (sprout ∷ more)) (has : (k : ℕ) → now k ≡ noted entries k (at k)) where
   now_is : (k : ℕ) → now k ≡ noted rest k (noted own k (at k))
   now_is k = has k ∙ ap (λ entries. noted entries k (at k)) is ∙ noted-append own rest k (at k)
@@ -148,7 +148,7 @@ module _ (at now : Groups) (old : Views) (sprout : Sprout) (more : List Sprout) 
         let once : times_in (number_of old parent) (plain_of old) ≤ 1 = (let n = tree.numbers (number_of old parent) in rw (times-plain (held_of old) (number_of old parent) old.tree) n) in
         grouped-grown at now (number_of old parent) (directed above (numbered old.next (seeds_of (sprout ∷ more)))) (plain_of old) once others kept_parent (grouped_directed now above (numbered old.next (seeds_of (sprout ∷ more))) grouped_added) grouped
 
-pub grouped-grafted : (at now : Groups) (old new : Views) (parent : Option ℕ) (sprouts : List Sprout) (entries : List (ℕ × Group)) → IsTree old → IfSome parent (λ parent. IsLive old parent)
+pub grouped-grafted : (at now : Groups) (old new : Views) (parent : Option ℕ) (sprouts : List Sprout) (entries : List (ℕ × SiblingOrders)) → IsTree old → IfSome parent (λ parent. IsLive old parent)
     → IsPreorder sprouts → AreGrafted old parent sprouts entries → ((k : ℕ) → now k ≡ noted entries k (at k))
     → plain_of new ≡ grown_at (option_map (number_of old) parent) (directed (is_rtl_at parent old.tree) (numbered old.next (seeds_of sprouts))) (plain_of old) → IsGrouped at (plain_of old) → IsGrouped now (plain_of new)
 grouped-grafted at now old new parent [] entries tree live pre made has plain grouped = absurd made
@@ -159,12 +159,12 @@ grouped-grafted at now old new (Some parent) (sprout ∷ more) entries tree live
     subst (IsGrouped now) (sym plain) (grouped_parent at now old sprout more own all.added entries all.is all.made pre has (is_rtl_at (Some parent) old.tree) parent tree live mine grouped)
 
 -- what is kept under other numbers of views that were there is the same
-pub own_apart : (relative : Bool) (number k : ℕ) (links : List Link) (numbers : List ℕ) (entries : List (ℕ × Group)) (before : Option PlainGroup) → IsOwnFor relative number links numbers entries
+pub own_apart : (relative : Bool) (number k : ℕ) (links : List Link) (numbers : List ℕ) (entries : List (ℕ × SiblingOrders)) (before : Option PlainGroup) → IsOwnFor relative number links numbers entries
     → (if relative then Some number else None) ≢ Some k → noted entries k before ≡ before
 own_apart false number k links numbers entries before mine apart = rw mine refl
 own_apart true number k links numbers entries before mine apart = own_past true number k links numbers entries before mine (λ same. apart (ap (λ n. Some n) (sym same)))
 
-pub kept-grafted : (at now : Groups) (old : Views) (parent : Option ℕ) (sprouts : List Sprout) (entries : List (ℕ × Group)) → AreGrafted old parent sprouts entries
+pub kept-grafted : (at now : Groups) (old : Views) (parent : Option ℕ) (sprouts : List Sprout) (entries : List (ℕ × SiblingOrders)) → AreGrafted old parent sprouts entries
     → ((k : ℕ) → now k ≡ noted entries k (at k)) → (k : ℕ) → group_number old parent ≢ Some k → k < old.next → now k ≡ at k
 kept-grafted at now old parent [] entries made has k apart less = absurd made
 kept-grafted at now old None (sprout ∷ more) entries (own, mine, all) has k apart less =

@@ -13,10 +13,10 @@ use Rattle.view_model.specs.Forest.{Forest, Nothing, Branch, count_of, joined, s
 use Rattle.view_model.specs.Growth.{grown_at}
 use Rattle.view_model.specs.PlainTree.{PlainView, grown}
 use Rattle.view_model.specs.Sprouts.{IsPreorder, Seed, numbered, preorder, seeds_of, view_of}
-use Rattle.view_tree.specs.declared.groups.Group.{Group}
+use Rattle.view_tree.specs.declared.sibling_orders.SiblingOrders.{SiblingOrders}
 use Rattle.view_tree.specs.tree.Directions.{is_rtl_at}
 use Rattle.view_tree.specs.tree.Grafting.{AreEntries, AreGrafted, links_following, links_then, noted, numbers_following, numbers_then, sprout_link}
-use Rattle.view_tree.specs.groups.Ordering.{HasNoOther, PlainGroup, is_layout}
+use Rattle.view_tree.specs.sibling_orders.Ordering.{HasNoOther, PlainGroup, is_layout}
 use Rattle.view_tree.specs.Rows.{Row, count_where, head_view}
 use Rattle.view_tree.specs.Views.{Held, IsLive, Views, class_of, held_of, number_of, plain_of, plain_rows}
 use Rattle.view_tree.proofs.forest.KeyLaws.{located, number_live}
@@ -73,7 +73,7 @@ apart_if true k number other same = other refl (let e : Some number ≡ Some k =
     some_is e = cc
 apart_if false k number other same = absurd (let e : None ≡ Some k = same in cc)
 
-noted_unused : (k number : ℕ) (sprouts : List Sprout) (entries : List (ℕ × Group)) (before : Option PlainGroup) → AreEntries number sprouts entries → NoneIs k number sprouts → noted entries k before ≡ before
+noted_unused : (k number : ℕ) (sprouts : List Sprout) (entries : List (ℕ × SiblingOrders)) (before : Option PlainGroup) → AreEntries number sprouts entries → NoneIs k number sprouts → noted entries k before ≡ before
 noted_unused k number [] entries before are none = rw are refl
 noted_unused k number (sprout ∷ more) entries before (own, rest, is, mine, later) none =
     ap (λ entries. noted entries k before) is
@@ -109,7 +109,7 @@ counted_directed : (k : ℕ) (above : Bool) (list : Forest PlainView) → sum_of
 counted_directed k above Nothing = refl
 counted_directed k above (Branch view below after) = rw (counted_directed k (dir above view.facts.direction) below, counted_directed k above after) refl
 
-pub only-grafted : (at now : Groups) (old new : Views) (parent : Option ℕ) (sprouts : List Sprout) (entries : List (ℕ × Group)) → IfSome parent (λ parent. IsLive old parent)
+pub only-grafted : (at now : Groups) (old new : Views) (parent : Option ℕ) (sprouts : List Sprout) (entries : List (ℕ × SiblingOrders)) → IfSome parent (λ parent. IsLive old parent)
     → (parent ≡ None → old.tree ≡ Nothing) → IsPreorder sprouts → AreGrafted old parent sprouts entries → ((k : ℕ) → now k ≡ noted entries k (at k))
     → plain_of new ≡ grown_at (option_map (number_of old) parent) (directed (is_rtl_at parent old.tree) (numbered old.next (seeds_of sprouts))) (plain_of old) → HasNoOther at old.tree → HasNoOther now new.tree
 only-grafted at now old new parent [] entries live root pre made has plain only = absurd made

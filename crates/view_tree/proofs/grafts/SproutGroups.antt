@@ -13,9 +13,9 @@ use Rattle.view_model.specs.Forest.{Forest, Nothing, Branch, count_of}
 use Rattle.view_model.specs.PlainTree.{PlainView}
 use Rattle.view_model.specs.Refusals.{PlainRefusal}
 use Rattle.view_model.specs.Sprouts.{Seed, numbered, preorder, sprout_of, view_of}
-use Rattle.view_tree.specs.declared.groups.Group.{Group}
+use Rattle.view_tree.specs.declared.sibling_orders.SiblingOrders.{SiblingOrders}
 use Rattle.view_tree.specs.tree.Grafting.{AreEntries, IsOwnFor, following, cycle_after, cycle_in, cycle_of, links_following, noted, numbers_following, sprout_link}
-use Rattle.view_tree.specs.groups.Ordering.{IsGrouped, IsKeptFor, PlainGroup, plain_group}
+use Rattle.view_tree.specs.sibling_orders.Ordering.{IsGrouped, IsKeptFor, PlainGroup, plain_group}
 use Rattle.view_tree.proofs.orders.TreeLaws.{Groups}
 
 -- the first of these is not deeper than this
@@ -104,16 +104,16 @@ cycle-forest name depth number (Branch seed below after) rest ends =
     ∙ ap (λ n. option_or (option_or own (option_or first (first_cycle name (numbered (suc number + count_of below) after)))) (cycle_in name n rest)) count
 
 -- entries are under numbers from this one on
-pub noted-append : (first more : List (ℕ × Group)) (number : ℕ) (before : Option PlainGroup) → noted (first ++ more) number before ≡ noted more number (noted first number before)
+pub noted-append : (first more : List (ℕ × SiblingOrders)) (number : ℕ) (before : Option PlainGroup) → noted (first ++ more) number before ≡ noted more number (noted first number before)
 noted-append [] more number before = refl
 noted-append (entry ∷ first) more number before = noted-append first more number (if nat_eq entry.0 number then Some (plain_group entry.1) else before)
 
-pub own_past : (relative : Bool) (own number : ℕ) (links : List Link) (numbers : List ℕ) (entries : List (ℕ × Group)) (before : Option PlainGroup) → IsOwnFor relative own links numbers entries → number ≢ own
+pub own_past : (relative : Bool) (own number : ℕ) (links : List Link) (numbers : List ℕ) (entries : List (ℕ × SiblingOrders)) (before : Option PlainGroup) → IsOwnFor relative own links numbers entries → number ≢ own
     → noted entries number before ≡ before
 own_past false own number links numbers entries before is other = rw is refl
 own_past true own number links numbers entries before is other = rw (is.only, ne_eqb own number (λ e. other (sym e))) refl
 
-pub noted-early : (sprouts : List Sprout) (start number : ℕ) (entries : List (ℕ × Group)) (before : Option PlainGroup) → AreEntries start sprouts entries → number < start
+pub noted-early : (sprouts : List Sprout) (start number : ℕ) (entries : List (ℕ × SiblingOrders)) (before : Option PlainGroup) → AreEntries start sprouts entries → number < start
     → noted entries number before ≡ before
 noted-early [] start number entries before are less = rw are refl
 noted-early (sprout ∷ more) start number entries before (own, rest, is, mine, later) less =
@@ -129,12 +129,12 @@ AllKept groups number (sprout ∷ more) =
     (is_relative sprout.class ≡ true → IsKeptFor (links_following sprout.depth (suc number) more) (numbers_following sprout.depth (suc number) more) (groups number))
     × AllKept groups (suc number) more
 
-pub own_kept : (relative : Bool) (number : ℕ) (links : List Link) (numbers : List ℕ) (entries : List (ℕ × Group)) (before : Option PlainGroup) → IsOwnFor relative number links numbers entries → relative ≡ true
+pub own_kept : (relative : Bool) (number : ℕ) (links : List Link) (numbers : List ℕ) (entries : List (ℕ × SiblingOrders)) (before : Option PlainGroup) → IsOwnFor relative number links numbers entries → relative ≡ true
     → IsKeptFor links numbers (noted entries number before)
 own_kept false number links numbers entries before is relative = absurd (cc)
 own_kept true number links numbers entries before is relative = rw (is.only, eq-eqb number number refl) is.right.right
 
-pub all_kept : (groups : Groups) (before : Groups) (number : ℕ) (sprouts : List Sprout) (entries : List (ℕ × Group)) → AreEntries number sprouts entries
+pub all_kept : (groups : Groups) (before : Groups) (number : ℕ) (sprouts : List Sprout) (entries : List (ℕ × SiblingOrders)) → AreEntries number sprouts entries
     → ((k : ℕ) → number ≤ k → groups k ≡ noted entries k (before k)) → AllKept groups number sprouts
 all_kept groups before number [] entries are has = tt
 all_kept groups before number (sprout ∷ more) entries (own, rest, is, mine, later) has =

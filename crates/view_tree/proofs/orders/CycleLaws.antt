@@ -19,13 +19,13 @@ use Rattle.view_model.specs.declared.relative.Link.{Link}
 use Rattle.view_model.specs.Forest.{Forest, Nothing, Branch, EveryBranch, changed_where, count_of}
 use Rattle.view_model.specs.PlainTree.{PlainView}
 use Rattle.view_model.specs.Refusals.{PlainRefusal, plain_refusal}
-use Rattle.view_tree.specs.groups.Cycles.{AreNewOrders, HasNoCycle, IsCycleReported, IsFree, links_below, view_member}
+use Rattle.view_tree.specs.sibling_orders.Cycles.{AreNewOrders, HasNoCycle, IsCycleReported, IsFree, links_below, view_member}
 use Rattle.view_tree.specs.Faults.{IsRefusedOrCyclic}
-use Rattle.view_tree.specs.groups.Latest.{AreRising}
+use Rattle.view_tree.specs.sibling_orders.Latest.{AreRising}
 use Rattle.view_tree.specs.node.Nodes.{PlainNode, RepresentsPart, RepresentsTree}
 use Rattle.view_model.specs.Classes.{is_relative}
 use Rattle.view_model.specs.Cycles.{cycle_below, first_cycle, link_of, links_in, numbers_in}
-use Rattle.view_tree.specs.groups.Ordering.{AreOrders, IsGrouped, IsGroupedAt, IsKeptOf, IsRuledAt, PlainGroup, PlainOrders, link_or, linked_in, plain_orders}
+use Rattle.view_tree.specs.sibling_orders.Ordering.{AreOrders, IsGrouped, IsGroupedAt, IsKeptOf, IsRuledAt, PlainGroup, PlainOrders, link_or, linked_in, plain_orders}
 use Rattle.view_tree.specs.Rows.{Row, children_of_first, count_of_key, count_of_number, head_view, later_siblings, part_from, views_of}
 use Rattle.view_tree.specs.Views.{Held, IsLive, IsTree, Views, class_of, group_number, held_of, number_of, orders_under, plain_of, plain_rows, scrolled}
 use Rattle.view_tree.proofs.forest.Forests.{some_is}

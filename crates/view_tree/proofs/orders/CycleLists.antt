@@ -14,7 +14,7 @@ use Rattle.view_model.specs.Orders.{IsAcyclic, IsCycle, members_of}
 use Rattle.view_model.specs.Refusals.{Cycle, PlainRefusal}
 use Rattle.view_model.specs.SiblingRules.{leads}
 use Rattle.view_model.proofs.MemberLaws.{leads_inside, members_are, no_members}
-use Rattle.view_tree.specs.groups.Cycles.{AreCyclic, IsFree, IsReportedFrom}
+use Rattle.view_tree.specs.sibling_orders.Cycles.{AreCyclic, IsFree, IsReportedFrom}
 use Rattle.view_model.specs.declared.fault.Fault.{Fault}
 use Rattle.view_model.specs.declared.fault.Fault.TheVariants as fault
 use Rattle.view_tree.specs.tree.Grafting.{IsGroupOrCycle, cycle_of}

@@ -11,7 +11,7 @@ use Rattle.view_model.specs.Cycles.{cycle_among, cycle_below, first_cycle, links
 use Rattle.view_model.specs.Forest.{Forest, Nothing, Branch, EveryBranch}
 use Rattle.view_model.specs.PlainTree.{PlainView}
 use Rattle.view_model.specs.Refusals.{Cycle, PlainRefusal}
-use Rattle.view_tree.specs.groups.Cycles.{AreCyclic, HasNoCycle, IsCycleReported, IsFree}
+use Rattle.view_tree.specs.sibling_orders.Cycles.{AreCyclic, HasNoCycle, IsCycleReported, IsFree}
 use Rattle.view_tree.proofs.orders.CycleLists.{map_twice, none_of, reported_of}
 use Rattle.view_tree.proofs.orders.ListLaws.{among_times, times_in}
 

@@ -2,8 +2,8 @@
 use Rattle.std.proofs.Common.{◌≡◌, ℕ, zero, suc, ◌<◌, Bool, List, [], ◌∷◌, length, get_or, Some, refl, sym, ◌∙◌, ap, arith, inl, inr}
 use Rattle.std.specs.Map.{lookup, set_value}
 use Rattle.std.proofs.lemmas.Bool.{cases_Bool, eq-eqb, ne_eqb}
-use Rattle.view_tree.specs.declared.groups.Group.{Group}
-use Rattle.view_tree.specs.groups.Ordering.{orders_in, place_in, plain_orders}
+use Rattle.view_tree.specs.declared.sibling_orders.SiblingOrders.{SiblingOrders}
+use Rattle.view_tree.specs.sibling_orders.Ordering.{orders_in, place_in, plain_orders}
 use Rattle.view_tree.proofs.forest.Forests.{some_is}
 
 -- where a key is in a list: at the first equal entry
@@ -20,12 +20,12 @@ place_in-none (first ∷ keys) key none =
     rw (ne_eqb first key (none 0 (omega arith))) (ap suc (place_in-none keys key (λ k less. none (suc k) (omega arith))))
 
 -- a write that leaves the orders of a group leaves those of all
-pub orders_in-set : (test : ℕ → Bool) (groups : List (ℕ × Group)) (old new : Group) → lookup test groups ≡ Some old → plain_orders new.orders ≡ plain_orders old.orders
+pub orders_in-set : (test : ℕ → Bool) (groups : List (ℕ × SiblingOrders)) (old new : SiblingOrders) → lookup test groups ≡ Some old → plain_orders new.orders ≡ plain_orders old.orders
     → orders_in (set_value test groups new) ≡ orders_in groups
 orders_in-set test [] old new is same = refl
 orders_in-set test (entry ∷ groups) old new is same = elim (cases_Bool (test entry.0)) [
   | inl e ↦
       let own : entry.1 ≡ old = some_is (rw e at is) in
-      rw e (ap (λ orders. (entry.0, orders) ∷ orders_in groups) (same ∙ ap (λ (g : Group). plain_orders g.orders) (sym own)))
+      rw e (ap (λ orders. (entry.0, orders) ∷ orders_in groups) (same ∙ ap (λ (g : SiblingOrders). plain_orders g.orders) (sym own)))
   | inr e ↦ rw e (ap (λ rest. (entry.0, plain_orders entry.1.orders) ∷ rest) (orders_in-set test groups old new (rw e at is) same))
 ]

@@ -2,16 +2,16 @@
 use Rattle.std.proofs.Common.{◌≡◌, ℕ, true, Option, Some, None, sym, ◌∙◌, ap, subst}
 use Rattle.std.specs.Prelude.{nat_eq, option_map}
 use Rattle.std.specs.Map.{lookup}
-use Rattle.view_tree.specs.declared.groups.Group.{Group}
+use Rattle.view_tree.specs.declared.sibling_orders.SiblingOrders.{SiblingOrders}
 use Rattle.view_tree.specs.declared.tree.ViewTree.TheInside.{Inside}
 use Rattle.view_tree.specs.node.Nodes.{IsSoundTree, value_of}
 use Rattle.view_model.specs.Classes.{is_relative}
 use Rattle.view_model.specs.Cycles.{links_in, numbers_in}
 use Rattle.view_model.specs.Forest.{Forest}
 use Rattle.view_model.specs.PlainTree.{PlainView}
-use Rattle.view_tree.specs.groups.Highest.{IsAboveNamed}
-use Rattle.view_tree.specs.groups.Latest.{AreReached, AreRising}
-use Rattle.view_tree.specs.groups.Ordering.{HasRightMarks, AreOrders, IsGroupOf, IsGrouped, IsKeptOf, PlainGroup, group_at, plain_group, plain_orders}
+use Rattle.view_tree.specs.sibling_orders.Highest.{IsAboveNamed}
+use Rattle.view_tree.specs.sibling_orders.Latest.{AreReached, AreRising}
+use Rattle.view_tree.specs.sibling_orders.Ordering.{HasRightMarks, AreOrders, IsGroupOf, IsGrouped, IsKeptOf, PlainGroup, group_at, plain_group, plain_orders}
 use Rattle.view_tree.specs.Rows.{children_of_first, part_from, views_of}
 use Rattle.view_tree.specs.Views.{IsLive, Views, class_of, held_of, number_of, orders_of, plain_of, plain_rows}
 use Rattle.view_tree.proofs.orders.RowLaws.{group_there, links-plain, numbers-plain, orders_are}
@@ -36,7 +36,7 @@ module _ (a : Inside) (v : Views) (key number : ℕ) (sound : IsSoundTree a) (e 
       let nothing : group_at a.groups number ≡ None = ap (option_map plain_group) none in
       subst (IsKeptOf (plain_rows (held_of v) (children_of_first (part_from key v.tree)))) nothing kept
 
-  module _ (group : Group) (found : lookup (nat_eq number) a.groups.entries ≡ Some group) where
+  module _ (group : SiblingOrders) (found : lookup (nat_eq number) a.groups.entries ≡ Some group) where
     has : group_at a.groups number ≡ Some (plain_group group)
     has = ap (option_map plain_group) found
 

@@ -10,8 +10,8 @@ use Rattle.view_model.specs.Cycles.{link_of, links_in}
 use Rattle.view_model.specs.Forest.{Forest, Nothing, Branch, changed_where}
 use Rattle.view_model.specs.PlainTree.{PlainView}
 use Rattle.view_model.specs.SiblingRules.{names}
-use Rattle.view_tree.specs.groups.Highest.{IsAboveNamed, IsAboveRules}
-use Rattle.view_tree.specs.groups.Staying.{NamesNone}
+use Rattle.view_tree.specs.sibling_orders.Highest.{IsAboveNamed, IsAboveRules}
+use Rattle.view_tree.specs.sibling_orders.Staying.{NamesNone}
 use Rattle.view_tree.specs.Rows.{Row, views_of}
 
 pub above_both : (across down highest : ℕ) (rules : Rules) → ((id : ℕ) → names Horizontal rules id ≡ true → id ≤ across) → ((id : ℕ) → names Vertical rules id ≡ true → id ≤ down)

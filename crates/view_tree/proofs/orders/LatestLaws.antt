@@ -11,12 +11,12 @@ use Rattle.view_model.specs.Cycles.{link_of, links_in, numbers_in}
 use Rattle.view_model.specs.Forest.{Forest, Nothing, Branch, changed_where}
 use Rattle.view_model.specs.PlainTree.{PlainView}
 use Rattle.view_model.specs.SiblingRules.{no_link}
-use Rattle.view_tree.specs.groups.Latest.{AreReached, AreRising, HasNoted, IsLatest, IsReached, IsReachedIn}
-use Rattle.view_tree.specs.groups.Ordering.{IsLatestIn, PlainGroup}
-use Rattle.view_tree.specs.groups.Places.{IsStraight, passing}
-use Rattle.view_tree.specs.groups.Staying.{AreBefore, IsBefore, IsPast}
+use Rattle.view_tree.specs.sibling_orders.Latest.{AreReached, AreRising, HasNoted, IsLatest, IsReached, IsReachedIn}
+use Rattle.view_tree.specs.sibling_orders.Ordering.{IsLatestIn, PlainGroup}
+use Rattle.view_tree.specs.sibling_orders.Indexes.{IsStraight, passing}
+use Rattle.view_tree.specs.sibling_orders.Staying.{AreBefore, IsBefore, IsPast}
 use Rattle.view_tree.specs.Rows.{Row, views_of}
-use Rattle.view_tree.proofs.orders.PlaceLaws.{passes, place_passing}
+use Rattle.view_tree.proofs.orders.IndexLaws.{passes, place_passing}
 
 -- one number before others, or after them
 pub rising_on : (first : ℕ) (kids : List ℕ) → ((p : ℕ) → p < length kids → first < get_or kids p 0) → AreRising kids → AreRising (first ∷ kids)

@@ -6,7 +6,7 @@ use Rattle.std.specs.Prelude.{◌==◌, if◌then◌else◌}
 use Rattle.view_model.specs.Forest.{Forest, Nothing, Branch, EveryBranch, EveryRow, edited_where, changed_where, joined, sum_of}
 use Rattle.view_model.specs.PlainTree.{PlainView, grown, pruned}
 use Rattle.view_model.specs.Cycles.{each, numbers_in}
-use Rattle.view_tree.specs.groups.Ordering.{place_in}
+use Rattle.view_tree.specs.sibling_orders.Ordering.{place_in}
 
 -- a number among the views of a list
 abbrev pub IsAmong : ℕ → Forest PlainView → Type 0

@@ -10,11 +10,11 @@ use Rattle.view_model.specs.Growth.{grown_at}
 use Rattle.view_model.specs.Orders.{IsOrder}
 use Rattle.view_model.specs.SiblingRules.{no_link}
 use Rattle.view_model.specs.PlainTree.{PlainView, pruned, single}
-use Rattle.view_tree.specs.declared.groups.Group.{Group}
+use Rattle.view_tree.specs.declared.sibling_orders.SiblingOrders.{SiblingOrders}
 use Rattle.view_tree.specs.node.Nodes.{PlainNode, RepresentsPart, RepresentsTree}
 use Rattle.view_model.specs.Classes.{is_relative}
 use Rattle.view_model.specs.Cycles.{each, link_of, links_in, numbers_in}
-use Rattle.view_tree.specs.groups.Ordering.{IsGrouped, IsGroupedAt, IsKeptOf, IsTakenAt, PlainGroup, PlainOrders, no_group, no_orders, orders_in, plain_group, with_kid}
+use Rattle.view_tree.specs.sibling_orders.Ordering.{IsGrouped, IsGroupedAt, IsKeptOf, IsTakenAt, PlainGroup, PlainOrders, no_group, no_orders, orders_in, plain_group, with_kid}
 use Rattle.view_tree.specs.Rows.{Row, children_of_first, count_of_number, first_key, head_view, part_from, siblings_from, views_of}
 use Rattle.view_tree.specs.Views.{Held, IsLive, IsTree, Views, class_of, group_number, held_of, number_of, offset_of, plain_of, plain_rows, scrolled, view_at}
 use Rattle.view_tree.proofs.forest.Forests.{RepresentsPart-within, Within-children_of_first, Within-later_siblings, some_is}
@@ -272,7 +272,7 @@ grouped-removed old new key parent at now is has own others plain grouped =
     subst (IsGrouped now) (sym plain) (grouped-pruned at now (number_of old key) parent (plain_of old) once has own others grouped)
 
 -- the orders that contracts see
-lookup-orders : (test : ℕ → Bool) (groups : List (ℕ × Group)) → lookup test (orders_in groups) ≡ option_map (λ (g : PlainGroup). g.orders) (option_map plain_group (lookup test groups))
+lookup-orders : (test : ℕ → Bool) (groups : List (ℕ × SiblingOrders)) → lookup test (orders_in groups) ≡ option_map (λ (g : PlainGroup). g.orders) (option_map plain_group (lookup test groups))
 lookup-orders test [] = refl
 lookup-orders test (entry ∷ groups) = elim (cases_Bool (test entry.0)) [
   | inl e ↦ rw e
@@ -280,21 +280,21 @@ lookup-orders test (entry ∷ groups) = elim (cases_Bool (test entry.0)) [
 ]
 
 -- what a table has under a number gives the orders there
-pub orders_same : (old new : List (ℕ × Group)) (k : ℕ) → option_map plain_group (lookup (nat_eq k) new) ≡ option_map plain_group (lookup (nat_eq k) old)
+pub orders_same : (old new : List (ℕ × SiblingOrders)) (k : ℕ) → option_map plain_group (lookup (nat_eq k) new) ≡ option_map plain_group (lookup (nat_eq k) old)
     → lookup (nat_eq k) (orders_in new) ≡ lookup (nat_eq k) (orders_in old)
 orders_same old new k same = lookup-orders (nat_eq k) new ∙ ap (option_map (λ (g : PlainGroup). g.orders)) same ∙ sym (lookup-orders (nat_eq k) old)
 
-pub orders_kept : (old new : List (ℕ × Group)) (k : ℕ) → option_map plain_group (lookup (nat_eq k) new) ≡ option_map plain_group (lookup (nat_eq k) old)
+pub orders_kept : (old new : List (ℕ × SiblingOrders)) (k : ℕ) → option_map plain_group (lookup (nat_eq k) new) ≡ option_map plain_group (lookup (nat_eq k) old)
     → unwrap_or (lookup (nat_eq k) (orders_in new)) no_orders ≡ unwrap_or (lookup (nat_eq k) (orders_in old)) no_orders
 orders_kept old new k same = ap (λ found. unwrap_or found no_orders) (orders_same old new k same)
 
-pub orders_none : (groups : List (ℕ × Group)) (k : ℕ) → option_map plain_group (lookup (nat_eq k) groups) ≡ None → lookup (nat_eq k) (orders_in groups) ≡ None
+pub orders_none : (groups : List (ℕ × SiblingOrders)) (k : ℕ) → option_map plain_group (lookup (nat_eq k) groups) ≡ None → lookup (nat_eq k) (orders_in groups) ≡ None
 orders_none groups k none = lookup-orders (nat_eq k) groups ∙ ap (option_map (λ (g : PlainGroup). g.orders)) none
 
 abbrev pub orders_or : Option PlainGroup → PlainOrders
 orders_or group = unwrap_or (option_map (λ (g : PlainGroup). g.orders) group) no_orders
 
-pub orders_under-is : (groups : List (ℕ × Group)) (k : ℕ) → unwrap_or (lookup (nat_eq k) (orders_in groups)) no_orders ≡ orders_or (option_map plain_group (lookup (nat_eq k) groups))
+pub orders_under-is : (groups : List (ℕ × SiblingOrders)) (k : ℕ) → unwrap_or (lookup (nat_eq k) (orders_in groups)) no_orders ≡ orders_or (option_map plain_group (lookup (nat_eq k) groups))
 orders_under-is groups k = ap (λ found. unwrap_or found no_orders) (lookup-orders (nat_eq k) groups)
 
 -- the parent of a view by look-up is the first of its ancestors
@@ -302,7 +302,7 @@ pub nearest_reported : (reported : Option ℕ) (path : List ℕ) (above : ℕ �
 nearest_reported None path above is = rw is refl
 nearest_reported (Some parent) path above is = rw is refl
 
-pub orders_are : (views : Views) (key : ℕ) (groups : List (ℕ × Group)) (group : PlainGroup) → views.orders ≡ orders_in groups
+pub orders_are : (views : Views) (key : ℕ) (groups : List (ℕ × SiblingOrders)) (group : PlainGroup) → views.orders ≡ orders_in groups
     → option_map plain_group (lookup (nat_eq (number_of views key)) groups) ≡ Some group → unwrap_or (lookup (nat_eq (number_of views key)) views.orders) no_orders ≡ group.orders
 orders_are views key groups group orders is =
     ap (λ list. unwrap_or (lookup (nat_eq (number_of views key)) list) no_orders) orders

@@ -11,7 +11,7 @@ use Rattle.view_model.specs.Forest.{Forest, Nothing, Branch, count_of}
 use Rattle.view_model.specs.Layout.{unscrolled}
 use Rattle.view_model.specs.PlainTree.{PlainView}
 use Rattle.view_tree.specs.table.Holders.{holders}
-use Rattle.view_tree.specs.groups.Ordering.{HasNoOther, IsGrouped, group_at, orders_in}
+use Rattle.view_tree.specs.sibling_orders.Ordering.{HasNoOther, IsGrouped, group_at, orders_in}
 use Rattle.view_tree.specs.Rows.{Row, later_siblings, count_where, first_key, key_where, keys_where, last_key}
 use Rattle.view_tree.specs.Rows.{count_of_key}
 use Rattle.view_tree.specs.Views.{Held, IsTree, Views, no_counts, plain_of}
@@ -27,6 +27,13 @@ pub record PlainNode : Type 0 where
   pub last : Option ℕ
   pub previous : Option ℕ
   pub next : Option ℕ
+
+-- there are as many nodes as before, and as much room for them
+abbrev pub KeepsNodeCount : Slab Node → Slab Node → Type 0
+KeepsNodeCount old new = slab_len new ≡ slab_len old
+
+abbrev pub KeepsNodeRoom : Slab Node → Slab Node → Type 0
+KeepsNodeRoom old new = new.capacity ≡ old.capacity
 
 -- the view of a node, as it is in a row
 abbrev pub view_of_node : Node → PlainView

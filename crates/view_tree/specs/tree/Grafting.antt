@@ -13,8 +13,8 @@ use Rattle.view_model.specs.Refusals.{PlainRefusal, plain_refusal}
 use Rattle.view_model.specs.SiblingRules.{leads}
 use Rattle.view_model.specs.declared.fault.Fault.{Fault}
 use Rattle.view_model.specs.declared.fault.Fault.TheVariants as fault
-use Rattle.view_tree.specs.declared.groups.Group.{Group}
-use Rattle.view_tree.specs.groups.Ordering.{IsNewGroupFor, PlainGroup, plain_group}
+use Rattle.view_tree.specs.declared.sibling_orders.SiblingOrders.{SiblingOrders}
+use Rattle.view_tree.specs.sibling_orders.Ordering.{IsNewGroupFor, PlainGroup, plain_group}
 use Rattle.view_tree.specs.Rows.{children_of_first, part_from, views_of}
 use Rattle.view_tree.specs.Views.{Views, class_of, number_of}
 
@@ -59,28 +59,29 @@ cycle_in name number [] = None
 cycle_in name number (sprout ∷ more) = option_or (cycle_after name number sprout more) (cycle_in name (suc number) more)
 
 -- one entry, under this number
-pub record IsEntryFor (number : ℕ) (links : List Link) (numbers : List ℕ) (entries : List (ℕ × Group)) : Type 0 where
-  pub group : Group
+pub record IsEntryFor (number : ℕ) (links : List Link) (numbers : List ℕ) (entries : List (ℕ × SiblingOrders))
+    : Type 0 where
+  pub group : SiblingOrders
   pub only : entries ≡ (number, group) ∷ []
   pub right : IsNewGroupFor links numbers (plain_group group)
 
 -- an entry, if the view is a relative layout
-abbrev pub IsOwnFor : Bool → ℕ → List Link → List ℕ → List (ℕ × Group) → Type 0
+abbrev pub IsOwnFor : Bool → ℕ → List Link → List ℕ → List (ℕ × SiblingOrders) → Type 0
 IsOwnFor false number links numbers entries = entries ≡ []
 IsOwnFor true number links numbers entries = IsEntryFor number links numbers entries
 
 -- an entry of a view of this number, which has these after it in preorder
-abbrev pub IsFollowing : ℕ → Sprout → List Sprout → List (ℕ × Group) → Type 0
+abbrev pub IsFollowing : ℕ → Sprout → List Sprout → List (ℕ × SiblingOrders) → Type 0
 IsFollowing number sprout more entries =
     IsOwnFor (is_relative sprout.class) number (links_following sprout.depth (suc number) more)
     (numbers_following sprout.depth (suc number) more) entries
 
 -- entries of all relative layouts among views in preorder, the first of which has this number
-abbrev pub AreEntries : ℕ → List Sprout → List (ℕ × Group) → Type 0
+abbrev pub AreEntries : ℕ → List Sprout → List (ℕ × SiblingOrders) → Type 0
 AreEntries number [] entries = entries ≡ []
 AreEntries number (sprout ∷ more) entries =
-    (own : List (ℕ × Group)) × (rest : List (ℕ × Group)) × (entries ≡ own ++ rest) × IsFollowing number sprout more own
-    × AreEntries (suc number) more rest
+    (own : List (ℕ × SiblingOrders)) × (rest : List (ℕ × SiblingOrders)) × (entries ≡ own ++ rest)
+    × IsFollowing number sprout more own × AreEntries (suc number) more rest
 
 -- a value is made, or the reason against it is reported, unless memory runs out
 abbrev pub IsMadeUnless : {A : Type 0} → Option PlainRefusal → (A → Type 0) → Result A Fault → Type 0
@@ -89,13 +90,13 @@ IsMadeUnless reason Made (Err (fault.Refused refusal)) = reason ≡ Some (plain_
 IsMadeUnless reason Made (Err fault.NoMemory) = Unit {0}
 
 -- the result for children that are to be put in order
-abbrev pub IsGroupOrCycle : (ℕ → Member) → List Link → List ℕ → Result Group Fault → Type 0
+abbrev pub IsGroupOrCycle : (ℕ → Member) → List Link → List ℕ → Result SiblingOrders Fault → Type 0
 IsGroupOrCycle name links numbers result =
     IsMadeUnless (cycle_of name links numbers) (λ group. IsNewGroupFor links numbers (plain_group group)) result
 
 -- some entries come after others
-pub record HasAdded (old new : List (ℕ × Group)) (Made : List (ℕ × Group) → Type 0) : Type 0 where
-  pub added : List (ℕ × Group)
+pub record HasAdded (old new : List (ℕ × SiblingOrders)) (Made : List (ℕ × SiblingOrders) → Type 0) : Type 0 where
+  pub added : List (ℕ × SiblingOrders)
   pub is : new ≡ old ++ added
   pub made : Made added
 
@@ -115,14 +116,14 @@ parent_cycle views (Some parent) sprout =
     else None
 
 -- an entry of a parent below which a view is added, if it is a relative layout
-abbrev pub IsParentEntry : Views → Option ℕ → Sprout → List (ℕ × Group) → Type 0
+abbrev pub IsParentEntry : Views → Option ℕ → Sprout → List (ℕ × SiblingOrders) → Type 0
 IsParentEntry views None sprout entries = entries ≡ []
 IsParentEntry views (Some parent) sprout entries =
     IsOwnFor (is_relative (class_of views parent)) (number_of views parent)
     (links_then views parent (sprout_link sprout)) (numbers_then views parent) entries
 
 -- what a table has under a number once entries are inserted one after another, if it had this before
-abbrev pub noted : List (ℕ × Group) → ℕ → Option PlainGroup → Option PlainGroup
+abbrev pub noted : List (ℕ × SiblingOrders) → ℕ → Option PlainGroup → Option PlainGroup
 noted [] number before = before
 noted (entry ∷ entries) number before =
     noted entries number (if nat_eq entry.0 number then Some (plain_group entry.1) else before)
@@ -134,8 +135,8 @@ entries_cycle views parent (sprout ∷ more) =
     option_or (parent_cycle views parent sprout) (cycle_in (member_from views.next) views.next (sprout ∷ more))
 
 -- entries of the parent of a sapling and of the views of that
-abbrev pub AreGrafted : Views → Option ℕ → List Sprout → List (ℕ × Group) → Type 0
+abbrev pub AreGrafted : Views → Option ℕ → List Sprout → List (ℕ × SiblingOrders) → Type 0
 AreGrafted views parent [] entries = ⊥
 AreGrafted views parent (sprout ∷ more) entries =
-    (own : List (ℕ × Group)) × IsParentEntry views parent sprout own
+    (own : List (ℕ × SiblingOrders)) × IsParentEntry views parent sprout own
     × HasAdded own entries (AreEntries views.next (sprout ∷ more))

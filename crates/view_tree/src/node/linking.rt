@@ -3,7 +3,7 @@ ghost use Rattle.std.specs.Prelude.{◌≡◌, ◌≢◌, ◌<◌, ◌≤◌, �
 ghost use Rattle.slab.specs.Slab.{get, slab_len, ContainsKey, HasRoomFor};
 ghost use Rattle.slab_link.specs.Numbers.{links_end};
 ghost use Rattle.view_model.specs.Sprouts.{seed_of, view_of};
-ghost use Rattle.view_tree.specs.node.Nodes.{PlainNode, IsAround, changed_at, held_in, linked, replaced_if_none, key_or, last_child, links_at, unlinked};
+ghost use Rattle.view_tree.specs.node.Nodes.{PlainNode, IsAround, changed_at, held_in, linked, replaced_if_none, key_or, last_child, links_at, unlinked, KeepsNodeCount, KeepsNodeRoom};
 ghost use Rattle.view_tree.specs.Views.{fresh_held};
 
 use crate::node::Node;
@@ -20,8 +20,8 @@ fn set_next(nodes: &mut Slab<Node>, key: Option<usize>, next: Link)
     ensures links { (x : ℕ)
         → links_at nodes.new x ≡ changed_at (links_at nodes.old) key (λ node. record node { next = next }) x }
     ensures held { (x : ℕ) → held_in (get nodes.new x) ≡ held_in (get nodes.old x) }
-    ensures len { slab_len nodes.new ≡ slab_len nodes.old }
-    ensures capacity { nodes.new.capacity ≡ nodes.old.capacity }
+    ensures len { KeepsNodeCount nodes.old nodes.new }
+    ensures capacity { KeepsNodeRoom nodes.old nodes.new }
 {
     if let Some(key) = key {
         let node = &mut nodes[key];
@@ -35,8 +35,8 @@ fn set_previous(nodes: &mut Slab<Node>, key: Option<usize>, previous: Link)
     ensures links { (x : ℕ)
         → links_at nodes.new x ≡ changed_at (links_at nodes.old) key (λ node. record node { previous = previous }) x }
     ensures held { (x : ℕ) → held_in (get nodes.new x) ≡ held_in (get nodes.old x) }
-    ensures len { slab_len nodes.new ≡ slab_len nodes.old }
-    ensures capacity { nodes.new.capacity ≡ nodes.old.capacity }
+    ensures len { KeepsNodeCount nodes.old nodes.new }
+    ensures capacity { KeepsNodeRoom nodes.old nodes.new }
 {
     if let Some(key) = key {
         let node = &mut nodes[key];
@@ -52,8 +52,8 @@ fn set_last(nodes: &mut Slab<Node>, parent: Option<usize>, kid: usize)
         → links_at nodes.new x ≡ changed_at (links_at nodes.old) parent
         (λ node. record node { first = key_or node.first kid; last = Some kid }) x }
     ensures held { (x : ℕ) → held_in (get nodes.new x) ≡ held_in (get nodes.old x) }
-    ensures len { slab_len nodes.new ≡ slab_len nodes.old }
-    ensures capacity { nodes.new.capacity ≡ nodes.old.capacity }
+    ensures len { KeepsNodeCount nodes.old nodes.new }
+    ensures capacity { KeepsNodeRoom nodes.old nodes.new }
 {
     if let Some(parent) = parent {
         let node = &mut nodes[parent];
@@ -74,8 +74,8 @@ fn set_ends(nodes: &mut Slab<Node>, parent: Option<usize>, previous: Link, next:
           last = replaced_if_none next previous node.last;
         }) x }
     ensures held { (x : ℕ) → held_in (get nodes.new x) ≡ held_in (get nodes.old x) }
-    ensures len { slab_len nodes.new ≡ slab_len nodes.old }
-    ensures capacity { nodes.new.capacity ≡ nodes.old.capacity }
+    ensures len { KeepsNodeCount nodes.old nodes.new }
+    ensures capacity { KeepsNodeRoom nodes.old nodes.new }
 {
     if let Some(parent) = parent {
         let node = &mut nodes[parent];
@@ -119,7 +119,7 @@ pub fn link_last(
     ensures held { held_in (get nodes.new result) ≡ Some (fresh_held sprout.facts.offset) }
     ensures others { (x : ℕ) → x ≢ result → held_in (get nodes.new x) ≡ held_in (get nodes.old x) }
     ensures len { slab_len nodes.new ≡ slab_len nodes.old + 1 }
-    ensures capacity { nodes.new.capacity ≡ nodes.old.capacity }
+    ensures capacity { KeepsNodeRoom nodes.old nodes.new }
 {
     let last = last_of(nodes, parent);
     let key = nodes.insert_reserved(Node {

@@ -1,7 +1,7 @@
 //! How views turn with their parents.
 ghost use Rattle.std.specs.Prelude.{◌≡◌, ◌≢◌, ℕ, option_map};
-ghost use Rattle.slab.specs.Slab.{ContainsKey, get, slab_len};
-ghost use Rattle.view_tree.specs.node.Nodes.{links_at};
+ghost use Rattle.slab.specs.Slab.{ContainsKey, get};
+ghost use Rattle.view_tree.specs.node.Nodes.{links_at, KeepsNodeCount};
 ghost use Rattle.view_tree.specs.Rows.{count_of_key, first_tree};
 ghost use Rattle.view_tree.specs.node.Turning.{HaveTurned, IsPart, part_at, running_node};
 
@@ -18,7 +18,7 @@ pub fn turn(nodes: &mut Slab<Node>, view: usize, above: bool)
     ensures others { (key : ℕ)
         → count_of_key key (first_tree (part_at nodes.old view)) ≡ 0
         → get nodes.new key ≡ get nodes.old key }
-    ensures len { slab_len nodes.new ≡ slab_len nodes.old }
+    ensures len { KeepsNodeCount nodes.old nodes.new }
 {
     let facts = nodes[view].facts;
     let rtl = facts.direction.is_rtl(above);
@@ -38,7 +38,7 @@ fn run(nodes: &mut Slab<Node>, view: usize, rtl: bool)
     requires { ContainsKey nodes.old view }
     ensures own { get nodes.new view ≡ option_map (running_node rtl) (get nodes.old view) }
     ensures others { (key : ℕ) → key ≢ view → get nodes.new key ≡ get nodes.old key }
-    ensures len { slab_len nodes.new ≡ slab_len nodes.old }
+    ensures len { KeepsNodeCount nodes.old nodes.new }
 {
     let node = &mut nodes[view];
     node.facts.rtl = rtl;

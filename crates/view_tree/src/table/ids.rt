@@ -2,7 +2,7 @@
 //!
 //! An id's entry is how many views have it and the sum of their keys: a view that gets or loses an id costs one step,
 //! and the sum is the key where one view has the id. Of several views the first is found by a walk.
-ghost use Rattle.std.specs.Prelude.{◌≡◌, ◌≢◌, ◌≤◌, ◌<◌, ◌+◌, ℕ, Some, None, IfSome, IsOk, OnErr, OnOk, nat_eq};
+ghost use Rattle.std.specs.Prelude.{◌≡◌, ◌≢◌, ◌≤◌, ◌<◌, ◌+◌, ℕ, Some, None, IfSome, IsOk, OnErr, OnOk, nat_eq, if◌then◌else◌};
 ghost use Rattle.indexmap.specs.IndexMap.{get as holders_at, spare};
 ghost use Rattle.view_model.specs.Numbers.{max_views};
 ghost use Rattle.view_model.specs.Refusals.{IsRefusedExactlyFor};
@@ -57,10 +57,28 @@ pub fn note_id(ids: &mut IndexMap<u32, Holders>, id: u32, key: usize) -> Result<
     if id == 0 {
         return Ok(());
     }
-    let holders = one_more(ids.get(&id).copied(), key);
-    match ids.insert(id, holders) {
-        Ok(_) => Ok(()),
+    match ids.insert(id, one_more(None, key)) {
+        Ok(None) => Ok(()),
+        Ok(held) => {
+            set_holders(ids, id, one_more(held, key));
+            Ok(())
+        }
         Err(_) => Err(AttachFault::NoMemory),
+    }
+}
+
+/// Sets the views of an id that has some.
+fn set_holders(ids: &mut IndexMap<u32, Holders>, id: u32, holders: Holders)
+    requires { holders_at nat_eq ids.old id ≢ None }
+    ensures set { (i : ℕ)
+        → holders_at nat_eq ids.new i ≡ (if nat_eq id i then Some holders else holders_at nat_eq ids.old i) }
+    ensures spare { spare ids.old ≤ spare ids.new }
+{
+    match ids.get_mut(&id) {
+        None => unreachable!(),
+        Some(held) => {
+            *held = holders;
+        }
     }
 }
 
@@ -78,10 +96,7 @@ pub fn drop_id(ids: &mut IndexMap<u32, Holders>, id: u32, key: usize)
         None => {
             ids.swap_remove(&id);
         }
-        Some(rest) => match ids.insert(id, rest) {
-            Ok(_) => (),
-            Err(_) => unreachable!(),
-        },
+        Some(rest) => set_holders(ids, id, rest),
     }
 }
 

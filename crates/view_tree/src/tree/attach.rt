@@ -1,5 +1,5 @@
 //! Views that are added to a tree.
-ghost use Rattle.std.specs.Prelude.{◌≡◌, ◌≢◌, ◌+◌, ◌<◌, ℕ, length, replicate, None, Some, IfOk, IfSome, OnErr, OnOk};
+ghost use Rattle.std.specs.Prelude.{◌≡◌, ◌≢◌, ◌+◌, ◌<◌, ℕ, length, replicate, None, Some, IfOk, IfSome, OnOk};
 ghost use Rattle.std.specs.Option.{option_map};
 ghost use Rattle.view_model.specs.Numbers.{max_depth, numbers_end};
 ghost use Rattle.view_model.specs.Forest.{Nothing};
@@ -9,12 +9,13 @@ ghost use Rattle.view_tree.specs.tree.Attached.{Attached};
 ghost use Rattle.view_tree.specs.tree.Directions.{running_below};
 ghost use Rattle.view_model.specs.Refusals.{IsRefusedExactlyFor, RefusesExactlyFor};
 ghost use Rattle.view_tree.specs.Rows.{ancestors};
-ghost use Rattle.view_tree.specs.Views.{IsLive, group_number, number_of, orders_under, plain_of};
+ghost use Rattle.view_tree.specs.Views.{IsLive, group_number, number_of, orders_under, plain_of, KeepsCounts};
+ghost use Rattle.view_model.specs.Failing.{KeepsOnErr};
 
 use super::bed::Bed;
 use super::{Key, ViewTree};
 use crate::fault::AttachFault;
-use crate::groups::{join_group, make_group_room};
+use crate::sibling_orders::{join_group, make_group_room};
 use crate::table::make_room;
 use view_model::limits::{MAX_DEPTH, MAX_VIEWS};
 use view_model::refusals::{DEPTH, NOT_GROUP, SCROLL_FULL, VIEWS};
@@ -30,7 +31,7 @@ impl ViewTree {
         facts: Facts,
         text: Text,
     ) -> Result<Key, AttachFault>
-        requires live { IfSome parent (λ parent. IsLive self.old parent) }
+        requires live { IfSome parent (IsLive self.old) }
         requires root { parent ≡ None → self.old.tree ≡ Nothing }
         requires unnamed { (facts.id ≡ 0) × (facts.rules.values ≡ replicate 21 0) }
         requires numbers { self.old.next < numbers_end }
@@ -41,8 +42,8 @@ impl ViewTree {
             → orders_under self.new k ≡ orders_under self.old k) }
         ensures refused { IsRefusedExactlyFor
             (refusal_at (plain_of self.old) (option_map (number_of self.old) parent)) result }
-        ensures unchanged { OnErr result (self.new ≡ self.old) }
-        ensures counts { self.new.counts ≡ self.old.counts }
+        ensures unchanged { KeepsOnErr result self.old self.new }
+        ensures counts { KeepsCounts self.old self.new }
     {
         self.may_grow(parent)?;
         let group = self.group_number(parent);
@@ -69,7 +70,7 @@ impl ViewTree {
 
     /// The number of a parent that is a relative layout.
     pub fn group_number(&self, parent: Option<Key>) -> Option<u64>
-        requires { IfSome parent (λ parent. IsLive self.now parent) }
+        requires { IfSome parent (IsLive self.now) }
         ensures { result ≡ group_number self.now parent }
     {
         let parent = parent?;
@@ -81,7 +82,7 @@ impl ViewTree {
 
     /// Whether a view may be added below this one, or as the root.
     fn may_grow(&self, parent: Option<Key>) -> Result<(), Refusal>
-        requires { IfSome parent (λ parent. IsLive self.now parent) }
+        requires { IfSome parent (IsLive self.now) }
         ensures { RefusesExactlyFor (refusal_at (plain_of self.now) (option_map (number_of self.now) parent)) result }
     {
         match parent {

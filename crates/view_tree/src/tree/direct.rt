@@ -4,7 +4,7 @@ ghost use Rattle.view_model.specs.Directed.{directed, with_direction as plain_wi
 ghost use Rattle.view_tree.specs.tree.Directions.{asked_by_direction, directed_rows, is_rtl_above, with_direction};
 ghost use Rattle.view_tree.specs.tree.Requests.{requested};
 ghost use Rattle.view_tree.specs.Rows.{changed_at_key};
-ghost use Rattle.view_tree.specs.Views.{IsLive, IsTree, held_of, number_of, plain_of};
+ghost use Rattle.view_tree.specs.Views.{IsLive, IsTree, held_of, number_of, plain_of, KeepsNext, KeepsCounts};
 
 use super::{Key, ViewTree};
 use crate::node::turning::turn;
@@ -20,11 +20,11 @@ impl ViewTree {
         ensures plain { plain_of self.new
             ≡ directed false (plain_with_direction (number_of self.old view) direction (plain_of self.old)) }
         ensures orders { self.new.orders ≡ self.old.orders }
-        ensures next { self.new.next ≡ self.old.next }
+        ensures next { KeepsNext self.old self.new }
         ensures held { (key : ℕ)
             → held_of self.new key ≡ requested (held_of self.old)
             (asked_by_direction view direction self.old.tree) self.old.tree key }
-        ensures counts { self.new.counts ≡ self.old.counts }
+        ensures counts { KeepsCounts self.old self.new }
         ensures is_tree { IsTree self.old }
     {
         self.request(view);

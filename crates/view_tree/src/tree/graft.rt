@@ -1,5 +1,5 @@
 //! Saplings that are added to a tree.
-ghost use Rattle.std.specs.Prelude.{◌≡◌, ◌≢◌, ◌≤◌, ◌+◌, ◌<◌, ◌∷◌, [], ℕ, true, false, length, None, Some, IfOk, IfSome, OnErr};
+ghost use Rattle.std.specs.Prelude.{◌≡◌, ◌≢◌, ◌≤◌, ◌+◌, ◌<◌, ◌∷◌, [], ℕ, true, false, length, None, Some, IfOk, IfSome};
 ghost use Rattle.std.specs.Option.{option_map};
 ghost use Rattle.view_model.specs.Numbers.{max_depth, max_views, numbers_end};
 ghost use Rattle.view_model.specs.Cycles.{graft_cycle, member_from};
@@ -11,16 +11,16 @@ ghost use Rattle.view_model.specs.Refusals.{RefusesExactlyFor};
 ghost use Rattle.view_tree.specs.Faults.{IsRefusedOrCyclic};
 ghost use Rattle.view_tree.specs.tree.Grafted.{Grafted};
 ghost use Rattle.view_tree.specs.tree.Grafting.{AreGrafted, IsGroupOrCycle, IsMadeUnless, IsParentEntry, entries_cycle, links_then, numbers_then, parent_cycle};
-ghost use Rattle.view_model.specs.Classes.{is_relative};
-ghost use Rattle.view_tree.specs.Views.{IsLive, class_of, group_number, number_of, orders_under, plain_of};
+ghost use Rattle.view_tree.specs.Views.{IsLive, group_number, number_of, orders_under, plain_of, KeepsCounts, IsRelative};
+ghost use Rattle.view_model.specs.Failing.{KeepsOnErr};
 
 use super::attach::growth;
 use super::bed::Bed;
 use super::relatives::{push_entry, sprout_link, with_entries};
 use super::{Key, ViewTree};
 use crate::fault::AttachFault;
-use crate::groups::kids::{Kids, group_of};
-use crate::groups::{Group, make_group_room, note_groups};
+use crate::sibling_orders::kids::{Kids, group_of};
+use crate::sibling_orders::{SiblingOrders, make_group_room, note_groups};
 use crate::table::make_room;
 use std::alloc::{AllocError, Global};
 use view_model::limits::MAX_DEPTH;
@@ -31,7 +31,7 @@ impl ViewTree {
     /// returns the key of that. They have the next numbers in preorder, and no bounds. It takes time only for them, and
     /// for the children of a parent that is a relative layout.
     pub fn graft(&mut self, parent: Option<Key>, sapling: Sapling) -> Result<Key, AttachFault>
-        requires live { IfSome parent (λ parent. IsLive self.old parent) }
+        requires live { IfSome parent (IsLive self.old) }
         requires root { parent ≡ None → self.old.tree ≡ Nothing }
         requires numbers { self.old.next < numbers_end }
         ensures grafted { IfOk result (λ key. Grafted self.old parent (seeds_of sapling.sprouts.items) key self.new) }
@@ -44,8 +44,8 @@ impl ViewTree {
             (graft_cycle (plain_of self.old) (option_map (number_of self.old) parent) self.old.next
             (seeds_of sapling.sprouts.items)) result }
         ensures few { self.new.next ≤ self.old.next + max_views }
-        ensures unchanged { OnErr result (self.new ≡ self.old) }
-        ensures counts { self.new.counts ≡ self.old.counts }
+        ensures unchanged { KeepsOnErr result self.old self.new }
+        ensures counts { KeepsCounts self.old self.new }
     {
         self.may_take(parent, &sapling.sprouts)?;
         let entries = match self.entries(parent, &sapling.sprouts) {
@@ -78,8 +78,8 @@ impl ViewTree {
         &self,
         parent: Option<Key>,
         sprouts: &[Sprout],
-    ) -> Result<Vec<(u64, Group)>, AttachFault>
-        requires live { IfSome parent (λ parent. IsLive self.now parent) }
+    ) -> Result<Vec<(u64, SiblingOrders)>, AttachFault>
+        requires live { IfSome parent (IsLive self.now) }
         requires some { 0 < length sprouts.now }
         requires few { count_of self.now.tree + length sprouts.now ≤ max_views }
         requires numbers { self.now.next < numbers_end }
@@ -97,8 +97,8 @@ impl ViewTree {
         &self,
         parent: Option<Key>,
         sprout: &Sprout,
-    ) -> Result<Vec<(u64, Group)>, AttachFault>
-        requires live { IfSome parent (λ parent. IsLive self.now parent) }
+    ) -> Result<Vec<(u64, SiblingOrders)>, AttachFault>
+        requires live { IfSome parent (IsLive self.now) }
         requires few { count_of self.now.tree < max_views }
         requires numbers { self.now.next < numbers_end }
         ensures { IsMadeUnless (parent_cycle self.now parent sprout.now)
@@ -118,9 +118,9 @@ impl ViewTree {
     }
 
     /// What is kept of a relative layout once a view with this link is added after its children.
-    fn group_then(&self, parent: Key, link: Link) -> Result<Group, AttachFault>
+    fn group_then(&self, parent: Key, link: Link) -> Result<SiblingOrders, AttachFault>
         requires live { IsLive self.now parent }
-        requires relative { is_relative (class_of self.now parent) ≡ true }
+        requires relative { IsRelative self.now parent }
         requires few { count_of self.now.tree < max_views }
         requires numbers { self.now.next < numbers_end }
         ensures { IsGroupOrCycle (member_from self.now.next) (links_then self.now parent link)
@@ -150,7 +150,7 @@ impl ViewTree {
 
     /// Whether these views may be added below a parent, or as the whole tree.
     fn may_take(&self, parent: Option<Key>, sprouts: &[Sprout]) -> Result<(), Refusal>
-        requires live { IfSome parent (λ parent. IsLive self.now parent) }
+        requires live { IfSome parent (IsLive self.now) }
         requires preorder { IsPreorder sprouts.now }
         ensures { RefusesExactlyFor
             (graft_refusal (plain_of self.now) (option_map (number_of self.now) parent) (seeds_of sprouts.now)) result }
@@ -168,7 +168,11 @@ impl ViewTree {
 }
 
 /// One group, under its number.
-fn one_entry(alloc: Global, number: u64, group: Group) -> Result<Vec<(u64, Group)>, AttachFault>
+fn one_entry(
+    alloc: Global,
+    number: u64,
+    group: SiblingOrders,
+) -> Result<Vec<(u64, SiblingOrders)>, AttachFault>
     ensures { IsMadeUnless None (λ entries. entries.items ≡ (number, group) ∷ []) result }
 {
     let mut entries = Vec::new(alloc);

@@ -12,7 +12,7 @@ impl ViewTree {
         ensures rows { rows_from result self.now.tree ≡ drop 1 (rows_from (Some view) self.now.tree) }
         ensures views { views_from self.now (Some view) ≡ view_at self.now view ∷ views_from self.now result }
         ensures fewer { length (rows_from result self.now.tree) < length (rows_from (Some view) self.now.tree) }
-        ensures live { IfSome result (λ next. IsLive self.now next) }
+        ensures live { IfSome result (IsLive self.now) }
     {
         match self.first(view) {
             Some(kid) => Some(kid),
@@ -25,7 +25,7 @@ impl ViewTree {
         requires live { IsLive self.now view }
         requires is_tree { IsTree self.now }
         ensures key { result ≡ first_row_key (rows_following [] view self.now.tree) }
-        ensures live { IfSome result (λ next. IsLive self.now next) }
+        ensures live { IfSome result (IsLive self.now) }
     {
         if let Some(sibling) = self.next(view) {
             return Some(sibling);

@@ -8,8 +8,8 @@ ghost use Rattle.view_model.specs.Numbers.{max_views};
 ghost use Rattle.view_tree.specs.tree.Grafting.{AreEntries, HasAdded, IsFollowing, IsGroupOrCycle, IsMadeUnless, cycle_after, cycle_in, links_following, numbers_following, sprout_link};
 
 use crate::fault::AttachFault;
-use crate::groups::Group;
-use crate::groups::kids::{Kids, group_of};
+use crate::sibling_orders::SiblingOrders;
+use crate::sibling_orders::kids::{Kids, group_of};
 use std::alloc::{AllocError, Global};
 use view_model::{Link, Sprout};
 
@@ -58,7 +58,7 @@ fn group_after(
     depth: u32,
     number: u64,
     sprouts: &[Sprout],
-) -> Result<Group, AttachFault>
+) -> Result<SiblingOrders, AttachFault>
     requires few { number + 1 + length sprouts.now ≤ next + max_views }
     requires numbers { next + max_views < 2 ^ 64 }
     requires late { next ≤ number }
@@ -73,7 +73,7 @@ fn group_after(
 
 /// Adds what is kept of an added view, if it is a relative layout; the others follow it in preorder.
 fn add_entry(
-    entries: &mut Vec<(u64, Group)>,
+    entries: &mut Vec<(u64, SiblingOrders)>,
     next: u64,
     number: u64,
     sprout: &Sprout,
@@ -96,9 +96,9 @@ fn add_entry(
 
 /// One more group, under its number.
 pub fn push_entry(
-    entries: &mut Vec<(u64, Group)>,
+    entries: &mut Vec<(u64, SiblingOrders)>,
     number: u64,
-    group: Group,
+    group: SiblingOrders,
 ) -> Result<(), AttachFault>
     ensures { IsMadeUnless None (λ _. entries.new.items ≡ entries.old.items ++ (number, group) ∷ []) result }
 {
@@ -110,10 +110,10 @@ pub fn push_entry(
 
 /// Adds what is kept of the relative layouts among the views of a sapling, which have the numbers from `next` on.
 pub fn with_entries(
-    entries: Vec<(u64, Group)>,
+    entries: Vec<(u64, SiblingOrders)>,
     next: u64,
     sprouts: &[Sprout],
-) -> Result<Vec<(u64, Group)>, AttachFault>
+) -> Result<Vec<(u64, SiblingOrders)>, AttachFault>
     requires few { length sprouts.now ≤ max_views }
     requires numbers { next + max_views < 2 ^ 64 }
     ensures { IsMadeUnless (cycle_in (member_from next) next sprouts.now)

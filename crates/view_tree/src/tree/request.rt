@@ -2,7 +2,7 @@
 ghost use Rattle.std.specs.Prelude.{◌≡◌, ℕ, if◌then◌else◌};
 ghost use Rattle.view_tree.specs.tree.Requests.{among, asking, forced_one, unforced};
 ghost use Rattle.view_tree.specs.Rows.{ancestors};
-ghost use Rattle.view_tree.specs.Views.{IsLive, KeepsOthers, SameTree, held_of};
+ghost use Rattle.view_tree.specs.Views.{IsLive, KeepsOthers, SameTree, held_of, KeepsCounts};
 
 use super::{Key, ViewTree};
 
@@ -16,7 +16,7 @@ impl ViewTree {
         ensures held { (key : ℕ)
             → held_of self.new key ≡ (if among key (asking (held_of self.old) view self.old.tree)
             then forced_one (held_of self.old key) else held_of self.old key) }
-        ensures counts { self.new.counts ≡ self.old.counts }
+        ensures counts { KeepsCounts self.old self.new }
     {
         self.request_above(view);
         self.press(view);
@@ -30,7 +30,7 @@ impl ViewTree {
         ensures held { (key : ℕ)
             → held_of self.new key ≡ (if among key (unforced (held_of self.old) (ancestors view self.old.tree))
             then forced_one (held_of self.old key) else held_of self.old key) }
-        ensures counts { self.new.counts ≡ self.old.counts }
+        ensures counts { KeepsCounts self.old self.new }
     {
         match self.parent(view) {
             None => {}
@@ -49,7 +49,7 @@ impl ViewTree {
         ensures same { SameTree self.old self.new }
         ensures held { held_of self.new view ≡ forced_one (held_of self.old view) }
         ensures others { KeepsOthers self.old self.new view }
-        ensures counts { self.new.counts ≡ self.old.counts }
+        ensures counts { KeepsCounts self.old self.new }
     {
         let mut state = self.state(view);
         state.forced = true;

@@ -1,17 +1,17 @@
 //! The ids and the rules of views, and the orders that depend on them.
-ghost use Rattle.std.specs.Prelude.{◌≡◌, ◌≢◌, ◌<◌, ℕ, true, length, map, slice_get, slice_index, None, Some, IfOk, IfSome, OnOk, OnErr};
+ghost use Rattle.std.specs.Prelude.{◌≡◌, ◌≢◌, ◌<◌, ℕ, length, map, slice_get, slice_index, None, Some, IfOk, IfSome, OnOk};
 ghost use Rattle.view_model.specs.PlainTree.{with_facts};
-ghost use Rattle.view_tree.specs.groups.Cycles.{AreNewOrders, IsReportedFrom, view_member};
+ghost use Rattle.view_tree.specs.sibling_orders.Cycles.{AreNewOrders, IsReportedFrom, view_member};
 ghost use Rattle.view_tree.specs.Faults.{IsRefusedOrCyclic};
-ghost use Rattle.view_model.specs.Classes.{is_relative};
 ghost use Rattle.view_model.specs.Cycles.{first_cycle, link_of, numbers_in};
-ghost use Rattle.view_tree.specs.groups.Ordering.{link_or, linked_in};
+ghost use Rattle.view_tree.specs.sibling_orders.Ordering.{link_or, linked_in};
 ghost use Rattle.view_tree.specs.Rows.{ancestors, changed_at_key, children_of_first, part_from, views_of};
-ghost use Rattle.view_tree.specs.Views.{IsLive, class_of, group_number, held_of, number_of, orders_under, plain_of, view_at};
+ghost use Rattle.view_tree.specs.Views.{IsLive, group_number, held_of, number_of, orders_under, plain_of, view_at, KeepsNext, KeepsCounts, IsRelative};
+ghost use Rattle.view_model.specs.Failing.{KeepsOnErr};
 
 use super::{Key, ViewTree};
 use crate::fault::AttachFault;
-use crate::groups::{make_id_room, set_orders};
+use crate::sibling_orders::{make_id_room, set_orders};
 use crate::table::ids::rename;
 use relative_layout::{OrderFault, Orders, order};
 use std::alloc::{AllocError, Global};
@@ -31,12 +31,12 @@ impl ViewTree {
         ensures orders { (k : ℕ)
             → group_number self.old (slice_get (ancestors view self.old.tree) 0) ≢ Some k
             → orders_under self.new k ≡ orders_under self.old k }
-        ensures next { self.new.next ≡ self.old.next }
+        ensures next { KeepsNext self.old self.new }
         ensures held { (key : ℕ) → held_of self.new key ≡ held_of self.old key }
         ensures refused { IsRefusedOrCyclic None (first_cycle Member.View (with_facts (number_of self.old view)
             (λ facts. record facts { id = id; rules = rules }) (plain_of self.old))) result }
-        ensures unchanged { OnErr result (self.new ≡ self.old) }
-        ensures counts { self.new.counts ≡ self.old.counts }
+        ensures unchanged { KeepsOnErr result self.old self.new }
+        ensures counts { KeepsCounts self.old self.new }
     {
         let above = self.parent(view);
         let group = self.group_number(above);
@@ -128,7 +128,7 @@ impl ViewTree {
     /// The refusal for a cycle among the children of a relative layout, with members at these places.
     fn reported(&self, parent: Key, down: bool, members: &[u32]) -> AttachFault
         requires live { IsLive self.now parent }
-        requires relative { is_relative (class_of self.now parent) ≡ true }
+        requires relative { IsRelative self.now parent }
         requires inside { (p : ℕ)
             → p < length members.now
             → slice_index members.now p < length

@@ -5,20 +5,19 @@
 //! are set one after another, so making them anew each time would cost the square of their number. For the look an id
 //! that no rule exceeds is kept, and of an id that several children have, the last one.
 ghost use Rattle.std.specs.Prelude.{◌≡◌, ◌≢◌, ◌<◌, ℕ, ◌⊎◌, false, length, slice_index, true};
-ghost use Rattle.view_model.specs.Classes.{is_relative};
 ghost use Rattle.view_model.specs.Cycles.{links_in, numbers_in};
 ghost use Rattle.view_model.specs.SiblingRules.{names};
 ghost use Rattle.view_model.specs.declared.relative.Axis.TheVariants.{Horizontal, Vertical};
-ghost use Rattle.view_tree.specs.groups.Cycles.{links_below};
-ghost use Rattle.view_tree.specs.groups.Ordering.{AreOrders};
+ghost use Rattle.view_tree.specs.sibling_orders.Cycles.{links_below};
+ghost use Rattle.view_tree.specs.sibling_orders.Ordering.{AreOrders};
 ghost use Rattle.view_tree.specs.Rows.{children_of_first, part_from, views_of};
-ghost use Rattle.view_tree.specs.groups.Highest.{IsAboveNamed};
-ghost use Rattle.view_tree.specs.groups.Staying.{AreBefore, IsBefore, IsLastIn, IsMarkedOrder, MayName, MayNameAll, NamesNone};
-ghost use Rattle.view_tree.specs.Views.{IsLive, class_of, number_of, orders_of, view_at};
+ghost use Rattle.view_tree.specs.sibling_orders.Highest.{IsAboveNamed};
+ghost use Rattle.view_tree.specs.sibling_orders.Staying.{AreBefore, IsBefore, IsLastIn, IsMarkedOrder, MayName, MayNameAll, NamesNone};
+ghost use Rattle.view_tree.specs.Views.{IsLive, number_of, orders_of, view_at, IsRelative};
 
 use super::{Key, ViewTree};
-use crate::groups::Group;
-use crate::groups::ordered::OrderedKid;
+use crate::sibling_orders::SiblingOrders;
+use crate::sibling_orders::ordered::OrderedKid;
 use relative_layout::named_ids;
 use view_model::{Axis, Link, Rules};
 
@@ -28,7 +27,7 @@ impl ViewTree {
     pub(crate) fn stays_in_order(&self, parent: Key, view: Key, link: &Link) -> bool
         requires live { IsLive self.now view }
         requires above { IsLive self.now parent }
-        requires relative { is_relative (class_of self.now parent) ≡ true }
+        requires relative { IsRelative self.now parent }
         ensures { result ≡ true → AreOrders (links_below self.now parent (number_of self.now view) link.now)
             (orders_of self.now parent) }
     {
@@ -85,7 +84,7 @@ impl ViewTree {
     /// sibling that it newly names comes before it.
     fn follows(&self, parent: Key, kid: &OrderedKid, before: [u32; 8], ids: [u32; 8]) -> bool
         requires live { IsLive self.now parent }
-        requires relative { is_relative (class_of self.now parent) ≡ true }
+        requires relative { IsRelative self.now parent }
         requires kid { IsMarkedOrder kid.now.straight kid.now.kids.now kid.now.order.now
             (numbers_in (views_of (children_of_first (part_from parent self.now.tree)))) }
         requires inside { (p : ℕ)
@@ -109,7 +108,7 @@ impl ViewTree {
     /// Whether a child may name an id in place of that of before where it is in an order; 0 names nothing.
     fn may_name(&self, parent: Key, kid: &OrderedKid, before: u32, id: u32) -> bool
         requires live { IsLive self.now parent }
-        requires relative { is_relative (class_of self.now parent) ≡ true }
+        requires relative { IsRelative self.now parent }
         requires kid { IsMarkedOrder kid.now.straight kid.now.kids.now kid.now.order.now
             (numbers_in (views_of (children_of_first (part_from parent self.now.tree)))) }
         ensures { result ≡ true → MayName before id kid.now.number kid.now.kids.now kid.now.order.now
@@ -132,7 +131,7 @@ impl ViewTree {
     /// is its own and the child has a number above that of the last one with the id.
     fn is_after_all(&self, parent: Key, kid: &OrderedKid, id: u32) -> bool
         requires live { IsLive self.now parent }
-        requires relative { is_relative (class_of self.now parent) ≡ true }
+        requires relative { IsRelative self.now parent }
         requires kid { IsMarkedOrder kid.now.straight kid.now.kids.now kid.now.order.now
             (numbers_in (views_of (children_of_first (part_from parent self.now.tree)))) }
         requires named { id ≢ 0 }
@@ -181,7 +180,7 @@ impl ViewTree {
 }
 
 /// The child of a number in the order across.
-fn ordered_across(group: &Group, number: u64) -> OrderedKid<'_>
+fn ordered_across(group: &SiblingOrders, number: u64) -> OrderedKid<'_>
     ensures order { result.order.now ≡ group.now.orders.across.items }
     ensures straight { result.straight ≡ group.now.straight_across }
     ensures kids { result.kids.now ≡ group.now.kids.items }
@@ -196,7 +195,7 @@ fn ordered_across(group: &Group, number: u64) -> OrderedKid<'_>
 }
 
 /// The child of a number in the order down.
-fn ordered_down(group: &Group, number: u64) -> OrderedKid<'_>
+fn ordered_down(group: &SiblingOrders, number: u64) -> OrderedKid<'_>
     ensures order { result.order.now ≡ group.now.orders.down.items }
     ensures straight { result.straight ≡ group.now.straight_down }
     ensures kids { result.kids.now ≡ group.now.kids.items }

@@ -9,7 +9,7 @@ use Rattle.std.specs.Ordering.{int_eq}
 use Rattle.geom_core.specs.declared.geometry.Size.{Size}
 use Rattle.size_hooks.specs.Hook.{Hook}
 use Rattle.size_hooks.specs.Hooks.{armed, disarmed, hook_of}
-use Rattle.traversal.proofs.ReportedLaws.{Apart, apart_rows}
+use Rattle.traversal.proofs.hooks.ReportedLaws.{Apart, apart_rows}
 use Rattle.traversal.specs.Frames.{differs, fired_in, fires, same_size}
 use Rattle.view_model.specs.Geometry.{Laid, rect_in, size_of_rect}
 use Rattle.view_tree.specs.Views.{IsTree, Views, geometry_of, held_of}

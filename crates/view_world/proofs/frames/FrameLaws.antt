@@ -24,8 +24,8 @@ use Rattle.seen_edits.specs.Shown.{Shows}
 use Rattle.size_hooks.specs.Hook.{Hook}
 use Rattle.touch_dispatch.specs.gesture.Kept.{Kept, gesture_of, is_open}
 use Rattle.touch_dispatch.specs.reaching.TreeEvents.{IsGestureIn}
-use Rattle.traversal.proofs.FrameLaws.{unsettled_nowhere}
-use Rattle.traversal.proofs.ShapeLaws.{bare_view, count_of-same, count_of_key-same, number_of-same, sum-same, views_of-same}
+use Rattle.traversal.proofs.frames.FrameLaws.{unsettled_nowhere}
+use Rattle.traversal.proofs.laid.ShapeLaws.{bare_view, count_of-same, count_of_key-same, number_of-same, sum-same, views_of-same}
 use Rattle.traversal.specs.Changing.{FitAll, IsFramed, SameShape}
 use Rattle.traversal.specs.Counting.{IsMeasuringCounted}
 use Rattle.traversal.specs.Frames.{Framed, after_frame as frame_of, fired_in, frame_calls as calls_of_frame}

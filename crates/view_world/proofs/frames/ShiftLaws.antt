@@ -11,7 +11,7 @@ use Rattle.geom_core.specs.declared.geometry.Size.{Size}
 use Rattle.pixel_raster.specs.Raster.{size_of}
 use Rattle.seen_edits.specs.Shown.{seen_of}
 use Rattle.touch_dispatch.proofs.steps.SceneLaws.{offset_live}
-use Rattle.traversal.proofs.ShapeLaws.{count_of_key-same, number_of-same}
+use Rattle.traversal.proofs.laid.ShapeLaws.{count_of_key-same, number_of-same}
 use Rattle.traversal.specs.Changing.{SameShape}
 use Rattle.traversal.specs.Covering.{HasShifted, IsShifted}
 use Rattle.view_model.specs.Forest.{Forest, Nothing, Branch, rows}

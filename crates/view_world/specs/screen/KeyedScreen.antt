@@ -1,6 +1,6 @@
 -- What contracts see of a screen: its tree of views, the stage of its script, its picture, its density, its resources
 -- and its gesture.
-use Rattle.std.specs.Prelude.{ℕ, Bool, if◌then◌else◌, List, [], Option, Some, None, refl}
+use Rattle.std.specs.Prelude.{ℕ, List, [], Option, Some, None, refl}
 use Rattle.std.specs.Coded.{Coded, code_by, coded×, coded_ℕ, coded_list}
 use Rattle.geom_core.specs.contracts.geometry.Rect.{the_row as rect_row}
 use Rattle.geom_core.specs.declared.color.Argb.{Argb}
@@ -93,10 +93,6 @@ stage_of NoWindow = plain.NoWindow
 stage_of NoFrame = plain.NoFrame
 stage_of Unsettled = plain.Unsettled
 stage_of Settled = plain.Settled
-
--- the stage that a frame leads to
-abbrev pub stage_after : Bool → Stage
-stage_after settled = if settled then Settled else Unsettled
 
 -- the bounds of views count only if the last frame has settled
 abbrev pub geometry_in : Stage → Views → List Laid

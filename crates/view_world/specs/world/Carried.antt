@@ -1,5 +1,5 @@
 -- How a command was carried out.
-use Rattle.std.specs.Prelude.{◌≡◌, true, ℕ, List, Result, Ok, Err}
+use Rattle.std.specs.Prelude.{◌≡◌, ◌⊎◌, true, ℕ, List, Result, Ok, Err}
 use Rattle.std.specs.Io.KnownBytes.{Appends}
 use Rattle.script_lines.specs.commands.PlainCommands.{PlainCommand}
 use Rattle.script_lines.specs.commands.PlainCommands as command
@@ -34,6 +34,14 @@ IsDone (Err fault.NoMemory) = ⊥
 IsDone (Err fault.Sink) = Unit {0}
 IsDone (Err fault.Shelf) = ⊥
 
+-- a command was carried out, or this is as it was
+abbrev pub IsDoneOrKeeps : {A : Type 0} → Result (Unit {0}) StepFault → A → A → Type 0
+IsDoneOrKeeps result old new = IsDone result ⊎ (new ≡ old)
+
+-- a command was carried out, or each of two is as it was
+abbrev pub IsDoneOrKeepsBoth : {A B : Type 0} → Result (Unit {0}) StepFault → A → A → B → B → Type 0
+IsDoneOrKeepsBoth result old new before after = IsDone result ⊎ ((new ≡ old) × (after ≡ before))
+
 -- a command that may run out of memory: a window, a resource, the views of a file, a new view, an id, a rule, a text,
 -- or a state that is made or read
 abbrev pub MayWantMemory : PlainCommand → Type 0
@@ -65,3 +73,7 @@ faults_after_line (Err (fault.Refused refusal)) faults = faults
 faults_after_line (Err fault.NoMemory) faults = faults
 faults_after_line (Err fault.Sink) faults = raised faults
 faults_after_line (Err fault.Shelf) faults = faults
+
+-- a sink's count of failed calls after a command
+abbrev pub CountsSink : {A : Type 0} → SinkState → SinkState → Result A StepFault → Type 0
+CountsSink before after result = after.faults ≡ faults_after_line result before.faults

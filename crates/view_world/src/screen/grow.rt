@@ -1,12 +1,12 @@
 //! Views that are made.
-ghost use Rattle.std.specs.Prelude.{◌≡◌, ◌≢◌, ◌<◌, ◌≤◌, ◌+◌, ℕ, [], OnErr, OnOk, Option, None, IfOk, IfSome};
+ghost use Rattle.std.specs.Prelude.{◌≡◌, ◌≢◌, ◌<◌, ◌≤◌, ◌+◌, ℕ, [], OnOk, Option, None, IfOk, IfSome};
 ghost use Rattle.std.specs.Option.{option_map};
 ghost use Rattle.inflater.specs.Answers.{IsGrown};
 ghost use Rattle.inflater.specs.Inflating.{Plan};
 ghost use Rattle.tree_edits.specs.Applied.{IsAddable};
 ghost use Rattle.tree_edits.specs.Editing.{Add};
 ghost use Rattle.view_model.specs.Forest.{Nothing};
-ghost use Rattle.view_model.specs.Numbers.{max_views, numbers_end};
+ghost use Rattle.view_model.specs.Numbers.{max_views};
 ghost use Rattle.view_tree.specs.Views.{IsLive, number_of, plain_of};
 ghost use Rattle.view_world.specs.screen.Changed.{CarriesOut};
 ghost use Rattle.world_parts.specs.Given.{IsPlace};
@@ -18,6 +18,9 @@ ghost use Rattle.world_replies.specs.Responses.{IsReportable};
 ghost use Rattle.view_world.specs.frames.Resting.{KeepsBut, KeepsEdit};
 ghost use Rattle.view_world.specs.declared.world.marks.Effect.TheVariants.{Asks};
 ghost use Rattle.view_world.specs.world.Step.{after_edit, graft_reason, grafted};
+ghost use Rattle.view_model.specs.Failing.{KeepsOnErr};
+ghost use Rattle.view_world.specs.screen.Numbering.{NumbersOne, HasNumber};
+ghost use Rattle.world_parts.specs.Faults.{HasFile};
 
 use super::Screen;
 use crate::screen::respond::respond;
@@ -42,8 +45,8 @@ impl Screen {
         requires { IsAddable self.old.views parent }
         ensures changed { CarriesOut (after_edit (world_of self.old)
             (Add (option_map (number_of self.old.views) parent) class width height)) self.new result }
-        ensures unchanged { OnErr result (self.new ≡ self.old) }
-        ensures numbers { self.new.views.next ≤ self.old.views.next + 1 }
+        ensures unchanged { KeepsOnErr result self.old self.new }
+        ensures numbers { NumbersOne self.old self.new }
         ensures keeps { OnOk result (KeepsEdit (Edit.Add parent class width height) self.old self.new) }
     {
         recall_tree(&self.tree);
@@ -74,7 +77,7 @@ impl Screen {
         place: Option<Key>,
         grown: Grown,
     ) -> Result<Response, StepFault>
-        requires numbers { self.old.views.next < numbers_end }
+        requires numbers { HasNumber self.old }
         requires live { IfSome place (λ view. IsLive self.old.views view) }
         requires root { place ≡ None → self.old.views.tree ≡ Nothing }
         requires unscrolled { AreUnscrolled (seeds_of grown.sapling.sprouts.items) }
@@ -85,12 +88,12 @@ impl Screen {
             (graft_reason (plain_of self.old.views) number self.old.views.next plan.seeds)) self.new result }
         ensures reported { IfOk result
             (λ response. IsReportable self.new.views self.new.surface self.new.reported self.new.saved response) }
-        ensures unchanged { OnErr result (self.new ≡ self.old) }
+        ensures unchanged { KeepsOnErr result self.old self.new }
         ensures numbers { self.new.views.next ≤ self.old.views.next + max_views }
         ensures keeps { OnOk result
             (KeepsBut Asks (listed (option_map (number_of self.old.views) place)) [] [] self.old self.new) }
         ensures no_sink { result ≢ Err StepFault.Sink }
-        ensures no_shelf { result ≢ Err StepFault.Shelf }
+        ensures no_shelf { HasFile result }
     {
         recall_tree(&self.tree);
         let first = self.tree.next_number();

@@ -1,13 +1,15 @@
 //! Lines that arm hooks.
-ghost use Rattle.std.specs.Prelude.{◌≡◌, ◌≢◌, [], Err, OnErr, OnOk};
+ghost use Rattle.std.specs.Prelude.{[], Err, OnOk};
 ghost use Rattle.script_lines.specs.commands.PlainCommands.{Hook};
 ghost use Rattle.script_lines.specs.reading.Hooks.{edits_written};
-ghost use Rattle.view_tree.specs.Views.{IsLive, number_of};
+ghost use Rattle.view_tree.specs.Views.{IsLive, number_of, KeepsNext};
 ghost use Rattle.view_world.specs.screen.Changed.{CarriesOut};
 ghost use Rattle.view_world.specs.screen.KeyedScreen.{world_of};
 ghost use Rattle.view_world.specs.frames.Resting.{KeepsBut, KeepsLine};
 ghost use Rattle.view_world.specs.world.Step.{hooked, step};
 ghost use Rattle.view_world.specs.declared.world.marks.Effect.TheVariants.{Leaves};
+ghost use Rattle.view_model.specs.Failing.{KeepsOnErr};
+ghost use Rattle.world_parts.specs.Faults.{HasMemory};
 
 use super::Screen;
 use crate::hooking::{may_change_all, numbered_edits, size_at};
@@ -31,9 +33,9 @@ impl Screen {
     ) -> Result<Response, StepFault>
         ensures changed { CarriesOut
             (step [] (world_of self.old) (Hook view (edits_written edits.now) bad)) self.new result }
-        ensures unchanged { OnErr result (self.new ≡ self.old) }
-        ensures memory { result ≢ Err StepFault.NoMemory }
-        ensures numbers { self.new.views.next ≡ self.old.views.next }
+        ensures unchanged { KeepsOnErr result self.old self.new }
+        ensures memory { HasMemory result }
+        ensures numbers { KeepsNext self.old.views self.new.views }
         ensures keeps { OnOk result (KeepsLine (Hook view (edits_written edits.now) bad) self.old self.new) }
     {
         let view = resolve(&self.tree, view)?;
@@ -59,9 +61,9 @@ impl Screen {
         requires { IsLive self.old.views view }
         ensures changed { CarriesOut
             (hooked (world_of self.old) (number_of self.old.views view) edits.now.items) self.new result }
-        ensures unchanged { OnErr result (self.new ≡ self.old) }
-        ensures memory { result ≢ Err StepFault.NoMemory }
-        ensures numbers { self.new.views.next ≡ self.old.views.next }
+        ensures unchanged { KeepsOnErr result self.old self.new }
+        ensures memory { HasMemory result }
+        ensures numbers { KeepsNext self.old.views self.new.views }
         ensures keeps { OnOk result (KeepsBut Leaves [] [] [] self.old self.new) }
     {
         recall_tree(&self.tree);

@@ -1,15 +1,17 @@
 //! Views that go away, from the tree or out of sight.
-ghost use Rattle.std.specs.Prelude.{◌≡◌, ◌≢◌, OnErr, OnOk, true};
+ghost use Rattle.std.specs.Prelude.{◌≡◌, OnOk, true};
 ghost use Rattle.touch_dispatch.specs.reaching.TreeEvents.{OnlyScrolls};
 ghost use Rattle.tree_edits.specs.Applied.{IsVerb};
 ghost use Rattle.tree_edits.specs.Editing.{hides};
-ghost use Rattle.view_tree.specs.Views.{IsLive, IsTree, SameTree, facts_of, number_of, plain_of};
+ghost use Rattle.view_tree.specs.Views.{IsLive, IsTree, SameTree, facts_of, number_of, plain_of, KeepsNext};
 ghost use Rattle.view_world.specs.screen.Changed.{CarriesOut};
 ghost use Rattle.view_world.specs.screen.KeyedScreen.{world_of};
 ghost use Rattle.world_replies.specs.Responses.{deliveries_only};
 ghost use Rattle.view_world.specs.frames.Resting.{KeepsEdit};
 ghost use Rattle.view_world.specs.world.Step.{acted, removed};
 ghost use Rattle.world_parts.specs.Touching.{after_progress, leaving, is_reported, parent_of};
+ghost use Rattle.view_model.specs.Failing.{KeepsOnErr};
+ghost use Rattle.world_parts.specs.Faults.{HasMemory};
 
 use super::Screen;
 use seen_edits::{change, take};
@@ -26,9 +28,9 @@ impl Screen {
     pub(super) fn take_away(&mut self, alloc: Global, view: Key) -> Result<Response, StepFault>
         requires live { IsLive self.old.views view }
         ensures changed { CarriesOut (removed (world_of self.old) (number_of self.old.views view)) self.new result }
-        ensures unchanged { OnErr result (self.new ≡ self.old) }
-        ensures memory { result ≢ Err StepFault.NoMemory }
-        ensures numbers { self.new.views.next ≡ self.old.views.next }
+        ensures unchanged { KeepsOnErr result self.old self.new }
+        ensures memory { HasMemory result }
+        ensures numbers { KeepsNext self.old.views self.new.views }
         ensures keeps { OnOk result (KeepsEdit (Edit.Remove view) self.old self.new) }
     {
         self.report_leaving(view);
@@ -49,9 +51,9 @@ impl Screen {
         requires verb { IsVerb act }
         requires hides { hides act ≡ true }
         ensures changed { CarriesOut (acted (world_of self.old) (number_of self.old.views view) act) self.new result }
-        ensures unchanged { OnErr result (self.new ≡ self.old) }
-        ensures memory { result ≢ Err StepFault.NoMemory }
-        ensures numbers { self.new.views.next ≡ self.old.views.next }
+        ensures unchanged { KeepsOnErr result self.old self.new }
+        ensures memory { HasMemory result }
+        ensures numbers { KeepsNext self.old.views self.new.views }
         ensures keeps { OnOk result (KeepsEdit (Edit.Act view act) self.old self.new) }
     {
         self.report_leaving(view);

@@ -1,11 +1,13 @@
 //! Lines that save the state of a tree, or restore one.
-ghost use Rattle.std.specs.Prelude.{◌≡◌, [], OnErr, OnOk};
+ghost use Rattle.std.specs.Prelude.{[], OnOk};
 ghost use Rattle.std.specs.Option.{option_map};
 ghost use Rattle.script_lines.specs.commands.PlainCommands.{Restore, Save};
 ghost use Rattle.view_world.specs.screen.Changed.{CarriesOut};
 ghost use Rattle.view_world.specs.screen.KeyedScreen.{world_of};
 ghost use Rattle.view_world.specs.frames.Resting.{IsIdle, KeepsLine};
 ghost use Rattle.view_world.specs.world.Step.{step};
+ghost use Rattle.view_model.specs.Failing.{KeepsOnErr};
+ghost use Rattle.view_tree.specs.Views.{KeepsNext};
 
 use super::Screen;
 use crate::saving::{bytes_of, state_of, take_up};
@@ -20,8 +22,8 @@ impl Screen {
     /// Saves the state of the tree.
     pub(super) fn save(&mut self, alloc: Global) -> Result<Response, StepFault>
         ensures changed { CarriesOut (step [] (world_of self.old) Save) self.new result }
-        ensures unchanged { OnErr result (self.new ≡ self.old) }
-        ensures numbers { self.new.views.next ≡ self.old.views.next }
+        ensures unchanged { KeepsOnErr result self.old self.new }
+        ensures numbers { KeepsNext self.old.views self.new.views }
         ensures keeps { OnOk result (IsIdle self.old self.new) }
     {
         if self.tree.root().is_none() {
@@ -42,8 +44,8 @@ impl Screen {
     ) -> Result<Response, StepFault>
         ensures changed { CarriesOut
             (step [] (world_of self.old) (Restore (option_map (λ text. text.now) text.entry))) self.new result }
-        ensures unchanged { OnErr result (self.new ≡ self.old) }
-        ensures numbers { self.new.views.next ≡ self.old.views.next }
+        ensures unchanged { KeepsOnErr result self.old self.new }
+        ensures numbers { KeepsNext self.old.views self.new.views }
         ensures keeps { OnOk result (KeepsLine (Restore (option_map (λ text. text.now) text.entry)) self.old self.new) }
     {
         if self.tree.root().is_none() {

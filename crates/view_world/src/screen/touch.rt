@@ -1,5 +1,5 @@
 //! Lines that touch views.
-ghost use Rattle.std.specs.Prelude.{◌≡◌, ◌≢◌, ◌<◌, [], Err, Ok, OnErr, OnOk};
+ghost use Rattle.std.specs.Prelude.{◌≡◌, ◌<◌, [], Err, Ok, OnOk};
 ghost use Rattle.script_lines.specs.commands.PlainCommands.{Cancel, Disallow, Down, Move, Up};
 ghost use Rattle.touch_event.specs.Numbers.{max_pointers};
 ghost use Rattle.view_world.specs.screen.Changed.{CarriesOut, IsTouchable};
@@ -10,6 +10,10 @@ ghost use Rattle.view_world.specs.world.Step.{after_event, step};
 ghost use Rattle.view_world.specs.frames.Seen.{deliveries_of, scrolled_in};
 ghost use Rattle.view_world.specs.declared.world.marks.Effect.TheVariants.{Touches};
 ghost use Rattle.view_world.specs.declared.screen.stage.Stage.TheVariants.{Settled};
+ghost use Rattle.view_model.specs.Failing.{KeepsOnErr};
+ghost use Rattle.world_parts.specs.Faults.{HasMemory};
+ghost use Rattle.view_tree.specs.Views.{KeepsNext};
+ghost use Rattle.touch_event.specs.Touches.{IsPointer};
 
 use super::Screen;
 use crate::screen::stage::Stage;
@@ -31,9 +35,9 @@ impl Screen {
     pub(super) fn down(&mut self, id: u8, x: i32, y: i32) -> Result<Response, StepFault>
         requires id { id < max_pointers }
         ensures changed { CarriesOut (step [] (world_of self.old) (Down id x y)) self.new result }
-        ensures unchanged { OnErr result (self.new ≡ self.old) }
-        ensures memory { result ≢ Err StepFault.NoMemory }
-        ensures numbers { self.new.views.next ≡ self.old.views.next }
+        ensures unchanged { KeepsOnErr result self.old self.new }
+        ensures memory { HasMemory result }
+        ensures numbers { KeepsNext self.old.views self.new.views }
         ensures keeps { OnOk result (KeepsLine (Down id x y) self.old self.new) }
     {
         self.touchable()?;
@@ -50,9 +54,9 @@ impl Screen {
     pub(super) fn drag(&mut self, id: u8, x: i32, y: i32) -> Result<Response, StepFault>
         requires id { id < max_pointers }
         ensures changed { CarriesOut (step [] (world_of self.old) (Move id x y)) self.new result }
-        ensures unchanged { OnErr result (self.new ≡ self.old) }
-        ensures memory { result ≢ Err StepFault.NoMemory }
-        ensures numbers { self.new.views.next ≡ self.old.views.next }
+        ensures unchanged { KeepsOnErr result self.old self.new }
+        ensures memory { HasMemory result }
+        ensures numbers { KeepsNext self.old.views self.new.views }
         ensures keeps { OnOk result (KeepsLine (Move id x y) self.old self.new) }
     {
         self.touchable()?;
@@ -68,9 +72,9 @@ impl Screen {
     pub(super) fn up(&mut self, id: u8) -> Result<Response, StepFault>
         requires id { id < max_pointers }
         ensures changed { CarriesOut (step [] (world_of self.old) (Up id)) self.new result }
-        ensures unchanged { OnErr result (self.new ≡ self.old) }
-        ensures memory { result ≢ Err StepFault.NoMemory }
-        ensures numbers { self.new.views.next ≡ self.old.views.next }
+        ensures unchanged { KeepsOnErr result self.old self.new }
+        ensures memory { HasMemory result }
+        ensures numbers { KeepsNext self.old.views self.new.views }
         ensures keeps { OnOk result (KeepsLine (Up id) self.old self.new) }
     {
         self.touchable()?;
@@ -87,9 +91,9 @@ impl Screen {
     #[inline(never)]
     pub(super) fn cancel(&mut self) -> Result<Response, StepFault>
         ensures changed { CarriesOut (step [] (world_of self.old) Cancel) self.new result }
-        ensures unchanged { OnErr result (self.new ≡ self.old) }
-        ensures memory { result ≢ Err StepFault.NoMemory }
-        ensures numbers { self.new.views.next ≡ self.old.views.next }
+        ensures unchanged { KeepsOnErr result self.old self.new }
+        ensures memory { HasMemory result }
+        ensures numbers { KeepsNext self.old.views self.new.views }
         ensures keeps { OnOk result (KeepsLine Cancel self.old self.new) }
     {
         self.touchable()?;
@@ -122,10 +126,10 @@ impl Screen {
     /// Sends an event to the root. These pointers are down then.
     fn hand(&mut self, event: &Event, pointers: &[Point]) -> Response
         requires settled { self.old.stage ≡ Settled }
-        requires pointer { event.now.pointer < max_pointers }
+        requires pointer { IsPointer event.now.pointer }
         requires down { AreDown pointers.now }
         ensures changed { CarriesOut (after_event (world_of self.old) event.now pointers.now) self.new (Ok result) }
-        ensures numbers { self.new.views.next ≡ self.old.views.next }
+        ensures numbers { KeepsNext self.old.views self.new.views }
         ensures keeps { KeepsBut Touches [] []
             (scrolled_in (deliveries_of (world_of self.old) event.now)) self.old self.new }
     {
@@ -145,9 +149,9 @@ impl Screen {
     /// Sets whether a group and its ancestors may not take events away from their children.
     pub(super) fn disallow(&mut self, view: Name, on: bool) -> Result<Response, StepFault>
         ensures changed { CarriesOut (step [] (world_of self.old) (Disallow view on)) self.new result }
-        ensures unchanged { OnErr result (self.new ≡ self.old) }
-        ensures memory { result ≢ Err StepFault.NoMemory }
-        ensures numbers { self.new.views.next ≡ self.old.views.next }
+        ensures unchanged { KeepsOnErr result self.old self.new }
+        ensures memory { HasMemory result }
+        ensures numbers { KeepsNext self.old.views self.new.views }
         ensures keeps { OnOk result (IsIdle self.old self.new) }
     {
         let view = resolve(&self.tree, view)?;

@@ -13,13 +13,14 @@ use Rattle.view_world.specs.frames.Watched.{IsWorth}
 use Rattle.world_parts.specs.Shelves.{layout_fetch}
 use Rattle.world_parts.specs.World.{empty_world}
 use Rattle.whole_tool.specs.Carried.{Alone, Stacked}
-use Rattle.whole_tool.specs.Dump.{dump_page, refuses_file}
+use Rattle.tool_replies.specs.Dump.{dump_page, refuses_file}
 use Rattle.whole_tool.specs.Focus.{AsksWith, IsFocusOf, focus_page, refuses_focus}
 use Rattle.whole_tool.specs.Gen.{gen_page}
-use Rattle.whole_tool.specs.Lookup.{lookup_page, refuses_table, table_fetch}
+use Rattle.tool_replies.specs.Lookup.{lookup_page, refuses_table, table_fetch}
 use Rattle.whole_tool.specs.Promises.{FetchesFiles, CountsWork, HasStatus, LeavesAlone, LeavesRest, ReportsFailures, ReportsRefusals, Stops, WritesPages, failures}
 use Rattle.whole_tool.specs.Tally.{costs_of_script, costs_of_stack}
-use Rattle.whole_tool.specs.Tool.{IsOneOf, IsRunOf, RunsWith, Writes, given, IsComplete, IsDumpOf, IsLookupOf, IsStackOf}
+use Rattle.tool_replies.specs.Endings.{IsOneOf, Writes, IsComplete}
+use Rattle.whole_tool.specs.Tool.{IsRunOf, RunsWith, given, IsDumpOf, IsLookupOf, IsStackOf}
 use Rattle.whole_tool.specs.Transcript.{max_script, carried_lines, cut_transcript, has_refusal, refuses_in_stack, stack_page}
 use Rattle.whole_tool.specs.Usage.{Usage, Run, Stack, Dump, Gen, Lookup, Focus, Unknown}
 use Rattle.whole_tool.specs.Works.{WorksPart, trace, fetches_from}

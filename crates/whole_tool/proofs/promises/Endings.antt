@@ -2,8 +2,9 @@
 use Rattle.std.proofs.Common.{◌≡◌, ℕ, ◌-◌, ◌^◌, ◌≤◌, ap, refl, arith, inl, inr, List, [], ◌∷◌, min}
 use Rattle.std.specs.Prelude.{◌⊎◌, Some}
 use Rattle.tool_io.specs.Fetched.{Files}
-use Rattle.whole_tool.specs.Tool.{Given, IsOneOf, IsComplete}
-use Rattle.whole_tool.proofs.ToolLaws.{not_status}
+use Rattle.whole_tool.specs.Tool.{Given}
+use Rattle.tool_replies.specs.Endings.{IsOneOf, IsComplete}
+use Rattle.tool_replies.proofs.EndingLaws.{not_status}
 use Rattle.view_model.specs.declared.work.Work.{Work}
 use Rattle.std.proofs.lemmas.Bool.Decides.{nat_tests}
 

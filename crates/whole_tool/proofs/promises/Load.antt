@@ -9,15 +9,16 @@ use Rattle.tool_io.specs.Fetched.{Files}
 use Rattle.tool_io.specs.Fetches.{Fetches}
 use Rattle.tool_io.specs.SinkState.{SinkState}
 use Rattle.view_world.specs.frames.Watched.{IsWorth}
-use Rattle.whole_tool.specs.Dump.{Dumps}
+use Rattle.tool_replies.specs.Dump.{Dumps}
 use Rattle.whole_tool.specs.Gen.{gen_page}
 use Rattle.whole_tool.specs.Promises.{FetchesFiles, CountsWork, Failures, HasStatus, LeavesAlone, LeavesRest, ReportsFailures, ReportsRefusals, Stops, WritesPages}
 use Rattle.whole_tool.specs.Tally.{costs_of_script}
-use Rattle.whole_tool.specs.Tool.{Given, IsOneOf}
+use Rattle.whole_tool.specs.Tool.{Given}
+use Rattle.tool_replies.specs.Endings.{IsOneOf}
 use Rattle.whole_tool.specs.Usage.{Usage, Gen}
 use Rattle.whole_tool.specs.Works.{Trace, WorksPart}
-use Rattle.whole_tool.proofs.StackPageLaws.{page_isolated}
-use Rattle.whole_tool.proofs.ToolLaws.{not_status, other_status}
+use Rattle.whole_tool.proofs.stacks.StackPageLaws.{page_isolated}
+use Rattle.tool_replies.proofs.EndingLaws.{not_status, other_status}
 use Rattle.whole_tool.proofs.promises.Endings.{load_accepts, load_ends}
 
 pub load_pages : {call : Given} {size : ℕ} {old new : SinkState} {status : ℕ} → call.usage ≡ Gen size → Dumps (gen_page size) false old new status → WritesPages call old.gone new.gone status

@@ -6,14 +6,15 @@ use Rattle.tool_io.specs.Counts.{raised}
 use Rattle.tool_io.specs.Fetched.{Files}
 use Rattle.tool_io.specs.Fetches.{Fetches, with_fetch}
 use Rattle.tool_io.specs.SinkState.{SinkState}
-use Rattle.whole_tool.specs.Dump.{Dumps}
-use Rattle.whole_tool.specs.Lookup.{lookup_page, refuses_table, table_fetch}
+use Rattle.tool_replies.specs.Dump.{Dumps}
+use Rattle.tool_replies.specs.Lookup.{lookup_page, refuses_table, table_fetch}
 use Rattle.whole_tool.specs.Promises.{FetchesFiles, CountsWork, Failures, HasStatus, LeavesAlone, LeavesRest, ReportsFailures, ReportsRefusals, Stops, WritesPages}
-use Rattle.whole_tool.specs.Tool.{Given, IsOneOf}
+use Rattle.whole_tool.specs.Tool.{Given}
+use Rattle.tool_replies.specs.Endings.{IsOneOf}
 use Rattle.whole_tool.specs.Usage.{Usage, Lookup}
 use Rattle.whole_tool.specs.Works.{Trace}
-use Rattle.whole_tool.proofs.StackPageLaws.{page_isolated}
-use Rattle.whole_tool.proofs.ToolLaws.{not_status, other_status}
+use Rattle.whole_tool.proofs.stacks.StackPageLaws.{page_isolated}
+use Rattle.tool_replies.proofs.EndingLaws.{not_status, other_status}
 use Rattle.whole_tool.proofs.promises.Endings.{file_ends, same_measured, same_painted}
 
 pub lookup_pages : {call : Given} {name ids : List ℕ} {old new : SinkState} {status : ℕ} → call.usage ≡ Lookup name ids → ((files : Files) → call.held ≡ Some files → Dumps (lookup_page files name ids) (refuses_table files name) old new status)

@@ -7,7 +7,7 @@ use Rattle.whole_tool.specs.Promises.{FetchesFiles, CountsWork, Failures, HasSta
 use Rattle.whole_tool.specs.Tool.{Given}
 use Rattle.whole_tool.specs.Usage.{Usage, Unknown}
 use Rattle.whole_tool.specs.Works.{Trace}
-use Rattle.whole_tool.proofs.StackPageLaws.{page_isolated}
+use Rattle.whole_tool.proofs.stacks.StackPageLaws.{page_isolated}
 use Rattle.whole_tool.proofs.promises.Endings.{same_measured, same_painted}
 
 pub none_pages : {call : Given} {old new : Option (List ℕ)} {status : ℕ} → call.usage ≡ Unknown → WritesPages call old new status

@@ -7,13 +7,14 @@ use Rattle.tool_io.specs.Fetched.{Files}
 use Rattle.tool_io.specs.Fetches.{Fetches, with_fetch}
 use Rattle.tool_io.specs.SinkState.{SinkState}
 use Rattle.world_parts.specs.Shelves.{layout_fetch}
-use Rattle.whole_tool.specs.Dump.{Dumps, dump_page, refuses_file}
+use Rattle.tool_replies.specs.Dump.{Dumps, dump_page, refuses_file}
 use Rattle.whole_tool.specs.Promises.{FetchesFiles, CountsWork, Failures, HasStatus, LeavesAlone, LeavesRest, ReportsFailures, ReportsRefusals, Stops, WritesPages}
-use Rattle.whole_tool.specs.Tool.{Given, IsOneOf}
+use Rattle.whole_tool.specs.Tool.{Given}
+use Rattle.tool_replies.specs.Endings.{IsOneOf}
 use Rattle.whole_tool.specs.Usage.{Usage, Dump}
 use Rattle.whole_tool.specs.Works.{Trace}
-use Rattle.whole_tool.proofs.StackPageLaws.{page_isolated}
-use Rattle.whole_tool.proofs.ToolLaws.{not_status, other_status}
+use Rattle.whole_tool.proofs.stacks.StackPageLaws.{page_isolated}
+use Rattle.tool_replies.proofs.EndingLaws.{not_status, other_status}
 use Rattle.whole_tool.proofs.promises.Endings.{file_ends, same_measured, same_painted}
 
 pub dump_pages : {call : Given} {name : List ℕ} {old new : SinkState} {status : ℕ} → call.usage ≡ Dump name → ((files : Files) → call.held ≡ Some files → Dumps (dump_page files name) (refuses_file files name) old new status)

@@ -5,12 +5,13 @@ use Rattle.tool_io.specs.Fetches.{Fetches}
 use Rattle.whole_tool.specs.Focus.{AsksWith}
 use Rattle.whole_tool.specs.Outside.{EndsWith, Surroundings}
 use Rattle.whole_tool.specs.Promises.{FetchesFiles, CountsWork, HasStatus, LeavesAlone, LeavesRest, ReportsFailures, ReportsRefusals, Stops, WritesPages, failures}
-use Rattle.whole_tool.specs.Tool.{Given, IsOneOf, given}
+use Rattle.whole_tool.specs.Tool.{Given, given}
+use Rattle.tool_replies.specs.Endings.{IsOneOf}
 use Rattle.whole_tool.specs.Usage.{Usage, Focus}
 use Rattle.whole_tool.specs.Works.{Trace}
 use Rattle.whole_tool.specs.declared.focusing.Question.{Question}
-use Rattle.whole_tool.proofs.StackPageLaws.{page_isolated}
-use Rattle.whole_tool.proofs.ToolLaws.{not_status}
+use Rattle.whole_tool.proofs.stacks.StackPageLaws.{page_isolated}
+use Rattle.tool_replies.proofs.EndingLaws.{not_status}
 use Rattle.whole_tool.proofs.promises.Endings.{OnScript}
 
 pub focus_pages : {call : Given} {question : Question} {left : Option (List ℕ)} {first last : Trace} {status : ℕ} → call.usage ≡ Focus question → OnScript call (λ files script. AsksWith files script question left first last status)

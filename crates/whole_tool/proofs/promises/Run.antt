@@ -8,14 +8,15 @@ use Rattle.world_parts.specs.World.{empty_world}
 use Rattle.whole_tool.specs.Carried.{Alone}
 use Rattle.whole_tool.specs.Outside.{EndsWith, Surroundings}
 use Rattle.whole_tool.specs.Promises.{FetchesFiles, CountsWork, HasStatus, LeavesAlone, LeavesRest, ReportsFailures, ReportsRefusals, Stops, WritesPages, failures}
-use Rattle.whole_tool.specs.Tool.{Given, IsOneOf, IsRunOf, RunsWith, Writes, given}
+use Rattle.whole_tool.specs.Tool.{Given, IsRunOf, RunsWith, given}
+use Rattle.tool_replies.specs.Endings.{IsOneOf, Writes}
 use Rattle.whole_tool.specs.Transcript.{after_lines, max_script, transcript}
 use Rattle.whole_tool.specs.Usage.{Usage, Run}
 use Rattle.whole_tool.specs.Works.{Trace}
 use Rattle.whole_tool.specs.WorksWith.{WorksWithFrom}
-use Rattle.whole_tool.proofs.LongScriptLaws.{carried_long, carried_short}
-use Rattle.whole_tool.proofs.StackPageLaws.{page_isolated}
-use Rattle.whole_tool.proofs.ToolLaws.{not_status}
+use Rattle.whole_tool.proofs.lines.LongScriptLaws.{carried_long, carried_short}
+use Rattle.whole_tool.proofs.stacks.StackPageLaws.{page_isolated}
+use Rattle.tool_replies.proofs.EndingLaws.{not_status}
 use Rattle.whole_tool.proofs.promises.Endings.{OnScript}
 
 pub run_headline : {call : Given} {left old new : Option (List ℕ)} {status : ℕ} → OnScript call (λ files script. RunsWith (Alone empty_world) files script left old new status)

@@ -6,14 +6,15 @@ use Rattle.stack_worlds.specs.PlainStack.{empty_stack}
 use Rattle.whole_tool.specs.Carried.{Stacked}
 use Rattle.whole_tool.specs.Outside.{EndsWith, Surroundings}
 use Rattle.whole_tool.specs.Promises.{FetchesFiles, CountsWork, HasStatus, LeavesAlone, LeavesRest, ReportsFailures, ReportsRefusals, Stops, WritesPages, failures}
-use Rattle.whole_tool.specs.Tool.{Given, IsOneOf, RunsWith, Writes, given}
+use Rattle.whole_tool.specs.Tool.{Given, RunsWith, given}
+use Rattle.tool_replies.specs.Endings.{IsOneOf, Writes}
 use Rattle.whole_tool.specs.Transcript.{after_from}
 use Rattle.whole_tool.specs.Usage.{Usage, Stack}
 use Rattle.whole_tool.specs.Works.{Trace}
 use Rattle.whole_tool.specs.WorksWith.{WorksWithFrom}
-use Rattle.whole_tool.proofs.LongScriptLaws.{carried_short}
-use Rattle.whole_tool.proofs.StackPageLaws.{page_isolated}
-use Rattle.whole_tool.proofs.ToolLaws.{not_status}
+use Rattle.whole_tool.proofs.lines.LongScriptLaws.{carried_short}
+use Rattle.whole_tool.proofs.stacks.StackPageLaws.{page_isolated}
+use Rattle.tool_replies.proofs.EndingLaws.{not_status}
 use Rattle.whole_tool.proofs.promises.Endings.{OnScript}
 
 pub stack_pages : {call : Given} {left old new : Option (List ℕ)} {status : ℕ} → call.usage ≡ Stack → OnScript call (λ files script. RunsWith (Stacked empty_stack) files script left old new status)

@@ -2,7 +2,7 @@
 use Rattle.std.proofs.Common.{◌≡◌, ℕ, ◌<◌, Bool, true, false, Option, Some, None, refl, sym, ◌∙◌, ap, subst, arith}
 use Rattle.std.specs.Prelude.{IfSome, if◌then◌else◌}
 use Rattle.std.specs.Option.{option_map}
-use Rattle.kept_views.proofs.GraftedKept.{grafted_kept, grafted_live, grafted_root, grafted_unasked}
+use Rattle.kept_views.proofs.grown.GraftedKept.{grafted_kept, grafted_live, grafted_root, grafted_unasked}
 use mathlib.Core.Path.{fun_ext}
 use Rattle.kept_views.specs.Kept.{IsConsistent, IsKept}
 use Rattle.kept_views.specs.Pressing.{path_of}

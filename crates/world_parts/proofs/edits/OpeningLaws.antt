@@ -4,7 +4,7 @@ use Rattle.std.specs.Prelude.{◌==◌, ◌||◌, Result, Ok, Err, OnOk}
 use Rattle.std.specs.Result.{is_err}
 use Rattle.std.proofs.lemmas.Bool.{cases_eq, eq-eqb, ne_eqb}
 use Rattle.touch_dispatch.specs.gesture.Kept.{IsUnknown, Kept, gesture_of, is_open, with_place}
-use Rattle.touch_targets.proofs.SeatOrder.{opened_with, targets_with}
+use Rattle.touch_targets.proofs.pools.SeatOrder.{opened_with, targets_with}
 use Rattle.touch_targets.specs.Seats.{is_open as has_seat}
 use Rattle.world_parts.specs.Places.{AreOpened, with_places}
 

@@ -1,6 +1,6 @@
 use Rattle.std.proofs.Common.{ℕ, Bool, ap, sym, ◌∙◌, length, refl, subst}
 use Rattle.measure_pass.specs.Siblings.{IsKidAt, kids_in}
-use Rattle.measure_pass.proofs.AnchorKeys.{facts_at, some_kids, walk_found, walk_none, walk_on, walk_start}
+use Rattle.measure_pass.proofs.relatives.AnchorKeys.{facts_at, some_kids, walk_found, walk_none, walk_on, walk_start}
 use Rattle.view_model.specs.Facts.{is_shown}
 use Rattle.view_model.specs.RelativeCourse.{child_at, links_of}
 use Rattle.view_model.specs.SiblingRules.{anchor_of, named_sibling}

@@ -1,5 +1,5 @@
 use Rattle.std.proofs.Common.{ap, ◌∙◌}
-use Rattle.measure_pass.proofs.AnchorKeys.{unnamed}
+use Rattle.measure_pass.proofs.relatives.AnchorKeys.{unnamed}
 use Rattle.view_model.specs.declared.facts.Facts.{Facts}
 use Rattle.view_model.specs.SiblingRules.{anchor_id}
 use Rattle.view_tree.specs.Rows.{children_of_first, part_from}

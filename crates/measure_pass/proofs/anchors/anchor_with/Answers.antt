@@ -1,6 +1,6 @@
 use Rattle.std.proofs.Common.{ap, sym, ◌∙◌}
 use Rattle.std.specs.Prelude.{ℤ}
-use Rattle.measure_pass.proofs.AnchorKeys.{margins_of, margins_same, span_at_key}
+use Rattle.measure_pass.proofs.relatives.AnchorKeys.{margins_of, margins_same, span_at_key}
 use Rattle.view_model.specs.declared.relative.Anchor.{Anchor}
 use Rattle.view_tree.specs.Views.{facts_of, held_of}
 use Rattle.measure_pass.proofs.anchors.anchor_with.Goals as goal

@@ -1,4 +1,4 @@
-use Rattle.measure_pass.proofs.AnchorKeys.{anchor_none, anchor_some}
+use Rattle.measure_pass.proofs.relatives.AnchorKeys.{anchor_none, anchor_some}
 use Rattle.view_tree.specs.Rows.{children_of_first, part_from}
 use Rattle.view_tree.specs.Views.{held_of}
 use Rattle.measure_pass.proofs.anchors.named_anchor.Goals as goal

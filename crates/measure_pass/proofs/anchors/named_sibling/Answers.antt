@@ -1,6 +1,6 @@
 use Rattle.std.proofs.Common.{Some, None, ap, sym, ◌∙◌, subst}
 use Rattle.measure_pass.specs.Siblings.{IsKidAt, kids_in}
-use Rattle.measure_pass.proofs.AnchorKeys.{named_by, named_none, named_other, named_self}
+use Rattle.measure_pass.proofs.relatives.AnchorKeys.{named_by, named_none, named_other, named_self}
 use Rattle.view_model.specs.SiblingRules.{anchor_id, last_with_id, no_link}
 use Rattle.view_model.specs.RelativeCourse.{links_of}
 use Rattle.view_tree.specs.Rows.{children_of_first, part_from}

@@ -1,6 +1,6 @@
 use Rattle.std.proofs.Common.{ℕ, ◌-◌, Bool, ap, sym, ◌∙◌, arith}
 use Rattle.measure_pass.specs.Siblings.{kids_in}
-use Rattle.measure_pass.proofs.AnchorKeys.{facts_at, walk_end, walk_found, walk_none, walk_on, walk_past}
+use Rattle.measure_pass.proofs.relatives.AnchorKeys.{facts_at, walk_end, walk_found, walk_none, walk_on, walk_past}
 use Rattle.view_model.specs.Facts.{is_shown}
 use Rattle.view_model.specs.RelativeCourse.{child_at, links_of}
 use Rattle.view_model.specs.SiblingRules.{named_sibling}

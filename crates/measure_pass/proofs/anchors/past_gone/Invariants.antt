@@ -1,6 +1,6 @@
 use Rattle.std.proofs.Common.{◌≡◌, ◌<◌, ℕ}
 use Rattle.measure_pass.specs.Siblings.{kids_in}
-use Rattle.measure_pass.proofs.AnchorKeys.{AnchorWalk}
+use Rattle.measure_pass.proofs.relatives.AnchorKeys.{AnchorWalk}
 use Rattle.view_model.specs.Facts.{is_shown}
 use Rattle.view_model.specs.RelativeCourse.{child_at, links_of}
 use Rattle.view_model.specs.SiblingRules.{named_sibling}

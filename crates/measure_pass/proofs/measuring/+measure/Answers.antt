@@ -1,4 +1,4 @@
-use Rattle.std.proofs.Common.{◌≡◌, ◌≤◌, ◌<◌, ℕ, [], ◌∷◌, length, get_or, false, Some, subst, ap, sym, ◌∙◌, refl, arith, inl, rules, FitsSigned, w64}
+use Rattle.std.proofs.Common.{◌≡◌, ◌≢◌, ◌≤◌, ◌<◌, ℕ, [], ◌∷◌, length, get_or, false, Some, subst, ap, sym, ◌∙◌, refl, arith, inl, rules, FitsSigned, w64}
 use Rattle.std.proofs.lemmas.Int.{to_z-of_z}
 use Rattle.std.specs.Prelude.{pos, slice_index, take}
 use Rattle.measure_cache.specs.Entries.{found, put_in}
@@ -11,33 +11,35 @@ use Rattle.scroll_view.specs.ScrollPlan.{RepresentsScroll}
 use Rattle.scroll_view.specs.declared.plan.ScrollPlan.{ScrollPlan}
 use Rattle.measure_pass.specs.Plans.{Frame, IsLeaf, IsPlanOf, Linear, Scroll}
 use Rattle.measure_pass.specs.Siblings.{AfterTurns, FirstHasSize, FirstIsKnown, IsSettled, TurnIsOver, kids_in, order_on, phase_of}
-use Rattle.measure_pass.proofs.AtPlace.{Ready-place}
-use Rattle.measure_pass.proofs.Calm.{Ready-below}
+use Rattle.measure_pass.proofs.walks.AtPlace.{Ready-place}
+use Rattle.measure_pass.proofs.held.Calm.{Ready-below}
 use Rattle.measure_pass.proofs.Counts.{costs_twice, counted_fewer, counted_none, counted_one, counted_own, counted_self, counted_then}
-use Rattle.measure_pass.proofs.Edged.{costs-edged, grown-edged, ready-edged}
-use Rattle.measure_pass.proofs.LeftPhase.{all_left}
-use Rattle.measure_pass.proofs.MeasureKid.{measured_leaf, measured_planned}
-use Rattle.measure_pass.proofs.Own.{Own, current-is, hit_at, keeps_by, keeps_trans, measured_at, new_at, own_absent, sides_at, skip_at}
+use Rattle.measure_pass.proofs.relatives.Edged.{costs-edged, trace-edged, ready-edged}
+use Rattle.measure_pass.proofs.walks.LeftPhase.{all_left}
+use Rattle.measure_pass.proofs.walks.MeasureKid.{measured_leaf, measured_planned}
+use Rattle.measure_pass.proofs.held.Own.{Own, current-is, hit_at, keeps_by, keeps_trans, measured_at, new_at, own_absent, sides_at, skip_at}
 use Rattle.kept_views.specs.Laying.{Wrote}
-use Rattle.measure_pass.proofs.Parts.{facts_in}
-use Rattle.measure_pass.proofs.Places.{count_in_list, sizes_on}
-use Rattle.measure_pass.proofs.SettledLaws.{caches_both, settled_at, size_as}
-use Rattle.measure_pass.proofs.SiblingTurns.{edges_known, known_then, not_in, once_below, order_length, orders_as, orders_same, size_kept, turn_fixed, turn_gone, turn_taken, turning_end, turning_on, turning_start}
+use Rattle.measure_pass.proofs.held.Parts.{facts_in}
+use Rattle.measure_pass.proofs.walks.Places.{count_in_list, sizes_on}
+use Rattle.measure_pass.proofs.relatives.SettledLaws.{trace_both, settled_at, size_as}
+use Rattle.measure_pass.proofs.relatives.SiblingTurns.{edges_known, known_then, not_in, once_below, order_length, orders_as, orders_same, size_kept, turn_fixed, turn_gone, turn_taken, turning_end, turning_on, turning_start}
 use Rattle.relative_layout.specs.plan.RelativePlan.{spanned_in}
 use Rattle.view_model.specs.declared.relative.Axis.TheVariants.{Horizontal, Vertical}
 use Rattle.geom_core.specs.declared.geometry.Size.{Size}
 use Rattle.view_model.specs.declared.facts.Facts.{Facts}
-use Rattle.view_model.specs.declared.class.Class.TheVariants.{View, TextView, FrameLayout, LinearLayout, ScrollView}
+use Rattle.view_model.proofs.ClassLaws.{manner_leaf}
+use Rattle.view_model.specs.Classes.{is_group}
+use Rattle.view_model.specs.declared.class.Class.{Class}
+use Rattle.view_model.specs.declared.class.Class.TheVariants.{FrameLayout, LinearLayout, ScrollView, RelativeLayout}
 use Rattle.view_model.specs.declared.work.Work.{Work}
 use Rattle.view_model.specs.Facts.{is_shown, layout_facts}
 use Rattle.view_model.specs.Forest.{Branch, count_of}
 use Rattle.view_model.specs.Layout.{for_layout, manner_of}
-use Rattle.view_model.specs.Leaf.{view_size}
+use Rattle.view_model.specs.Leaf.{leaf_rule, leaf_size}
 use Rattle.view_model.specs.PlainTree.{PlainView}
-use Rattle.view_model.specs.TextView.{text_size}
 use Rattle.view_model.specs.RelativeCourse.{arranged}
 use Rattle.view_model.specs.RelativeLayout.{relative_size}
-use Rattle.view_model.specs.Measuring.{Specs}
+use Rattle.view_model.specs.Measuring.{ByRule, Specs}
 use Rattle.view_tree.specs.declared.node.state.State.{State}
 use Rattle.view_tree.proofs.forest.Forests.{live_below}
 use Rattle.view_tree.specs.Rows.{first_tree, children_of_first, count_of_key, head_view, part_from, siblings_from}
@@ -47,10 +49,10 @@ use Rattle.view_tree.proofs.forest.Walks.{once_from}
 use Rattle.view_model.specs.Forest.{Forest}
 use Rattle.view_tree.specs.Rows.{Row}
 use Rattle.measure_pass.specs.Measured.{KeepsRest, current, done_with, entry_for, kids_from, tree_from}
-use Rattle.measure_pass.proofs.PlanPhases.{all_at_0, all_here, all_more}
-use Rattle.measure_pass.proofs.PlanTurns.{next_gone, next_left, next_measured}
-use Rattle.measure_pass.proofs.PlanWalk.{plan_falls, plan_next, plan_on, plan_phase, plan_rest, plan_start}
-use Rattle.measure_pass.proofs.Rests.{rest_at, rest_kids, rest_measured, rest_none, same_then}
+use Rattle.measure_pass.proofs.walks.PlanPhases.{all_at_0, all_here, all_more}
+use Rattle.measure_pass.proofs.walks.PlanTurns.{next_gone, next_left, next_measured}
+use Rattle.measure_pass.proofs.walks.PlanWalk.{plan_falls, plan_next, plan_on, plan_phase, plan_rest, plan_start}
+use Rattle.measure_pass.proofs.held.Rests.{rest_at, rest_kids, rest_measured, rest_none, same_then}
 use Rattle.measure_pass.proofs.measuring.+measure.Goals as goal
 
 skipped : (t : ℕ) (c : goal.measure-After-result-1 t) → (let specs : Specs = record { across = c.args.ws; down = c.args.hs } in
@@ -86,7 +88,10 @@ pub measure-returns-then-is_current-clause-counted : goal.measure-returns-then-i
 measure-returns-then-is_current-clause-counted t c = counted_self c.args.tree.now c.args.work.now
 
 pub measure-returns-then-is_current-clause-caches : goal.measure-returns-then-is_current-clause-caches
-measure-returns-then-is_current-clause-caches t c = (own_skipped t c).caches
+measure-returns-then-is_current-clause-caches t c = (own_skipped t c).trace.caches
+
+pub measure-returns-then-is_current-clause-shares : goal.measure-returns-then-is_current-clause-shares
+measure-returns-then-is_current-clause-shares t c = (own_skipped t c).trace.shares
 
 pub measure-returns-then-is_current-clause-busy : goal.measure-returns-then-is_current-clause-busy
 measure-returns-then-is_current-clause-busy t c = λ unknown. absurd (unknown (inl (skipped t c)))
@@ -100,7 +105,7 @@ own_hit t c =
     let there : found (cache_of c.args.tree.now c.args.view) specs ≡ Some c.in-Some.size =
     ap (λ cache. found cache specs) (sym c.cache.ensures) ∙ sym c.find.ensures ∙ c.in-Some.is in
     hit_at c.args.tree.now.tree c.args.view (held_of c.args.tree.now) (held_of c.hit.new.tree) specs c.in-Some.size c.args.work.now.measured c.requires.is_tree.keys
-    r.live r.shown r.ready there (record { at = c.hit.ensures.held; others = c.hit.ensures.others })
+    r.live r.shown r.ready there (record { at = c.hit.ensures.held; others = c.hit.ensures.others }) c.requires.changed
 
 pub measure_changed-returns-in-Some-clause-size : goal.measure_changed-returns-in-Some-clause-size
 measure_changed-returns-in-Some-clause-size t c = (own_hit t c).size
@@ -127,7 +132,10 @@ pub measure_changed-returns-in-Some-clause-costs : goal.measure_changed-returns-
 measure_changed-returns-in-Some-clause-costs t c = (own_hit t c).costs
 
 pub measure_changed-returns-in-Some-clause-caches : goal.measure_changed-returns-in-Some-clause-caches
-measure_changed-returns-in-Some-clause-caches t c = (own_hit t c).caches
+measure_changed-returns-in-Some-clause-caches t c = (own_hit t c).trace.caches
+
+pub measure_changed-returns-in-Some-clause-shares : goal.measure_changed-returns-in-Some-clause-shares
+measure_changed-returns-in-Some-clause-shares t c = (own_hit t c).trace.shares
 
 pub measure_changed-returns-clause-width : goal.measure_changed-returns-clause-width
 measure_changed-returns-clause-width t c = (sides_at c.args.tree.now.tree c.args.view _ c.measure_anew.result c.requires.ready.live c.measure_anew.ensures.size).0
@@ -158,7 +166,7 @@ own_new t c =
     let held : held_of c.finish.new.tree c.args.view ≡ own total = f.held ∙ ap own (to_z-of_z w64 total fits) in
     new_at c.args.tree.now.tree c.args.view (held_of c.args.tree.now) (held_of c.measure_below-outcome.new.tree) (held_of c.finish.new.tree) specs
     c.measure_below-outcome.result.size total c.args.work.now.measured c.measure_below-outcome.new.work.measured c.finish.new.work.measured
-    k.is_tree.keys r.live r.shown r.ready k.rest.ready k.measured k.rest.keeps k.rest.others (record { at = held; others = f.others }) c.requires.miss (omega arith)
+    k.is_tree.keys r.live r.shown r.ready k.rest.ready k.measured k.rest.keeps k.rest.others (record { at = held; others = f.others }) c.requires.miss c.requires.changed (omega arith)
 
 pub measure_anew-returns-clause-measured : goal.measure_anew-returns-clause-measured
 measure_anew-returns-clause-measured t c =
@@ -179,7 +187,10 @@ pub measure_anew-returns-clause-costs : goal.measure_anew-returns-clause-costs
 measure_anew-returns-clause-costs t c = (own_new t c).costs
 
 pub measure_anew-returns-clause-caches : goal.measure_anew-returns-clause-caches
-measure_anew-returns-clause-caches t c = (own_new t c).caches
+measure_anew-returns-clause-caches t c = (own_new t c).trace.caches
+
+pub measure_anew-returns-clause-shares : goal.measure_anew-returns-clause-shares
+measure_anew-returns-clause-shares t c = (own_new t c).trace.shares
 
 pub measure_anew-returns-clause-cache : goal.measure_anew-returns-clause-cache
 measure_anew-returns-clause-cache t c =
@@ -193,33 +204,27 @@ measure_anew-returns-clause-same t c =
     same_then c.args.tree.now c.measure_below-outcome.new.tree c.finish.new.tree c.measure_below-outcome.ensures.rest.same c.finish.ensures.same
 
 -- a view without children
-plain_leaf : (view : PlainView) (specs : Specs) (size : Size) → view.class ≡ View → size ≡ view_size view.facts specs → IsLeaf view specs size
-plain_leaf view specs size is same = record { is = rw (is, same) refl; alone = rw is refl }
+no_group : (class : Class) → class ≢ FrameLayout → class ≢ LinearLayout → class ≢ ScrollView → class ≢ RelativeLayout → is_group class ≡ false
+no_group FrameLayout frame line scroll tied = absurd (frame refl)
+no_group LinearLayout frame line scroll tied = absurd (line refl)
+no_group ScrollView frame line scroll tied = absurd (scroll refl)
+no_group RelativeLayout frame line scroll tied = absurd (tied refl)
+no_group _ frame line scroll tied = refl
 
-text_leaf : (view : PlainView) (specs : Specs) (size : Size) → view.class ≡ TextView → size ≡ text_size view.facts view.text specs → IsLeaf view specs size
-text_leaf view specs size is same = record { is = rw (is, same) refl; alone = rw is refl }
+leaf_is : (view : PlainView) (specs : Specs) (size : Size) → is_group view.class ≡ false → size ≡ leaf_size view.class view specs → IsLeaf view specs size
+leaf_is view specs size alone same = record { is = manner_leaf view.class view specs alone ∙ ap (λ size. ByRule (leaf_rule size)) (sym same); alone = alone }
 
-pub measure_below-returns-in-View-clause-measured : goal.measure_below-returns-in-View-clause-measured
-measure_below-returns-in-View-clause-measured t c =
+pub measure_below-returns-in_default-clause-measured : goal.measure_below-returns-in_default-clause-measured
+measure_below-returns-in_default-clause-measured t c =
     let specs : Specs = record { across = c.args.ws; down = c.args.hs } in
-    measured_leaf c.args.tree.now c.args.view specs c.minimal_size.result (held_of c.args.tree.now) c.args.work.now.measured
-    c.facts-facts.ensures.is_tree c.requires.live
-    (plain_leaf (for_layout (head_view (part_from c.args.view c.args.tree.now.tree))) specs c.minimal_size.result
-    (sym c.class.ensures.value ∙ c.in-View.is) (c.minimal_size.ensures ∙ ap (λ (facts : Facts). view_size (layout_facts facts) specs) c.facts-facts.ensures.value))
+    let own = head_view (part_from c.args.view c.args.tree.now.tree) in
+    let d = c.in_default in
+    let alone = ap is_group (sym c.class.ensures.value) ∙ no_group c.class.result d.not-FrameLayout d.not-LinearLayout d.not-ScrollView d.not-RelativeLayout in
+    measured_leaf c.args.tree.now c.args.view specs c.leaf_size.result (held_of c.args.tree.now) c.args.work.now.measured
+    c.class.ensures.is_tree c.requires.live (leaf_is (for_layout own) specs c.leaf_size.result alone c.leaf_size.ensures)
 
-pub measure_below-returns-in-TextView-clause-measured : goal.measure_below-returns-in-TextView-clause-measured
-measure_below-returns-in-TextView-clause-measured t c =
-    let specs : Specs = record { across = c.args.ws; down = c.args.hs } in
-    measured_leaf c.args.tree.now c.args.view specs c.text_size.result (held_of c.args.tree.now) c.args.work.now.measured
-    c.facts-facts.ensures.is_tree c.requires.live
-    (text_leaf (for_layout (head_view (part_from c.args.view c.args.tree.now.tree))) specs c.text_size.result
-    (sym c.class.ensures.value ∙ c.in-TextView.is) (rw (ap layout_facts c.facts-facts.ensures.value, c.text.ensures) at c.text_size.ensures))
-
-pub measure_below-returns-in-View-clause-rest : goal.measure_below-returns-in-View-clause-rest
-measure_below-returns-in-View-clause-rest t c = rest_none c.args.tree.now (kids_from c.args.view c.args.tree.now.tree) c.args.work.now c.requires.ready
-
-pub measure_below-returns-in-TextView-clause-rest : goal.measure_below-returns-in-TextView-clause-rest
-measure_below-returns-in-TextView-clause-rest t c = rest_none c.args.tree.now (kids_from c.args.view c.args.tree.now.tree) c.args.work.now c.requires.ready
+pub measure_below-returns-in_default-clause-rest : goal.measure_below-returns-in_default-clause-rest
+measure_below-returns-in_default-clause-rest t c = rest_none c.args.tree.now (kids_from c.args.view c.args.tree.now.tree) c.args.work.now c.requires.ready
 
 is_frame : (view : PlainView) (specs : Specs) (plan : FramePlan) → view.class ≡ FrameLayout → RepresentsFrame plan view.facts specs [] [] → IsPlanOf (manner_of view specs) (Frame plan) view specs
 is_frame view specs plan is represents = rw is (refl, represents)
@@ -309,7 +314,7 @@ frame::measure_kid-returns-clause-next t c =
     next_measured (Frame c.args.plan.now) (Frame c.frame_take-2.new.plan) c.args.tree.now c.measure-size.new.tree c.args.kid (layout_facts c.facts-facts.result.now) (layout_facts c.facts.result.now)
     c.state.result.measured c.measure-size.result (record { across = c.in-Some.across; down = c.in-Some.down }) c.frame_ask.result c.args.work.now c.measure-size.new.work
     c.requires.live (sym (ap is_shown c.facts-facts.ensures.value) ∙ sym c.is_shown.ensures ∙ c.if-not-is_shown.false) (ap layout_facts c.facts-facts.ensures.value) (ap layout_facts c.facts.ensures.value)
-    (ap (λ (state : State). state.measured) c.state.ensures.value) c.in-Some.is c.frame_ask.ensures c.frame_take-2.ensures m.same m.size m.measured m.costs m.caches
+    (ap (λ (state : State). state.measured) c.state.ensures.value) c.in-Some.is c.frame_ask.ensures c.frame_take-2.ensures m.same m.size m.measured m.costs (record { caches = m.caches; shares = m.shares })
 
 pub frame::measure_kid-returns-then-not-is_shown-clause-rest : goal.frame::measure_kid-returns-then-not-is_shown-clause-rest
 frame::measure_kid-returns-then-not-is_shown-clause-rest t c = rest_none c.args.tree.now (tree_from c.args.kid c.args.tree.now.tree) c.args.work.now c.requires.ready
@@ -416,7 +421,7 @@ linear::measure_kid-returns-clause-next t c =
     next_measured (Linear c.args.plan.now) (Linear c.linear_take-2.new.plan) c.args.tree.now c.measure-size.new.tree c.args.kid (layout_facts c.facts-facts.result.now) (layout_facts c.facts.result.now)
     c.state.result.measured c.measure-size.result (record { across = c.in-Some.across; down = c.in-Some.down }) c.linear_ask.result c.args.work.now c.measure-size.new.work
     c.requires.live (sym (ap is_shown c.facts-facts.ensures.value) ∙ sym c.is_shown.ensures ∙ c.if-not-is_shown.false) (ap layout_facts c.facts-facts.ensures.value) (ap layout_facts c.facts.ensures.value)
-    (ap (λ (state : State). state.measured) c.state.ensures.value) c.in-Some.is c.linear_ask.ensures c.linear_take-2.ensures m.same m.size m.measured m.costs m.caches
+    (ap (λ (state : State). state.measured) c.state.ensures.value) c.in-Some.is c.linear_ask.ensures c.linear_take-2.ensures m.same m.size m.measured m.costs (record { caches = m.caches; shares = m.shares })
 
 pub linear::measure_kid-returns-then-not-is_shown-clause-rest : goal.linear::measure_kid-returns-then-not-is_shown-clause-rest
 linear::measure_kid-returns-then-not-is_shown-clause-rest t c = rest_none c.args.tree.now (tree_from c.args.kid c.args.tree.now.tree) c.args.work.now c.requires.ready
@@ -517,7 +522,7 @@ scroll::measure_kid-returns-clause-next t c =
     next_measured (Scroll c.args.plan.now) (Scroll c.scroll_take-2.new.plan) c.args.tree.now c.measure-size.new.tree c.args.kid (layout_facts c.facts-facts.result.now) (layout_facts c.facts.result.now)
     c.state.result.measured c.measure-size.result (record { across = c.in-Some.across; down = c.in-Some.down }) c.scroll_ask.result c.args.work.now c.measure-size.new.work
     c.requires.live (sym (ap is_shown c.facts-facts.ensures.value) ∙ sym c.is_shown.ensures ∙ c.if-not-is_shown.false) (ap layout_facts c.facts-facts.ensures.value) (ap layout_facts c.facts.ensures.value)
-    (ap (λ (state : State). state.measured) c.state.ensures.value) c.in-Some.is c.scroll_ask.ensures c.scroll_take-2.ensures m.same m.size m.measured m.costs m.caches
+    (ap (λ (state : State). state.measured) c.state.ensures.value) c.in-Some.is c.scroll_ask.ensures c.scroll_take-2.ensures m.same m.size m.measured m.costs (record { caches = m.caches; shares = m.shares })
 
 pub scroll::measure_kid-returns-then-not-is_shown-clause-rest : goal.scroll::measure_kid-returns-then-not-is_shown-clause-rest
 scroll::measure_kid-returns-then-not-is_shown-clause-rest t c = rest_none c.args.tree.now (tree_from c.args.kid c.args.tree.now.tree) c.args.work.now c.requires.ready
@@ -594,8 +599,8 @@ relative::measure_siblings-returns-clause-measured t c =
     (settled (size_as own specs list orders are) down.over)
     (costs_twice list (held_of c.args.tree.now) (held_of c.measure_turns.new.tree) (held_of c.settle.new.tree) c.args.work.now.measured c.measure_turns.new.work.measured c.measure_turns-2.new.work.measured _ _ across.costs
     (costs-edged list (held_of c.measure_turns.new.tree) (held_of c.measure_turns-2.new.tree) (held_of c.settle.new.tree) c.measure_turns.new.work.measured _ c.measure_turns-2.new.work.measured c.settle.ensures.edged down.costs))
-    (caches_both own specs (held_of c.args.tree.now) (held_of c.measure_turns.new.tree) (held_of c.settle.new.tree) list across.caches
-    (grown-edged _ (held_of c.measure_turns.new.tree) (held_of c.measure_turns-2.new.tree) (held_of c.settle.new.tree) list c.settle.ensures.edged down.caches))
+    (trace_both own specs (held_of c.args.tree.now) (held_of c.measure_turns.new.tree) (held_of c.settle.new.tree) list c.args.work.now.measured c.measure_turns.new.work.measured c.measure_turns-2.new.work.measured across.trace
+    (trace-edged _ (λ place. 1) (held_of c.measure_turns.new.tree) (held_of c.measure_turns-2.new.tree) (held_of c.settle.new.tree) list c.measure_turns.new.work.measured c.measure_turns-2.new.work.measured c.settle.ensures.edged down.trace))
 
 pub relative::measure_turns-returns-clause-turns : goal.relative::measure_turns-returns-clause-turns
 relative::measure_turns-returns-clause-turns t c = λ own specs past represents axis known.
@@ -733,7 +738,7 @@ relative::measure_in_turn-returns-clause-turn t c = λ own specs past taken plac
     (subst (λ key. specs_of (held_of c.measure-got.new.tree key).state ≡ asked) (sym x.key_is) m.measured.last)
     (rw still at (c.take-edges.ensures.edges own specs past taken represents)) (rw still at (c.take-edges.ensures.taken own specs past taken represents)) wrote
     (let o = once x.row.key in omega arith)
-    (rw x.is at m.costs) (rw x.is at m.caches))
+    (rw x.is at m.costs) (record { caches = rw x.is at m.caches; shares = rw x.is at m.shares }))
 
 pub relative::measure_in_turn-returns-clause-size : goal.relative::measure_in_turn-returns-clause-size
 relative::measure_in_turn-returns-clause-size t c =

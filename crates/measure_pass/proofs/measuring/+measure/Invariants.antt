@@ -4,8 +4,8 @@ use Rattle.measure_pass.specs.Measured.{KeepsRest, kids_from, tree_from}
 use Rattle.measure_pass.specs.Plans.{Frame, Linear, Scroll}
 use Rattle.measure_pass.specs.Replacing.{AreReplaced}
 use Rattle.measure_pass.specs.Siblings.{FirstHasSize, FirstIsKnown, kids_in, order_on, phase_of}
-use Rattle.measure_pass.proofs.PlanWalk.{PlanWalk}
-use Rattle.measure_pass.proofs.SiblingTurns.{Turning}
+use Rattle.measure_pass.proofs.walks.PlanWalk.{PlanWalk}
+use Rattle.measure_pass.proofs.relatives.SiblingTurns.{Turning}
 use Rattle.relative_layout.specs.plan.RelativePlan.{RepresentsRelative}
 use Rattle.view_model.specs.declared.facts.Facts.{Facts}
 use Rattle.view_model.specs.Forest.{count_of}

@@ -1,8 +1,8 @@
 use Rattle.std.proofs.Common.{false, ◌≡◌, ◌+◌, ◌-◌, ◌^◌, min, ap, ◌∙◌, subst, arith}
 use Rattle.measure_pass.specs.Courses.{IsMeasuredBelow}
-use Rattle.measure_pass.proofs.Calm.{Ready-below}
+use Rattle.measure_pass.proofs.held.Calm.{Ready-below}
 use Rattle.measure_pass.proofs.Counts.{counted_one, counted_own}
-use Rattle.measure_pass.proofs.Own.{make_at, measured_at}
+use Rattle.measure_pass.proofs.held.Own.{make_at, measured_at}
 use Rattle.view_model.specs.declared.work.Work.{Work}
 use Rattle.view_tree.specs.declared.node.state.State.{State}
 use Rattle.view_tree.specs.Rows.{part_from}
@@ -41,7 +41,8 @@ returns c =
       others = made.all.others;
       counted = counted_own c.args.tree.now c.measure_below-outcome.new.tree c.make_up.new.tree c.args.work.now c.measure_below-outcome.new.work c.make_up.new.work k.rest.counted
           (counted_one c.measure_below-outcome.new.tree c.make_up.new.tree c.measure_below-outcome.new.work c.make_up.new.work f.counts f.counted);
-      caches = made.all.caches;
+      caches = made.all.trace.caches;
+      shares = made.shares;
       back = made.back;
       spent = made.all.costs.spent;
     }

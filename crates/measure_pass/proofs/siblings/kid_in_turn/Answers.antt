@@ -1,5 +1,5 @@
 use Rattle.std.proofs.Common.{arith}
-use Rattle.measure_pass.proofs.SiblingTurns.{each_length}
+use Rattle.measure_pass.proofs.relatives.SiblingTurns.{each_length}
 use Rattle.view_model.specs.PlainTree.{PlainView}
 use Rattle.view_tree.specs.Rows.{children_of_first, part_from, views_of}
 use Rattle.measure_pass.proofs.siblings.kid_in_turn.Goals as goal

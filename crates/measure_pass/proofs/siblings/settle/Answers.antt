@@ -1,11 +1,11 @@
 use Rattle.std.proofs.Common.{◌≡◌, ◌≤◌, ℕ, refl, ◌∙◌, arith, subst, inl, inr}
 use Rattle.std.proofs.lemmas.Bool.{cases_lt}
 use Rattle.measure_pass.specs.Siblings.{FirstHasEdges, IsSettled, edges_of, kids_in, phase_of}
-use Rattle.measure_pass.proofs.AtPlace.{Ready-at, Ready-place}
-use Rattle.measure_pass.proofs.Edged.{edged-self, edged-then}
-use Rattle.measure_pass.proofs.Own.{keeps_self, keeps_trans}
-use Rattle.measure_pass.proofs.Places.{FirstHasEdges-along, FirstHasSize-along, in_list, still_there}
-use Rattle.measure_pass.proofs.SiblingTurns.{each_length, not_in, once_below, settled_here}
+use Rattle.measure_pass.proofs.walks.AtPlace.{Ready-at, Ready-place}
+use Rattle.measure_pass.proofs.relatives.Edged.{edged-self, edged-then}
+use Rattle.measure_pass.proofs.held.Own.{keeps_self, keeps_trans}
+use Rattle.measure_pass.proofs.walks.Places.{FirstHasEdges-along, FirstHasSize-along, in_list, still_there}
+use Rattle.measure_pass.proofs.relatives.SiblingTurns.{each_length, not_in, once_below, settled_here}
 use Rattle.view_model.specs.declared.relative.Axis.TheVariants.{Vertical}
 use Rattle.view_model.specs.PlainTree.{PlainView}
 use Rattle.view_model.specs.RelativeCourse.{arranged, edges_at}

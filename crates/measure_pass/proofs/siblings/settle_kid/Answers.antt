@@ -1,8 +1,8 @@
 use Rattle.std.proofs.Common.{ap, sym, ◌∙◌}
 use Rattle.measure_pass.specs.Siblings.{edges_of}
-use Rattle.measure_pass.proofs.Edged.{edged, edged-write, ready-edged}
+use Rattle.measure_pass.proofs.relatives.Edged.{edged, edged-write, ready-edged}
 use Rattle.kept_views.specs.Laying.{Wrote}
-use Rattle.measure_pass.proofs.SiblingTurns.{moved_at, size_at}
+use Rattle.measure_pass.proofs.relatives.SiblingTurns.{moved_at, size_at}
 use Rattle.view_model.specs.declared.facts.Facts.{Facts}
 use Rattle.view_model.specs.declared.relative.Edges.{Edges}
 use Rattle.view_model.specs.Facts.{is_shown, layout_facts}

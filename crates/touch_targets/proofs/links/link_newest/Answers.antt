@@ -1,7 +1,7 @@
 use Rattle.std.proofs.Common.{◌≡◌, ◌∙◌, ℕ, option_map}
 use Rattle.slab.specs.Slab.{get}
-use Rattle.touch_targets.proofs.Chains.{there}
-use Rattle.touch_targets.proofs.Linking.{are_linked_newest, caught_linked_by, linked_at, node_linked, views_linked}
+use Rattle.touch_targets.proofs.chains.Chains.{there}
+use Rattle.touch_targets.proofs.chains.Linking.{are_linked_newest, caught_linked_by, linked_at, node_linked, views_linked}
 use Rattle.touch_targets.proofs.links.link_newest.Goals as goal
 
 pub returns : goal.returns

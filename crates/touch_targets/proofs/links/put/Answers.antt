@@ -4,8 +4,8 @@ use Rattle.slab.specs.Slab.{get}
 use Rattle.touch_targets.specs.Nodes.{changed}
 use Rattle.touch_targets.specs.Seats.{mask_with}
 use Rattle.touch_targets.specs.declared.node.Node.{Node}
-use Rattle.touch_targets.proofs.Chains.{some_is}
-use Rattle.touch_targets.proofs.Putting.{caught_put_more, caught_put_new}
+use Rattle.touch_targets.proofs.chains.Chains.{some_is}
+use Rattle.touch_targets.proofs.pools.Putting.{caught_put_more, caught_put_new}
 use Rattle.touch_targets.proofs.links.put.Goals as goal
 
 pub returns-in-None-clause-caught : goal.returns-in-None-clause-caught
@@ -26,4 +26,4 @@ returns-in-Some-clause-caught c =
     let group : k.group ≡ Some c.args.group = was ∙ ap (λ x. Some x) (c.requires.only k c.in-Some.field-0 c.index.ensures was) in
     caught_put_more c.args.nodes.now c.set_ids.new.nodes c.args.group c.args.child c.args.ids k c.requires.linked c.index.ensures group
     (λ x. c.set_ids.ensures.nodes x ∙ ap (λ ids. changed (get c.args.nodes.now) c.args.child (λ (n : Node). record n { ids = ids }) x) all)
-    c.set_ids.ensures.places
+    c.set_ids.ensures.slots

@@ -1,6 +1,6 @@
 use Rattle.std.proofs.Common.{◌<◌, arith}
 use Rattle.slab_link.specs.Numbers.{links_end}
-use Rattle.touch_targets.proofs.Opening.{are_linked_with, caught_with, put_in}
+use Rattle.touch_targets.proofs.pools.Opening.{are_linked_with, caught_with, put_in}
 use Rattle.touch_targets.proofs.links.put_in.Goals as goal
 
 pub returns : goal.returns

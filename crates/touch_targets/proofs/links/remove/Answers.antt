@@ -1,5 +1,5 @@
 use Rattle.std.proofs.Common.{◌∙◌, sym}
-use Rattle.touch_targets.proofs.Removing.{caught_free}
+use Rattle.touch_targets.proofs.pools.Removing.{caught_free}
 use Rattle.touch_targets.proofs.links.remove.Goals as goal
 
 pub returns-in-None-clause-caught : goal.returns-in-None-clause-caught

@@ -4,7 +4,7 @@ use Rattle.view_tree.specs.Rows.{Row, children_of_first, part_from}
 use Rattle.view_tree.specs.Views.{held_of, laid_rows}
 use Rattle.view_tree.proofs.forest.Walks.{fewer_below, walk_falls, walk_on, walk_start}
 use Rattle.traversal.specs.Frames.{fired_in}
-use Rattle.traversal.proofs.FiringLaws.{fired_alone, fired_list, or_first, or_second}
+use Rattle.traversal.proofs.hooks.FiringLaws.{fired_alone, fired_list, or_first, or_second}
 use Rattle.traversal.proofs.firing.+fired_from.Goals as goal
 
 pub returns-in-Some : goal.returns-in-Some

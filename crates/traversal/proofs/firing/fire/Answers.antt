@@ -5,11 +5,11 @@ use Rattle.view_model.specs.declared.changes.NumEdit.{NumEdit}
 use Rattle.std.proofs.Common.{arith}
 use Rattle.view_tree.specs.tree.Requests.{among}
 use Rattle.view_tree.specs.Views.{IsLive, held_of, plain_of}
-use Rattle.traversal.proofs.PassEdits.{noted, noted_live}
-use Rattle.traversal.proofs.ShapeLaws.{count_of_key-same}
+use Rattle.traversal.proofs.hooks.PassEdits.{noted, noted_live}
+use Rattle.traversal.proofs.laid.ShapeLaws.{count_of_key-same}
 use Rattle.traversal.specs.Frames.{edited_by, edits_of}
-use Rattle.traversal.proofs.EditLaws.{next_edit, none_left, shape_then}
-use Rattle.traversal.proofs.Unedited.{some_off, unedited_next, unedited_same}
+use Rattle.traversal.proofs.hooks.EditLaws.{next_edit, none_left, shape_then}
+use Rattle.traversal.proofs.hooks.Unedited.{some_off, unedited_next, unedited_same}
 use Rattle.traversal.proofs.firing.fire.Goals as goal
 
 pub loop-edit-preserved : goal.loop-edit-preserved

@@ -1,6 +1,6 @@
 use Rattle.std.proofs.Common.{sym}
 use Rattle.view_tree.specs.Views.{geometry_of}
-use Rattle.traversal.proofs.FiringLaws.{fired_none}
+use Rattle.traversal.proofs.hooks.FiringLaws.{fired_none}
 use Rattle.traversal.proofs.firing.fired.Goals as goal
 
 pub returns-then-is_empty : goal.returns-then-is_empty

@@ -8,13 +8,13 @@ use Rattle.view_tree.specs.Rows.{count_of_key}
 use Rattle.view_tree.proofs.forest.NumberLaws.{count_of_key-put}
 use Rattle.view_tree.proofs.values.GeometryLaws.{laid_along}
 use Rattle.traversal.specs.Changing.{bare}
-use Rattle.traversal.proofs.PassEdits.{made_in_pass, put_bounds, plain_same, pressed_bounds, pressed_offset}
+use Rattle.traversal.proofs.hooks.PassEdits.{made_in_pass, put_bounds, plain_same, pressed_bounds, pressed_offset}
 use Rattle.view_model.specs.Changes.{facts_after_change}
 use Rattle.view_model.specs.declared.facts.Facts.{Facts}
 use Rattle.view_tree.specs.Views.{Held, facts_of, held_of, laid_rows, plain_rows}
-use Rattle.traversal.proofs.ChangeLaws.{change_absent}
-use Rattle.traversal.proofs.EditLaws.{Edited, change_leaves, edit_made, shape_then}
-use Rattle.traversal.proofs.Unedited.{made_cache}
+use Rattle.traversal.proofs.frames.ChangeLaws.{change_absent}
+use Rattle.traversal.proofs.hooks.EditLaws.{Edited, change_leaves, edit_made, shape_then}
+use Rattle.traversal.proofs.hooks.Unedited.{made_cache}
 use Rattle.traversal.proofs.firing.make.Goals as goal
 
 -- a change does not set a name of the view

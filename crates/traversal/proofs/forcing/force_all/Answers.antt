@@ -3,7 +3,7 @@ use Rattle.std.proofs.lemmas.List.{drop_more}
 use Rattle.std.specs.Prelude.{slice_index_or}
 use mathlib.Core.Path.{fun_ext}
 use Rattle.kept_views.specs.Pressing.{all_pressed, path_of}
-use Rattle.kept_views.proofs.Paths.{among_first, among_rest}
+use Rattle.kept_views.proofs.edits.Paths.{among_first, among_rest}
 use Rattle.view_tree.specs.tree.Requests.{among, pressed}
 use Rattle.view_tree.specs.Rows.{count_of_key}
 use Rattle.view_tree.specs.Views.{held_of}

@@ -7,14 +7,14 @@ use Rattle.geom_core.specs.declared.geometry.Rect.{Rect}
 use Rattle.size_hooks.specs.Hook.{Hook}
 use Rattle.view_tree.specs.Rows.{count_of_key}
 use Rattle.view_tree.specs.Views.{Views, geometry_of, held_of, plain_of}
-use Rattle.traversal.proofs.GrownKeys.{grown_once, grown_twice}
+use Rattle.traversal.proofs.frames.GrownKeys.{grown_once, grown_twice}
 use Rattle.traversal.specs.Frames.{fired_in}
-use Rattle.traversal.proofs.CountLaws.{differ_few, measured_once, measured_twice}
-use Rattle.traversal.proofs.CountedLaws.{counted_then}
-use Rattle.traversal.proofs.SightLaws.{color_stays, covered_tree}
-use Rattle.traversal.proofs.ShapeLaws.{count_of-same, count_of_key-same}
-use Rattle.traversal.proofs.FrameLaws.{passed_fits, settled_first, settled_second}
-use Rattle.traversal.proofs.QuietHooks.{reported_quiet, reported_still}
+use Rattle.traversal.proofs.frames.CountLaws.{differ_few, measured_once, measured_twice}
+use Rattle.traversal.proofs.frames.CountedLaws.{counted_then}
+use Rattle.traversal.proofs.sight.SightLaws.{color_stays, covered_tree}
+use Rattle.traversal.proofs.laid.ShapeLaws.{count_of-same, count_of_key-same}
+use Rattle.traversal.proofs.frames.FrameLaws.{passed_fits, settled_first, settled_second}
+use Rattle.traversal.proofs.hooks.QuietHooks.{reported_quiet, reported_still}
 use Rattle.traversal.proofs.framing.frame.Goals as goal
 
 pub returns-then-not-pass-clause-framed : goal.returns-then-not-pass-clause-framed
@@ -173,3 +173,12 @@ returns-clause-caches c = λ key live un.
     let there : 0 < count_of_key key c.pass.new.tree.tree = omega arith in
     grown_twice c.args.tree.now c.pass.new.tree c.pass-2.new.tree c.args.hooks.now c.pass.new.hooks c.args.window key (sym first.fired ∙ c.if-not-pass.false) first.shape
     first.passed.plain first.passed.hooks_are un (first.caches key live) (c.pass-2.ensures.caches key there)
+
+pub returns-then-not-pass-clause-few : goal.returns-then-not-pass-clause-few
+returns-then-not-pass-clause-few c = λ none. c.pass.ensures.few
+
+pub returns-then-not-pass-2-clause-few : goal.returns-then-not-pass-2-clause-few
+returns-then-not-pass-2-clause-few c = λ none. absurd (let no : 1 ≡ 0 = sym c.settle-then-not-pass-2.ensures.fired ∙ none in omega arith)
+
+pub returns-clause-few : goal.returns-clause-few
+returns-clause-few c = λ none. absurd (let no : 2 ≡ 0 = none in omega arith)

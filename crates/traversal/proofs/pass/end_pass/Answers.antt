@@ -2,8 +2,8 @@ use Rattle.std.proofs.Common.{◌≡◌, ◌∙◌, ap}
 use Rattle.view_tree.specs.Views.{Held, held_of, laid_rows, plain_rows}
 use Rattle.view_tree.proofs.values.GeometryLaws.{laid_along}
 use Rattle.kept_views.specs.Pressing.{all_pressed}
-use Rattle.traversal.proofs.PassEdits.{all_bounds, all_offset, ended_kept, one_bounds, one_offset, plain_same}
-use Rattle.traversal.proofs.Unedited.{ended_cache}
+use Rattle.traversal.proofs.hooks.PassEdits.{all_bounds, all_offset, ended_kept, one_bounds, one_offset, plain_same}
+use Rattle.traversal.proofs.hooks.Unedited.{ended_cache}
 use Rattle.traversal.proofs.pass.end_pass.Goals as goal
 
 offsets_same : goal.returns-clause-offsets

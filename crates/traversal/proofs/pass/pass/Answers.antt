@@ -1,30 +1,31 @@
 use Rattle.std.proofs.Common.{◌≡◌, ◌<◌, ℕ, pos, Some, None, true, false, refl, sym, ◌∙◌, ap, subst, arith}
 use Rattle.measure_pass.specs.Caches.{Grew}
 use Rattle.measure_pass.specs.Measured.{current}
-use Rattle.measure_pass.proofs.Grows.{Grew-refl}
-use Rattle.measure_pass.proofs.Own.{is-current}
+use Rattle.measure_pass.proofs.held.Grows.{Grew-refl}
+use Rattle.measure_pass.proofs.held.Own.{is-current}
 use Rattle.view_model.specs.Geometry.{rect_at}
 use Rattle.view_model.specs.Layout.{full_layout, root_specs}
 use Rattle.view_tree.specs.Rows.{first_key, head_view, count_of_key}
 use Rattle.kept_views.specs.Laying.{differ}
 use Rattle.kept_views.specs.Passes.{settled_at}
-use Rattle.kept_views.proofs.LaidFrames.{differ-along}
+use Rattle.kept_views.proofs.laid.LaidFrames.{differ-along}
 use Rattle.view_tree.specs.declared.counts.Counts.{Counts}
 use Rattle.view_tree.specs.declared.node.state.State.{State}
 use Rattle.view_tree.specs.Views.{Held, Views, cache_of, geometry_of, held_of, number_of, plain_of, specs_of, state_of}
 use Rattle.seen_parts.specs.Meeting.{met_at}
 use Rattle.view_model.specs.Visible.{whole_window}
-use Rattle.traversal.proofs.CoverLaws.{covered_same, placed_same}
-use Rattle.traversal.proofs.LaidAt.{settled_mark}
-use Rattle.traversal.proofs.LaidWhole.{gone_whole, root_live, root_unmarked}
+use Rattle.traversal.proofs.sight.CoverLaws.{covered_same, placed_same}
+use Rattle.traversal.proofs.laid.LaidAt.{settled_mark}
+use Rattle.traversal.proofs.laid.LaidWhole.{gone_whole, root_live, root_unmarked}
 use Rattle.size_hooks.specs.Hooks.{hook_of}
 use Rattle.traversal.specs.Frames.{edits_of, fired_in}
 use Rattle.traversal.specs.Growing.{IsMeasuredByPass, IsOffPaths, IsUnedited, edits_fired}
-use Rattle.traversal.proofs.Unedited.{off_same}
+use Rattle.traversal.proofs.hooks.Unedited.{off_same}
 use Rattle.traversal.specs.Resting.{IsRootAtRest}
-use Rattle.traversal.proofs.GrownKeys.{grown_pass}
-use Rattle.traversal.proofs.PassEdits.{passed_nowhere}
-use Rattle.traversal.proofs.ShapeLaws.{count_of_key-same}
+use Rattle.traversal.proofs.frames.GrownKeys.{grown_pass}
+use Rattle.traversal.proofs.frames.StillKeys.{few_pass}
+use Rattle.traversal.proofs.hooks.PassEdits.{passed_nowhere}
+use Rattle.traversal.proofs.laid.ShapeLaws.{count_of_key-same}
 use Rattle.traversal.proofs.pass.pass.Goals as goal
 
 pub returns-in_default-clause-passed : goal.returns-in_default-clause-passed
@@ -191,3 +192,16 @@ returns-clause-caches c = λ key live un.
     let off = off_same c.fire-requesters.result.items key fire.shape kept.1 in
     let off : IsOffPaths c.as_slice.result.now c.fire-requesters.new.tree.tree key = subst (λ views. IsOffPaths views c.fire-requesters.new.tree.tree key) (sym c.as_slice.ensures.value) off in
     subst (λ cache. Grew (IsMeasuredByPass (plain_of old) c.args.window (number_of old key)) (cache_of old key) cache) (sym (c.end_pass-2.ensures.caches key off ∙ kept.0)) grown
+
+pub returns-in_default-clause-few : goal.returns-in_default-clause-few
+returns-in_default-clause-few c = λ calm still. omega arith
+
+pub returns-in_default-fired-clause-few : goal.returns-in_default-fired-clause-few
+returns-in_default-fired-clause-few c = λ calm unasked.
+    few_pass c.args.tree.now c.lay_root.ensures.is_tree c.args.window calm unasked (held_of c.lay_root.new.tree) c.args.work.now.measured c.lay_root.new.work.measured c.in-Some.ensures.1
+    c.requires.consistent.reached c.lay_root.ensures.shares
+
+pub returns-clause-few : goal.returns-clause-few
+returns-clause-few c = λ calm unasked.
+    few_pass c.args.tree.now c.lay_root.ensures.is_tree c.args.window calm unasked (held_of c.lay_root.new.tree) c.args.work.now.measured c.lay_root.new.work.measured c.in-Some.ensures.1
+    c.requires.consistent.reached c.lay_root.ensures.shares

@@ -4,7 +4,7 @@ use Rattle.view_tree.specs.Rows.{Row, children_of_first, later_siblings, part_fr
 use Rattle.view_tree.specs.Views.{held_of, laid_rows}
 use Rattle.view_tree.proofs.forest.Walks.{fewer_below, walk_falls, walk_on, walk_start}
 use Rattle.traversal.specs.Reporting.{reported_over}
-use Rattle.traversal.proofs.ReportLaws.{reported_alone, reported_list}
+use Rattle.traversal.proofs.hooks.ReportLaws.{reported_alone, reported_list}
 use Rattle.traversal.proofs.reporting.+report_from.Goals as goal
 
 pub loop-next-init : goal.loop-next-init

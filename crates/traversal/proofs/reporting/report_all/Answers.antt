@@ -1,6 +1,6 @@
 use Rattle.std.proofs.Common.{sym}
 use Rattle.view_tree.specs.Views.{geometry_of}
-use Rattle.traversal.proofs.ReportLaws.{reported_over_none}
+use Rattle.traversal.proofs.hooks.ReportLaws.{reported_over_none}
 use Rattle.traversal.proofs.reporting.report_all.Goals as goal
 
 pub returns-then-is_empty-clause-hooks : goal.returns-then-is_empty-clause-hooks

@@ -1,9 +1,16 @@
-use Rattle.std.proofs.Common.{◌≡◌, ◌<◌, ◌∙◌, [], ◌∷◌, ap, arith, refl}
-use Rattle.std.specs.Prelude.{Ok, Err}
+use Rattle.std.proofs.Common.{◌≡◌, ◌<◌, ◌∙◌, ℕ, [], ◌∷◌, ap, arith, refl, subst}
+use Rattle.std.specs.Prelude.{None, Result, Ok, Err}
 use Rattle.view_model.specs.Changes.{facts_after_act}
-use Rattle.view_model.specs.PlainTree.{PlainView}
-use Rattle.view_tree.specs.Rows.{count_of_key}
-use Rattle.view_tree.specs.Views.{facts_of}
+use Rattle.view_model.specs.Cycles.{first_cycle}
+use Rattle.view_model.specs.PlainTree.{PlainView, with_facts}
+use Rattle.view_model.specs.declared.changes.Act.{Act}
+use Rattle.view_model.specs.declared.facts.Facts.{Facts}
+use Rattle.view_model.specs.declared.fault.Fault.{Fault}
+use Rattle.view_model.specs.declared.refusal.Member.TheVariants as member
+use Rattle.view_model.specs.declared.relative.Link.{Link}
+use Rattle.view_tree.specs.Faults.{IsRefusedOrCyclic}
+use Rattle.view_tree.specs.Rows.{changed_at_key, count_of_key}
+use Rattle.view_tree.specs.Views.{Views, facts_of, number_of, plain_of}
 use Rattle.view_tree.proofs.forest.NumberLaws.{count_of_key-put}
 use Rattle.tree_edits.specs.declared.edits.Edit.TheVariants as edit
 use Rattle.tree_edits.proofs.ActLaws.{names_refused, names_scene}
@@ -13,7 +20,6 @@ use Rattle.tree_edits.proofs.KeepLaws.{names_keep}
 use Rattle.tree_edits.proofs.SceneLaws.{requested_scene}
 use Rattle.tree_edits.proofs.UnaskedLaws.{leaves_unasked}
 use Rattle.tree_edits.proofs.acting.set_names.Goals as goal
-use Rattle.tree_edits.proofs.acting.set_names.Goals.{After-request}
 
 pub request-requires : goal.request-requires
 request-requires c =
@@ -22,34 +28,47 @@ request-requires c =
     ap (count_of_key c.args.view) c.in-Ok.ensures.tree ∙ count_of_key-put c.args.view c.args.view _ c.args.tree.now.tree in
     omega arith
 
-facts_are : (c : After-request) → c.change_facts.new.facts ≡ facts_after_act c.args.act (facts_of c.args.tree.now c.args.view)
-facts_are c = c.change_facts.ensures ∙ ap (facts_after_act c.args.act) c.facts.ensures.value
+abbrev linked : Link → Facts → Facts
+linked link facts = record facts { id = link.id; rules = link.rules }
+
+-- what `set_rules` says of a link, which is that of the facts after the act
+abbrev IsRefused : Views → ℕ → Result (Unit {0}) Fault → Link → Type 0
+IsRefused old view result link = IsRefusedOrCyclic None (first_cycle member.View (with_facts (number_of old view) (linked link) (plain_of old))) result
+
+abbrev IsPut : Views → Views → ℕ → Link → Type 0
+IsPut old new view link = new.tree ≡ changed_at_key view (λ (v : PlainView). record v { facts = linked link v.facts }) old.tree
+
+abbrev IsPlain : Views → Views → ℕ → Link → Type 0
+IsPlain old new view link = plain_of new ≡ with_facts (number_of old view) (linked link) (plain_of old)
+
+abbrev after : Views → ℕ → Act → Facts
+after tree view act = facts_after_act act (facts_of tree view)
 
 pub returns-in-Err-clause-refused : goal.returns-in-Err-clause-refused
 returns-in-Err-clause-refused c =
-    names_refused c.args.tree.now c.args.view c.args.act c.change_facts.new.facts (Err c.in-Err.fault)
-    c.facts.ensures.is_tree c.requires.live c.requires.names (c.change_facts.ensures ∙ ap (facts_after_act c.args.act) c.facts.ensures.value) c.in-Err.ensures.refused
+    names_refused c.args.tree.now c.args.view c.args.act (after c.args.tree.now c.args.view c.args.act) (Err c.in-Err.fault)
+    c.link_after-link.ensures.is_tree c.requires.live c.requires.names refl (subst (IsRefused c.args.tree.now c.args.view (Err c.in-Err.fault)) c.link_after-link.ensures.link c.in-Err.ensures.refused)
 
 pub returns-in-Ok-clause-refused : goal.returns-in-Ok-clause-refused
 returns-in-Ok-clause-refused c =
-    names_refused c.args.tree.now c.args.view c.args.act c.change_facts.new.facts (Ok c.in-Ok.field-0)
-    c.facts.ensures.is_tree c.requires.live c.requires.names (facts_are c) c.in-Ok.ensures.refused
+    names_refused c.args.tree.now c.args.view c.args.act (after c.args.tree.now c.args.view c.args.act) (Ok c.in-Ok.field-0)
+    c.link_after-link.ensures.is_tree c.requires.live c.requires.names refl (subst (IsRefused c.args.tree.now c.args.view (Ok c.in-Ok.field-0)) c.link_after-link.ensures.link c.in-Ok.ensures.refused)
 
 pub returns-in-Ok-clause-scene : goal.returns-in-Ok-clause-scene
 returns-in-Ok-clause-scene c =
     requested_scene c.set_rules.new.self c.request.new.self (c.args.view ∷ []) c.request.ensures.same c.request.ensures.held
-    ∙ names_scene c.args.tree.now c.set_rules.new.self c.args.view c.args.act c.change_facts.new.facts
-    c.facts.ensures.is_tree c.requires.live c.requires.names (facts_are c) c.in-Ok.ensures.tree c.in-Ok.ensures.plain c.in-Ok.ensures.next c.in-Ok.ensures.held
+    ∙ names_scene c.args.tree.now c.set_rules.new.self c.args.view c.args.act (after c.args.tree.now c.args.view c.args.act)
+    c.link_after-link.ensures.is_tree c.requires.live c.requires.names refl (subst (IsPut c.args.tree.now c.set_rules.new.self c.args.view) c.link_after-link.ensures.link c.in-Ok.ensures.tree) (subst (IsPlain c.args.tree.now c.set_rules.new.self c.args.view) c.link_after-link.ensures.link c.in-Ok.ensures.plain) c.in-Ok.ensures.next c.in-Ok.ensures.held
 
 pub returns-in-Ok-clause-kept : goal.returns-in-Ok-clause-kept
 returns-in-Ok-clause-kept c =
-    names_keep c.args.tree.now c.set_rules.new.self c.request.new.self c.args.view c.args.act c.change_facts.new.facts
-    c.facts.ensures.is_tree c.requires.names (facts_are c) c.in-Ok.ensures.tree c.in-Ok.ensures.next c.in-Ok.ensures.held c.request.ensures.same c.request.ensures.held
+    names_keep c.args.tree.now c.set_rules.new.self c.request.new.self c.args.view c.args.act (after c.args.tree.now c.args.view c.args.act)
+    c.link_after-link.ensures.is_tree c.requires.names refl (subst (IsPut c.args.tree.now c.set_rules.new.self c.args.view) c.link_after-link.ensures.link c.in-Ok.ensures.tree) c.in-Ok.ensures.next c.in-Ok.ensures.held c.request.ensures.same c.request.ensures.held
 
 pub returns-in-Ok-clause-consistent : goal.returns-in-Ok-clause-consistent
 returns-in-Ok-clause-consistent c =
-    change_kept c.args.tree.now c.set_rules.new.self c.request.new.self c.args.view (λ (v : PlainView). record v { facts = renamed c.change_facts.new.facts v.facts })
-    c.facts.ensures.is_tree c.requires.live (λ _. refl) c.in-Ok.ensures.tree c.in-Ok.ensures.held c.request.ensures.same c.request.ensures.held
+    change_kept c.args.tree.now c.set_rules.new.self c.request.new.self c.args.view (λ (v : PlainView). record v { facts = renamed (after c.args.tree.now c.args.view c.args.act) v.facts })
+    c.link_after-link.ensures.is_tree c.requires.live (λ _. refl) (subst (IsPut c.args.tree.now c.set_rules.new.self c.args.view) c.link_after-link.ensures.link c.in-Ok.ensures.tree) c.in-Ok.ensures.held c.request.ensures.same c.request.ensures.held
 
 pub returns-in-Ok-clause-asked : goal.returns-in-Ok-clause-asked
 returns-in-Ok-clause-asked c = leaves_unasked c.args.tree.now c.request.new.self (edit.Act c.args.view c.args.act) (returns-in-Ok-clause-kept c)

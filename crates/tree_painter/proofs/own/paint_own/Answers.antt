@@ -2,7 +2,7 @@ use Rattle.std.proofs.Common.{ap, sym, refl, ◌∙◌, ◌≡◌, ◌+◌, ◌�
 use Rattle.std.specs.Prelude.{◌&&◌, IfSome}
 use Rattle.geom_core.specs.Rects.{holds}
 use Rattle.geom_core.specs.declared.geometry.Rect.{Rect}
-use Rattle.pixel_raster.specs.Raster.{Fills, Raster}
+use Rattle.pixel_raster.specs.Raster.{Blends, Raster}
 use Rattle.view_model.specs.declared.facts.Facts.{Facts}
 use Rattle.view_model.specs.Painting.{Painter, drawn_in, is_drawn, reaches_children}
 use Rattle.view_model.specs.PlainTree.{PlainView}
@@ -11,7 +11,7 @@ use Rattle.view_tree.specs.Views.{view_at}
 use Rattle.seen_parts.specs.declared.frame.Canvas.{Canvas}
 use Rattle.seen_parts.specs.Frames.{IsBelow, canvas_holds, frame_size}
 use Rattle.tree_painter.specs.Painted.{IsCounted, PaintedIn, area_in}
-use Rattle.tree_painter.proofs.AreaLaws.{area_in-same, counted_fill, counted_then, counted_within, inside_area, narrower}
+use Rattle.tree_painter.proofs.AreaLaws.{area_in-same, counted_blend, counted_then, counted_within, inside_area, narrower}
 use Rattle.tree_painter.proofs.OwnLaws.{hidden, outside, seen, seen_leaf}
 use Rattle.tree_painter.proofs.PainterLaws.{painted_nothing}
 use Rattle.tree_painter.proofs.own.paint_own.Goals as goal
@@ -46,8 +46,8 @@ returns-then-not-has_children-clause-painted c = λ children end none same.
     let frame = c.moved-frame.result in
     let part = c.in-Some-part_in.part in
     let start = c.args.surface.now in
-    let mid = c.fill.new.self in
-    let fills : Fills part view.facts.background start mid = subst (λ (facts : Facts). Fills part facts.background start mid) c.facts-2.ensures.value c.fill.ensures.fills in
+    let mid = c.blend.new.self in
+    let fills : Blends part view.facts.background start mid = subst (λ (facts : Facts). Blends part facts.background start mid) c.facts-2.ensures.value c.blend.ensures.blends in
     rw same (drawn_at _ (Some c.in-Some.bounds) view c.args.canvas children start c.paint_ink.new.surface
     (ap (λ (state : State). state.bounds) (sym c.state.ensures.value) ∙ c.in-Some.is)
     (seen_leaf view c.in-Some.bounds c.args.canvas children frame c.moved-frame.ensures.moved
@@ -61,8 +61,8 @@ returns-clause-painted c = λ children end none rest.
     let part = c.in-Some-part_in.part in
     let result = c.children_canvas.result in
     let start = c.args.surface.now in
-    let mid = c.fill.new.self in
-    let fills : Fills part view.facts.background start mid = subst (λ (facts : Facts). Fills part facts.background start mid) c.facts-2.ensures.value c.fill.ensures.fills in
+    let mid = c.blend.new.self in
+    let fills : Blends part view.facts.background start mid = subst (λ (facts : Facts). Blends part facts.background start mid) c.facts-2.ensures.value c.blend.ensures.blends in
     let below : IfSome result (IsBelow frame view.facts.offset) = subst (λ (facts : Facts). IfSome result (IsBelow frame facts.offset)) c.facts-3.ensures.value c.children_canvas.ensures.below in
     drawn_at _ (Some c.in-Some.bounds) view c.args.canvas children start end (ap (λ (state : State). state.bounds) (sym c.state.ensures.value) ∙ c.in-Some.is)
     (seen view c.in-Some.bounds c.args.canvas children frame c.moved-frame.ensures.moved
@@ -80,27 +80,27 @@ returns-clause-narrower c =
 pub returns-clause-counted : goal.returns-clause-counted
 returns-clause-counted c =
     let start = c.args.surface.now in
-    let mid = c.fill.new.self in
+    let mid = c.blend.new.self in
     let part = c.in-Some-part_in.part in
     let area = area_in start c.args.canvas.clip in
     let less : area_in start part ≤ area = inside_area start c.args.canvas.clip part c.in-Some-part_in.ensures.inside in
-    let same : area_in mid part ≡ area_in start part = area_in-same mid start part c.fill.ensures.fills.width c.fill.ensures.fills.height in
-    let fill : IsCounted area start mid c.args.work.now c.fill.new.work =
-    counted_fill area part _ start mid c.args.work.now c.fill.new.work c.fill.ensures.fills c.fill.ensures.counted c.fill.ensures.grew less in
-    let ink : IsCounted area mid c.paint_ink.new.surface c.fill.new.work c.paint_ink.new.work =
-    counted_within (area_in mid part) area mid c.paint_ink.new.surface c.fill.new.work c.paint_ink.new.work (rw same less) c.paint_ink.ensures.counted in
-    counted_then area area (area + area) start mid c.paint_ink.new.surface c.args.work.now c.fill.new.work c.paint_ink.new.work (omega arith) fill ink
+    let same : area_in mid part ≡ area_in start part = area_in-same mid start part c.blend.ensures.blends.width c.blend.ensures.blends.height in
+    let back : IsCounted area start mid c.args.work.now c.blend.new.work =
+    counted_blend area part _ start mid c.args.work.now c.blend.new.work c.blend.ensures.counted c.blend.ensures.grew less in
+    let ink : IsCounted area mid c.paint_ink.new.surface c.blend.new.work c.paint_ink.new.work =
+    counted_within (area_in mid part) area mid c.paint_ink.new.surface c.blend.new.work c.paint_ink.new.work (rw same less) c.paint_ink.ensures.counted in
+    counted_then area area (area + area) start mid c.paint_ink.new.surface c.args.work.now c.blend.new.work c.paint_ink.new.work (omega arith) back ink
 
 pub returns-then-not-has_children-clause-counted : goal.returns-then-not-has_children-clause-counted
 returns-then-not-has_children-clause-counted c =
     let start = c.args.surface.now in
-    let mid = c.fill.new.self in
+    let mid = c.blend.new.self in
     let part = c.in-Some-part_in.part in
     let area = area_in start c.args.canvas.clip in
     let less : area_in start part ≤ area = inside_area start c.args.canvas.clip part c.in-Some-part_in.ensures.inside in
-    let same : area_in mid part ≡ area_in start part = area_in-same mid start part c.fill.ensures.fills.width c.fill.ensures.fills.height in
-    let fill : IsCounted area start mid c.args.work.now c.fill.new.work =
-    counted_fill area part _ start mid c.args.work.now c.fill.new.work c.fill.ensures.fills c.fill.ensures.counted c.fill.ensures.grew less in
-    let ink : IsCounted area mid c.paint_ink.new.surface c.fill.new.work c.paint_ink.new.work =
-    counted_within (area_in mid part) area mid c.paint_ink.new.surface c.fill.new.work c.paint_ink.new.work (rw same less) c.paint_ink.ensures.counted in
-    counted_then area area (area + area) start mid c.paint_ink.new.surface c.args.work.now c.fill.new.work c.paint_ink.new.work (omega arith) fill ink
+    let same : area_in mid part ≡ area_in start part = area_in-same mid start part c.blend.ensures.blends.width c.blend.ensures.blends.height in
+    let back : IsCounted area start mid c.args.work.now c.blend.new.work =
+    counted_blend area part _ start mid c.args.work.now c.blend.new.work c.blend.ensures.counted c.blend.ensures.grew less in
+    let ink : IsCounted area mid c.paint_ink.new.surface c.blend.new.work c.paint_ink.new.work =
+    counted_within (area_in mid part) area mid c.paint_ink.new.surface c.blend.new.work c.paint_ink.new.work (rw same less) c.paint_ink.ensures.counted in
+    counted_then area area (area + area) start mid c.paint_ink.new.surface c.args.work.now c.blend.new.work c.paint_ink.new.work (omega arith) back ink

@@ -1,5 +1,5 @@
 use Rattle.std.proofs.Common.{◌≡◌, ℕ, Some, ap, sym, ◌∙◌}
-use Rattle.traversal.proofs.FitLaws.{near_size_is}
+use Rattle.traversal.proofs.laid.FitLaws.{near_size_is}
 use Rattle.view_model.specs.Geometry.{rect_in}
 use Rattle.view_tree.specs.Views.{IsLive, IsTree, Views, geometry_of, number_of, state_of}
 use Rattle.view_tree.specs.declared.node.state.State.{State}

@@ -1,5 +1,6 @@
 use Rattle.std.proofs.Common.{◌≡◌, take, true}
-use Rattle.whole_tool.specs.Usage.{are_ids, resource_ids}
+use Rattle.whole_tool.specs.Usage.{are_ids}
+use Rattle.tool_replies.specs.Lookup.{resource_ids}
 use Rattle.vindaesk_c.proofs.words.id_words.Given as goal
 
 -- the words so far are those of the first ids

@@ -9,8 +9,8 @@ use Rattle.tool_io.specs.Files.{named_files}
 use Rattle.whole_tool.specs.Carried.{Alone}
 use Rattle.whole_tool.specs.Run.{HasReadUpTo}
 use Rattle.whole_tool.specs.Works.{Trace}
-use Rattle.whole_tool.proofs.CostLaws.{works_further, works_stopped}
-use Rattle.whole_tool.proofs.LongScriptLaws.{lines_of-cut}
+use Rattle.whole_tool.proofs.costs.CostLaws.{works_further, works_stopped}
+use Rattle.whole_tool.proofs.lines.LongScriptLaws.{lines_of-cut}
 use Rattle.world_parts.specs.World.{empty_world}
 use Rattle.whole_tool.proofs.loading.carry_out.Goals as goal
 

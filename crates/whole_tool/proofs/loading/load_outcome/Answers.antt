@@ -4,7 +4,7 @@ use Rattle.script_lines.specs.cutting.Lines.{lines_of}
 use Rattle.tool_io.specs.MemorySink.{ListedSink}
 use Rattle.whole_tool.specs.Carried.{Alone}
 use Rattle.world_parts.specs.World.{empty_world}
-use Rattle.whole_tool.proofs.CostLaws.{load_works, load_worth, works_none}
+use Rattle.whole_tool.proofs.costs.CostLaws.{load_works, load_worth, works_none}
 use Rattle.whole_tool.proofs.LoadLaws.{outcome_is}
 use Rattle.whole_tool.proofs.loading.load_outcome.Goals as goal
 

@@ -8,8 +8,8 @@ use Rattle.whole_tool.specs.Carrier.{carried_of}
 use Rattle.whole_tool.specs.Run.{StopsIn}
 use Rattle.whole_tool.specs.Works.{Works, trace}
 use Rattle.whole_tool.specs.Transcript.{after_from}
-use Rattle.whole_tool.proofs.RunLaws.{works_of}
-use Rattle.whole_tool.proofs.ScriptLaws.{HasTakenAll, Consumes-nil, Consumes-Consumes, Consumes-Keeps, ends_last, ends_long, ends_source, ends_stopped, ends_well, piece_short, taken_by_end, taken_on}
+use Rattle.whole_tool.proofs.lines.RunLaws.{works_of}
+use Rattle.whole_tool.proofs.lines.ScriptLaws.{HasTakenAll, Consumes-nil, Consumes-Consumes, Consumes-Keeps, ends_last, ends_long, ends_source, ends_stopped, ends_well, piece_short, taken_by_end, taken_on}
 use Rattle.whole_tool.proofs.script.run_to_end.Given.{Over}
 use Rattle.whole_tool.proofs.script.run_to_end.Goals.{After-finish}
 use Rattle.whole_tool.proofs.script.run_to_end.Goals as goal

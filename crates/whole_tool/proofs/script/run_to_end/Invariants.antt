@@ -3,7 +3,7 @@ use Rattle.view_model.specs.declared.limits.TheConstants.{MAX_VIEWS}
 use Rattle.whole_tool.specs.Carrier.{carried_of, next_of}
 use Rattle.whole_tool.specs.Works.{trace}
 use Rattle.whole_tool.specs.Transcript.{max_script}
-use Rattle.whole_tool.proofs.ScriptLaws.{HasTakenBytes}
+use Rattle.whole_tool.proofs.lines.ScriptLaws.{HasTakenBytes}
 use Rattle.whole_tool.proofs.script.run_to_end.Given as goal
 
 -- the run is after the bytes that were taken, and no call has failed

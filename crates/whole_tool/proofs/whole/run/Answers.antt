@@ -1,6 +1,6 @@
 use Rattle.std.proofs.Common.{ap, ◌∙◌}
 use Rattle.whole_tool.specs.Carrier.{carried_of}
-use Rattle.whole_tool.proofs.EndLaws.{ends_with, runs_by_status, works_by_status}
+use Rattle.whole_tool.proofs.endings.EndLaws.{ends_with, runs_by_status, works_by_status}
 use Rattle.whole_tool.proofs.whole.run.Goals as goal
 
 pub returns-clause-runs : goal.returns-clause-runs

@@ -1,13 +1,13 @@
 use Rattle.std.proofs.Common.{◌≡◌, None, rules}
-use Rattle.touch_targets.specs.Pool.{place_in}
+use Rattle.touch_targets.specs.Pool.{slot_in}
 use Rattle.touch_targets.specs.Seats.{targets_of}
-use Rattle.touch_targets.proofs.Membership.{left_nowhere, left_targets, unheld_targets}
-use Rattle.touch_targets.proofs.SeatLaws.{closed_no_target, closed_nowhere, no_group, no_node}
+use Rattle.touch_targets.proofs.pools.Membership.{left_nowhere, left_targets, unheld_targets}
+use Rattle.touch_targets.proofs.pools.SeatLaws.{closed_no_target, closed_nowhere, no_group, no_node}
 use Rattle.touch_targets.proofs.targets.Targets.release.Goals as goal
 use Rattle.touch_targets.proofs.targets.Targets.release.Goals.{Then-is_empty}
 
 -- as long as no view has a node, neither has this one
-none : (c : Then-is_empty) → place_in c.self.inside.places c.args.view ≡ None
+none : (c : Then-is_empty) → slot_in c.self.inside.slots c.args.view ≡ None
 none c = no_node c.self.inside c.self.invariant (search rules) c.args.view
 
 pub returns-then-is_empty-clause-targets : goal.returns-then-is_empty-clause-targets

@@ -5,8 +5,8 @@ use Rattle.std.proofs.Common.{inl, inr}
 use Rattle.geom_core.specs.declared.geometry.Size.{Size}
 use Rattle.kept_views.specs.Laying.{Wrote, differ, moved_to, same_place, sizes_back, spot_of}
 use Rattle.kept_views.specs.Passes.{settled_at}
-use Rattle.kept_views.proofs.LaidFrames.{Fit-along, Fit-first, differ-along}
-use Rattle.kept_views.proofs.LaidRows.{moved_is}
+use Rattle.kept_views.proofs.laid.LaidFrames.{Fit-along, Fit-first, differ-along}
+use Rattle.kept_views.proofs.laid.LaidRows.{moved_is}
 use Rattle.view_model.specs.declared.limits.TheConstants.{MAX_VIEWS}
 use Rattle.view_model.specs.declared.facts.Facts.{Facts}
 use Rattle.view_model.specs.Classes.{lays_in_line}
@@ -26,19 +26,22 @@ use Rattle.view_tree.proofs.forest.Forests.{count_alone, live_after}
 use Rattle.traversal.specs.Placing.{LaidKids}
 use Rattle.traversal.specs.Resting.{is_at_place}
 use Rattle.measure_pass.specs.Caches.{Grown}
-use Rattle.measure_pass.proofs.Grows.{Grown-trans}
-use Rattle.measure_pass.proofs.Rests.{same_then}
+use Rattle.measure_pass.proofs.held.Grows.{Grown-trans}
+use Rattle.measure_pass.proofs.held.Rests.{same_then}
 use Rattle.traversal.specs.Growing.{LastAt}
 use Rattle.traversal.specs.Laying.{HasLaid, LayingStage, stage_of}
-use Rattle.traversal.proofs.CountedLaws.{counted_still, counted_then}
-use Rattle.traversal.proofs.GrownLaid.{grown_caches, grown_kid, grown_view}
-use Rattle.traversal.proofs.LastAsked.{kids_asked}
-use Rattle.traversal.proofs.LaidAt.{alone_outside, below_at, calm_at, differ_at, kid_at, kid_gone, outside_at, put_at, put_same, settled_bounds, settled_cache, settled_is, settled_same, sides_at}
-use Rattle.traversal.proofs.FollowedViews.{covers_along, covers_at, covers_end, covers_on, covers_start, settled_places, sight_along, sight_at, sight_same, steps_by, walks_end, walks_on, walks_start}
-use Rattle.traversal.proofs.BackWalk.{WalkTo, back_few, back_fit, back_narrow, back_on, back_start, backwards_is, fewer_back}
-use Rattle.traversal.proofs.LaidStages.{laid_none}
-use Rattle.traversal.proofs.LaidWalk.{laid_on, laid_start, next_narrow, quiet_none}
-use Rattle.traversal.proofs.RestLaws.{calm_is, calm_of, is_at_place-IsAtPlace, unmoved}
+use Rattle.traversal.proofs.frames.CountedLaws.{counted_still, counted_then}
+use Rattle.traversal.proofs.laid.GrownLaid.{grown_caches, grown_kid, grown_view}
+use Rattle.traversal.proofs.laid.LastAsked.{kids_asked}
+use Rattle.traversal.proofs.SharesLaid.{SharesOut-less, alike_moved, shared_settled, shares_kid, shares_view}
+use Rattle.measure_pass.specs.Sharing.{Shared}
+use Rattle.measure_pass.proofs.Shares.{SharesOut-trans}
+use Rattle.traversal.proofs.laid.LaidAt.{alone_outside, below_at, calm_at, differ_at, kid_at, kid_gone, outside_at, put_at, put_same, settled_bounds, settled_cache, settled_is, settled_same, sides_at}
+use Rattle.traversal.proofs.sight.FollowedViews.{covers_along, covers_at, covers_end, covers_on, covers_start, settled_places, sight_along, sight_at, sight_same, steps_by, walks_end, walks_on, walks_start}
+use Rattle.traversal.proofs.laid.BackWalk.{WalkTo, back_few, back_fit, back_narrow, back_on, back_start, backwards_is, fewer_back}
+use Rattle.traversal.proofs.laid.LaidStages.{laid_none}
+use Rattle.traversal.proofs.laid.LaidWalk.{laid_on, laid_start, next_narrow, quiet_none}
+use Rattle.traversal.proofs.frames.RestLaws.{calm_is, calm_of, is_at_place-IsAtPlace, unmoved}
 use Rattle.traversal.proofs.laying.lay.+lay.Goals as goal
 
 -- lay_kid
@@ -158,7 +161,7 @@ lay_forwards-loop-next-preserved t c =
       walked =
           laid_on tree (children_of_first (part_from c.args.view tree)) c.loop-next.placer c.lay_kid.new.placer spot (held_of c.args.tree.now) c.args.context.now.work.measured c.args.tree.now.counts.laid c.in-Some.kid
           (held_of c.loop-next.tree) (held_of c.lay_kid.new.tree) c.loop-next.context.work.measured c.loop-next.tree.counts.laid c.lay_kid.new.context.work.measured c.lay_kid.new.tree.counts.laid
-          walk laid (rw before.same.tree at kid.others) (rw before.same.tree at kid.measures) (rw before.same.tree at kid.moves) (rw before.same.tree at kid.caches) c.next-next.result
+          walk laid (rw before.same.tree at kid.others) (rw before.same.tree at kid.measures) (rw before.same.tree at kid.moves) (rw before.same.tree at kid.caches) (rw before.same.tree at kid.shares) c.next-next.result
           (rw (kid.same.tree, before.same.tree) at c.next-next.ensures.part) (rw (kid.same.tree, before.same.tree) at c.next-next.ensures.live);
     }
 
@@ -182,6 +185,7 @@ lay_forwards-returns-clause-done t c =
       moves = let m = walk.moves now (λ key none. refl) in omega arith;
       counted = all.counted;
       caches = walk.caches now (λ key none. refl) tt;
+      shares = walk.shares now c.loop-next.context.work.measured (λ key none. refl) (record { count = 0; shared = refl; spent = omega arith });
       grew = all.grew;
       sight = walks_end c.args.inside.now.canvas c.loop-next.context.damage.rect tree list start now (rw c.in_default.is at all.sight);
       within = covers_end c.args.inside.now.canvas c.args.context.now.damage.rect c.loop-next.context.damage.rect tree list start now (rw c.in_default.is at all.cover);
@@ -349,6 +353,7 @@ lay_open-returns-then-is_calm-clause-done t c =
       moves = let m = g.laid in omega arith;
       counted = g.counted;
       caches = grown_kid old.tree view (held_of old) (held_of fit) r.live r.shown g.caches;
+      shares = shares_kid old.tree view (held_of old) (held_of fit) c.args.context.now.work.measured c.make_fit.new.work.measured r.live r.shown g.shares;
       grew = λ x y h. h;
       sight = sight_same c.args.canvas.now c.args.context.now.damage.rect (held_of old) (held_of fit) list (λ key here. (g.keeps.bounds key, g.keeps.offsets key));
       within = λ box lies covered. lies;
@@ -435,6 +440,21 @@ lay_open-returns-clause-done t c =
           (grown_view tree view (specs_of (a view).state) a b l n (moved_to (a view) c.args.rect) (n view) g.is_tree.keys r.live wrote refl
           (record { at = refl; others = bring.others }) (ap (λ (h : Held). h.cache) bring.held) laid.others
           (kids_asked c.args.tree.now view a g.is_tree r.live r.shown g.fit.sized g.unmarked.first) laid.caches)));
+      shares =
+          shares_kid tree view old n c.args.context.now.work.measured c.lay_kids.new.context.work.measured r.live r.shown
+          (SharesOut-less (ok (specs_of (old view).state)) old n list c.args.context.now.work.measured c.lay_kids.new.context.work.measured
+          (SharesOut-trans (ok (specs_of (old view).state)) (λ place. 0) (λ place. 0) old a n list c.args.context.now.work.measured c.make_fit.new.work.measured c.lay_kids.new.context.work.measured g.shares
+          (record {
+            count = laid.shares.count;
+            shared =
+                subst (λ (specs : Specs). Shared (ok specs) (λ place. 0) a n list laid.shares.count) g.unmarked.specs
+                (shares_view tree view (specs_of (a view).state) a b l n (moved_to (a view) c.args.rect) (n view) laid.shares.count g.is_tree.keys r.live wrote
+                (record { at = refl; others = bring.others }) laid.others
+                (alike_moved tree view c.args.rect a b l n (record { at = there; others = f.others }) g.is_tree.keys r.live laid.others (ap (λ (h : Held). h.state) bring.held))
+                g.fit.ready.reached
+                (kids_asked c.args.tree.now view a g.is_tree r.live r.shown g.fit.sized g.unmarked.first) laid.shares.shared);
+            spent = laid.shares.spent;
+          })));
       grew = λ x y h. bring.grew x y (laid.grew x y (follow.grew x y h));
       sight =
           sight_at tree view c.args.rect old b l n c.args.canvas.now c.follow_in-inner.result c.follow_in-inner.new.damage.rect c.lay_kids.new.context.damage.rect c.bring-2.new.damage.rect c.state-before.result.bounds c.facts.result.now
@@ -517,6 +537,21 @@ lay_open-returns-then-is_bare-clause-done t c =
           (grown_view tree view (specs_of (a view).state) a b l n (moved_to (a view) c.args.rect) (n view) g.is_tree.keys r.live wrote refl
           (record { at = refl; others = bring.others }) (ap (λ (h : Held). h.cache) bring.held) laid.others
           (kids_asked c.args.tree.now view a g.is_tree r.live r.shown g.fit.sized g.unmarked.first) laid.caches)));
+      shares =
+          shares_kid tree view old n c.args.context.now.work.measured c.make_fit.new.work.measured r.live r.shown
+          (SharesOut-less (ok (specs_of (old view).state)) old n list c.args.context.now.work.measured c.make_fit.new.work.measured
+          (SharesOut-trans (ok (specs_of (old view).state)) (λ place. 0) (λ place. 0) old a n list c.args.context.now.work.measured c.make_fit.new.work.measured c.make_fit.new.work.measured g.shares
+          (record {
+            count = laid.shares.count;
+            shared =
+                subst (λ (specs : Specs). Shared (ok specs) (λ place. 0) a n list laid.shares.count) g.unmarked.specs
+                (shares_view tree view (specs_of (a view).state) a b l n (moved_to (a view) c.args.rect) (n view) laid.shares.count g.is_tree.keys r.live wrote
+                (record { at = refl; others = bring.others }) laid.others
+                (alike_moved tree view c.args.rect a b l n (record { at = there; others = f.others }) g.is_tree.keys r.live laid.others (ap (λ (h : Held). h.state) bring.held))
+                g.fit.ready.reached
+                (kids_asked c.args.tree.now view a g.is_tree r.live r.shown g.fit.sized g.unmarked.first) laid.shares.shared);
+            spent = laid.shares.spent;
+          })));
       grew = bring.grew;
       sight = rw unseen tt;
       within = λ box lies covered. bring.within box lies (rw unseen tt);
@@ -599,6 +634,11 @@ lay-returns-clause-done t c =
           omega arith;
       counted = counted_then laid.counted (counted_still c.lay_open.new.tree c.settle.new.tree c.lay_open.new.context.work (ap (λ (counts : Counts). counts.measures) own.counts));
       caches = grown_caches (LastAt old list) old old mid new list (λ key. refl) (λ key. ap (λ (h : Held). h.cache) (is key) ∙ settled_cache view mid key) laid.caches;
+      shares = record {
+        count = laid.shares.count;
+        shared = shared_settled (LastAt old list) (λ place. 0) view old mid new list laid.shares.count is laid.shares.shared;
+        spent = laid.shares.spent;
+      };
       grew = laid.grew;
       sight = sight_along c.args.canvas.now c.lay_open.new.context.damage.rect old old mid new list (λ key here. (refl, refl)) places laid.sight;
       within = λ box lies covered.

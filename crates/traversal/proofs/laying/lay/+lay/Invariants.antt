@@ -6,9 +6,9 @@ use Rattle.view_tree.specs.Rows.{first_tree, children_of_first, part_from, rest_
 use Rattle.view_tree.specs.Views.{SameTree, held_of}
 use Rattle.traversal.specs.Counting.{IsMeasuringCounted}
 use Rattle.traversal.specs.Laying.{stage_of}
-use Rattle.traversal.proofs.BackWalk.{BackWalk, before}
-use Rattle.traversal.proofs.FollowedViews.{CoverWalks, Walks}
-use Rattle.traversal.proofs.LaidWalk.{LaidWalk}
+use Rattle.traversal.proofs.laid.BackWalk.{BackWalk, before}
+use Rattle.traversal.proofs.sight.FollowedViews.{CoverWalks, Walks}
+use Rattle.traversal.proofs.laid.LaidWalk.{LaidWalk}
 use Rattle.traversal.proofs.laying.lay.+lay.Given as goal
 
 abbrev pub decreases-lay : goal.decreases-lay

@@ -1,6 +1,6 @@
 use Rattle.std.proofs.Common.{ap, refl, sym, ◌∙◌}
-use Rattle.traversal.proofs.FollowedViews.{unscrolled_in}
-use Rattle.traversal.proofs.Unranged.{unranged}
+use Rattle.traversal.proofs.sight.FollowedViews.{unscrolled_in}
+use Rattle.traversal.proofs.offsets.Unranged.{unranged}
 use Rattle.view_model.specs.Classes.{scrolls}
 use Rattle.view_tree.specs.Views.{offset_of}
 use Rattle.traversal.proofs.laying.lay.bring.Goals as goal

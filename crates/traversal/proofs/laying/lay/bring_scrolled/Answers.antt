@@ -4,7 +4,7 @@ use Rattle.damage_rect.specs.Within.{LiesIn}
 use Rattle.geom_core.specs.Rects.{holds}
 use Rattle.geom_core.specs.declared.geometry.Rect.{Rect}
 use Rattle.view_tree.specs.Views.{Views, offset_of}
-use Rattle.traversal.proofs.FollowedViews.{unscrolled_in}
+use Rattle.traversal.proofs.sight.FollowedViews.{unscrolled_in}
 use Rattle.traversal.proofs.laying.lay.bring_scrolled.Goals as goal
 
 pub returns-then-not-bring_one-clause-seen : goal.returns-then-not-bring_one-clause-seen

@@ -1,8 +1,8 @@
 use Rattle.std.proofs.Common.{◌≡◌, true, false, refl, sym, ◌∙◌, ap}
 use Rattle.view_tree.specs.declared.node.state.State.{State}
 use Rattle.view_tree.specs.Views.{held_of}
-use Rattle.traversal.proofs.LaidAt.{settled_calm}
-use Rattle.traversal.proofs.RestLaws.{calm_is, calm_of}
+use Rattle.traversal.proofs.laid.LaidAt.{settled_calm}
+use Rattle.traversal.proofs.frames.RestLaws.{calm_is, calm_of}
 use Rattle.traversal.proofs.laying.lay.settle.Goals as goal
 
 pub returns-then-is_calm-clause-held : goal.returns-then-is_calm-clause-held

@@ -5,12 +5,14 @@ use Rattle.geom_core.specs.declared.measuring.Spec.{Spec}
 use Rattle.kept_views.specs.Kept.{Kept, Reached, firm, owed}
 use Rattle.kept_views.specs.Laying.{Brought, differ}
 use Rattle.kept_views.specs.Passes.{settled_at}
-use Rattle.kept_views.proofs.Brought.{brought-start}
-use Rattle.kept_views.proofs.LaidFrames.{differ-along}
+use Rattle.kept_views.proofs.laid.Brought.{brought-start}
+use Rattle.kept_views.proofs.laid.LaidFrames.{differ-along}
 use Rattle.measure_pass.specs.Caches.{Grown}
 use Rattle.measure_pass.specs.Measured.{current, size_under}
-use Rattle.measure_pass.proofs.Grows.{Grown-trans}
-use Rattle.measure_pass.proofs.Own.{current-is, is-current}
+use Rattle.measure_pass.proofs.held.Grows.{Grown-trans}
+use Rattle.measure_pass.proofs.held.Own.{current-is, is-current}
+use Rattle.measure_pass.proofs.Shares.{Shared-mono, SharesOut-trans}
+use Rattle.measure_pass.specs.Sharing.{SharesOut}
 use Rattle.view_model.specs.declared.facts.Facts.{Facts as FactsValue}
 use Rattle.view_model.specs.declared.work.Work.{Work}
 use Rattle.view_model.specs.Geometry.{Laid, rect_at}
@@ -22,12 +24,13 @@ use Rattle.std.proofs.Common.{List}
 use Rattle.view_tree.specs.Views.{plain_rows, IsTree, Views, held_of, plain_of, specs_of, state_of}
 use Rattle.view_tree.proofs.values.GeometryLaws.{laid_along}
 use Rattle.view_tree.proofs.values.KeptLaws.{is_tree-same}
-use Rattle.traversal.proofs.CountedLaws.{counted_then}
-use Rattle.traversal.proofs.GrownLaid.{grown_own}
-use Rattle.traversal.proofs.LaidAt.{brought_settled, settled_bounds, settled_measured, settled_specs}
-use Rattle.traversal.proofs.LaidWhole.{at_narrow, calls_whole, laid_whole, owed_none, ready_whole, root_alone, root_from, root_live, root_sized}
-use Rattle.traversal.proofs.SightLaws.{sight_whole, within_whole}
-use Rattle.traversal.proofs.Ranging.{cleared_firm, plain_brought}
+use Rattle.traversal.proofs.frames.CountedLaws.{counted_then}
+use Rattle.traversal.proofs.laid.GrownLaid.{grown_own}
+use Rattle.traversal.proofs.laid.LaidAt.{brought_settled, settled_bounds, settled_measured, settled_specs}
+use Rattle.traversal.proofs.laid.LaidWhole.{at_narrow, calls_whole, laid_whole, owed_none, ready_whole, root_alone, root_from, root_live, root_sized}
+use Rattle.traversal.proofs.SharesLaid.{shares_own}
+use Rattle.traversal.proofs.sight.SightLaws.{sight_whole, within_whole}
+use Rattle.traversal.proofs.offsets.Ranging.{cleared_firm, plain_brought}
 use Rattle.traversal.specs.Resting.{IsAtPlace}
 use Rattle.traversal.proofs.laying.whole.lay_root.Goals as goal
 
@@ -231,3 +234,31 @@ returns-clause-caches c =
     let two = subst (λ (specs : Specs). Grown (ok specs) mid after list) (m.measured.last ∙ specs) laid in
     let all : Grown (ok asked) before after list = Grown-trans (ok asked) before mid after list one two in
     rw (root_alone old root c.requires.root c.facts.ensures.is_tree.root) at all
+
+pub returns-clause-shares : goal.returns-clause-shares
+returns-clause-shares c =
+    let m = c.measure-size.ensures in
+    let old = c.args.tree.now.tree in
+    let root = c.args.root in
+    let before = held_of c.args.tree.now in
+    let mid = held_of c.measure-size.new.tree in
+    let after = held_of c.lay_open.new.tree in
+    let list = first_tree (part_from root old) in
+    let start = c.args.work.now.measured in
+    let between = c.measure-size.new.work.measured in
+    let end = c.lay_open.new.context.work.measured in
+    let pair = ap (λ (p : Spec × Spec). let specs : Specs = record { across = p.0; down = p.1 } in specs) c.specs_in.ensures in
+    let specs = pair ∙ ap (λ (facts : FactsValue). root_specs c.args.window facts) c.facts.ensures.value
+    ∙ ap (λ list. root_specs c.args.window (head_view list).facts) (root_from old c.args.root c.requires.root c.facts.ensures.is_tree.root) in
+    let ok : Specs → ℕ → Specs → Type 0 = λ specs place other. other ≡ specs in
+    let asked = root_specs c.args.window (head_view old).facts in
+    let one = subst (λ (specs : Specs). SharesOut (ok specs) (λ place. 1) before mid list start between) specs m.shares in
+    let laid = shares_own old root mid after between end (root_live old root c.requires.root) (rw m.same.tree at c.lay_open.ensures.done).shares in
+    let two = subst (λ (specs : Specs). SharesOut (ok specs) (λ place. 0) mid after list between end) (m.measured.last ∙ specs) laid in
+    let both = SharesOut-trans (ok asked) (λ place. 1) (λ place. 0) before mid after list start between end one two in
+    let all : SharesOut (ok asked) (λ place. 1) before after list start end = record {
+      count = both.count;
+      shared = Shared-mono (ok asked) (ok asked) (λ place. 1 + 0) (λ place. 1) before after list both.count (λ place other h. h) (λ place. omega arith) both.shared;
+      spent = both.spent;
+    } in
+    rw (root_alone old c.args.root c.requires.root c.facts.ensures.is_tree.root) at all

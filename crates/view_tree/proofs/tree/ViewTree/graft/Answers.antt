@@ -16,9 +16,9 @@ use Rattle.view_tree.specs.tree.Directions.{running_below}
 use Rattle.view_tree.specs.tree.Grafted.{Grafted}
 use Rattle.view_tree.specs.tree.Grafting.{AreGrafted, IsMadeUnless, entries_cycle}
 use Rattle.view_tree.specs.node.Nodes.{value_of, views_in}
-use Rattle.view_tree.specs.groups.Ordering.{HasNoOther, IsGrouped, group_at, orders_in}
+use Rattle.view_tree.specs.sibling_orders.Ordering.{HasNoOther, IsGrouped, group_at, orders_in}
 use Rattle.view_tree.specs.Views.{IsLive, Views, no_counts, number_of, orders_under, plain_of}
-use Rattle.view_tree.specs.declared.groups.Group.{Group}
+use Rattle.view_tree.specs.declared.sibling_orders.SiblingOrders.{SiblingOrders}
 use Rattle.view_tree.specs.declared.tree.ViewTree.TheInside.{Inside}
 use Rattle.view_tree.proofs.grafts.EntryLaws.{refused_or}
 use Rattle.view_tree.proofs.grafts.Grafts.{OutermostCame, outermost_came, room_for, taken}
@@ -93,8 +93,8 @@ returns-in-Err-clause-refused c =
     ap (λ list. graft_refusal (plain_of v) (option_map (number_of v) c.args.parent) (seeds_of list)) (sym c.deref.ensures.value) ∙ c.in_ok-may_take.ensures in
     let cycle = cycle-grafted (group_at c.self.inside.groups) v c.args.parent c.args.sapling.sprouts.items (is_tree c.self.inside v c.self.invariant.planted c.self.view_is) c.requires.live c.args.sapling.preorder
     (subst (λ (v : Views). IsGrouped (group_at c.self.inside.groups) (plain_of v)) c.self.view_is c.self.invariant.grouped) in
-    refused_or ℕ (Vec (ℕ × Group) Global) _ _ (entries_cycle v c.args.parent c.args.sapling.sprouts.items) c.in-Err.fault (λ entries. AreGrafted v c.args.parent c.args.sapling.sprouts.items entries.items) free cycle
-    (subst (λ (sprouts : List Sprout). IsMadeUnless {A = Vec (ℕ × Group) Global} (entries_cycle v c.args.parent sprouts) (λ entries. AreGrafted v c.args.parent sprouts entries.items) (Err c.in-Err.fault)) c.deref-2.ensures.value c.in-Err.ensures)
+    refused_or ℕ (Vec (ℕ × SiblingOrders) Global) _ _ (entries_cycle v c.args.parent c.args.sapling.sprouts.items) c.in-Err.fault (λ entries. AreGrafted v c.args.parent c.args.sapling.sprouts.items entries.items) free cycle
+    (subst (λ (sprouts : List Sprout). IsMadeUnless {A = Vec (ℕ × SiblingOrders) Global} (entries_cycle v c.args.parent sprouts) (λ entries. AreGrafted v c.args.parent sprouts entries.items) (Err c.in-Err.fault)) c.deref-2.ensures.value c.in-Err.ensures)
 
 pub invariant_of-self : goal.invariant_of-self
 invariant_of-self c =

@@ -7,7 +7,7 @@ use Rattle.damage_rect.specs.declared.bounding.Damage.{Damage}
 use Rattle.geom_core.specs.Rects.{is_empty}
 use Rattle.geom_core.specs.declared.geometry.Rect.{Rect}
 use Rattle.geom_core.specs.declared.geometry.Size.{Size}
-use Rattle.traversal.proofs.ShapeLaws.{count_of-same}
+use Rattle.traversal.proofs.laid.ShapeLaws.{count_of-same}
 use Rattle.traversal.specs.Frames.{after_frame as frame_of}
 use Rattle.traversal.specs.Covering.{HasShifted}
 use Rattle.view_world.proofs.frames.ShiftLaws.{shifted_in}

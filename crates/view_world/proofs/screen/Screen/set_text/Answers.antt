@@ -1,4 +1,4 @@
-use Rattle.std.proofs.Common.{◌≡◌, ℕ, List, Result, ap, ◌∙◌}
+use Rattle.std.proofs.Common.{◌≡◌, ℕ, List, Result, ap, sym, ◌∙◌}
 use Rattle.std.specs.Str.{chars}
 use Rattle.script_lines.specs.declared.words.naming.Name.{Name}
 use Rattle.tree_edits.specs.Editing.{SetText}
@@ -23,9 +23,18 @@ text_on tree now new name view bytes text result same found is changed =
 
 pub returns-clause-changed : goal.returns-clause-changed
 returns-clause-changed c =
-    text_on c.self.inside.tree c.args.self.now c.edit.new.self c.args.view c.in_ok-view.view c.as_str.result.now _ c.edit.result
-    (ap (λ (w : KeyedScreen). w.views) c.self.view_is) c.in_ok-view.ensures.1 (ap chars c.as_str.ensures.value ∙ c.in_ok-text.ensures.value) c.edit.ensures.changed
+    text_on c.self.inside.tree c.args.self.now c.edit-2.new.self c.args.view c.in_ok-view.view c.as_str.result.now _ c.edit-2.result
+    (ap (λ (w : KeyedScreen). w.views) c.self.view_is) c.in_ok-view.ensures.1 (ap chars c.as_str.ensures.value ∙ c.in_ok-text.ensures.value) c.edit-2.ensures.changed
 
 pub returns-clause-keeps : goal.returns-clause-keeps
 returns-clause-keeps c =
+    rw (named_on c.self.inside.tree c.args.self.now c.args.view c.in_ok-view.view (ap (λ (w : KeyedScreen). w.views) c.self.view_is) c.in_ok-view.ensures.1) c.edit-2.ensures.keeps
+
+pub returns-then-is_plain-clause-changed : goal.returns-then-is_plain-clause-changed
+returns-then-is_plain-clause-changed c =
+    text_on c.self.inside.tree c.args.self.now c.edit.new.self c.args.view c.in_ok-view.view c.args.text.now _ c.edit.result
+    (ap (λ (w : KeyedScreen). w.views) c.self.view_is) c.in_ok-view.ensures.1 (sym (c.is_plain.ensures.plain c.if-is_plain.true)) c.edit.ensures.changed
+
+pub returns-then-is_plain-clause-keeps : goal.returns-then-is_plain-clause-keeps
+returns-then-is_plain-clause-keeps c =
     rw (named_on c.self.inside.tree c.args.self.now c.args.view c.in_ok-view.view (ap (λ (w : KeyedScreen). w.views) c.self.view_is) c.in_ok-view.ensures.1) c.edit.ensures.keeps

@@ -7,8 +7,8 @@ use Rattle.whole_tool.specs.Carried.{Stacked, BytesWant, Refused, asked_by_bytes
 use Rattle.whole_tool.specs.Carrier.{WritesLine, carried_of}
 use Rattle.whole_tool.specs.Run.{HasTallied}
 use Rattle.whole_tool.specs.declared.carrier.Carrier.{Carrier}
-use Rattle.whole_tool.proofs.CarrierLaws.{have_numbers, numbers_after, same_stack, writes_stack}
-use Rattle.whole_tool.proofs.TallyLaws.{done_in_stack, tallied_stack}
+use Rattle.whole_tool.proofs.lines.CarrierLaws.{have_numbers, numbers_after, same_stack, writes_stack}
+use Rattle.whole_tool.proofs.costs.TallyLaws.{done_in_stack, tallied_stack}
 use Rattle.window_stack.specs.StackLines.{plain_line}
 use Rattle.whole_tool.proofs.carrier.Carrier.stacked_line.Goals as goal
 

@@ -2,7 +2,7 @@ use Rattle.std.proofs.Common.{ap, sym, subst, ◌∙◌}
 use Rattle.whole_tool.specs.Carrier.{carried_of}
 use Rattle.whole_tool.specs.Focus.{AsksWith}
 use Rattle.whole_tool.specs.Works.{trace}
-use Rattle.whole_tool.proofs.EndLaws.{ends_with}
+use Rattle.whole_tool.proofs.endings.EndLaws.{ends_with}
 use Rattle.whole_tool.proofs.FocusLaws.{asks_with}
 use Rattle.whole_tool.proofs.focusing.Question.carry_out.Goals as goal
 

@@ -3,12 +3,12 @@ use Rattle.std.specs.Io.KnownBytes.{Appends}
 use Rattle.std.specs.Prelude.{Err}
 use Rattle.text_lines.specs.Prefix.{AppendsPrefix}
 use Rattle.view_model.specs.Refusals.{plain_refusal}
-use Rattle.whole_tool.specs.Refusals.{refused_line}
+use Rattle.tool_replies.specs.Refusals.{refused_line}
 use Rattle.whole_tool.specs.Run.{line_now}
 use Rattle.whole_tool.specs.Works.{trace}
 use Rattle.whole_tool.specs.Tally.{tally_from}
-use Rattle.whole_tool.proofs.RunLaws.{after_from-lines, carried_refused, carried_sink, done_at, done_part, not_done, not_done_fetch, not_done_memory, passed_line, refused_at, refused_part, works_before, works_to_fetch}
-use Rattle.whole_tool.proofs.TallyLaws.{is_done_sink}
+use Rattle.whole_tool.proofs.lines.RunLaws.{after_from-lines, carried_refused, carried_sink, done_at, done_part, not_done, not_done_fetch, not_done_memory, passed_line, refused_at, refused_part, works_before, works_to_fetch}
+use Rattle.whole_tool.proofs.costs.TallyLaws.{is_done_sink}
 use Rattle.whole_tool.proofs.run.LineRunner.line.Goals as goal
 
 pub returns-then-is_passed-clause-done : goal.returns-then-is_passed-clause-done

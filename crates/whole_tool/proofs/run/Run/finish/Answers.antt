@@ -2,8 +2,8 @@ use Rattle.std.proofs.Common.{◌≡◌, ◌∷◌, ◌++◌, []}
 use Rattle.script_lines.specs.cutting.Lines.{Text, LongLine, cut_of, lines_of}
 use Rattle.whole_tool.specs.Tally.{tally_from}
 use Rattle.whole_tool.specs.Transcript.{after_from}
-use Rattle.whole_tool.proofs.RunLaws.{after_from-push, counted_short, last_none, last_one, lines_short}
-use Rattle.whole_tool.proofs.TallyLaws.{tally_from-push}
+use Rattle.whole_tool.proofs.lines.RunLaws.{after_from-push, counted_short, last_none, last_one, lines_short}
+use Rattle.whole_tool.proofs.costs.TallyLaws.{tally_from-push}
 use Rattle.whole_tool.proofs.run.Run.finish.Goals as goal
 
 pub returns-in-No-clause-done : goal.returns-in-No-clause-done

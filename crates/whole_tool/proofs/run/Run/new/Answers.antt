@@ -2,8 +2,8 @@ use Rattle.std.proofs.Common.{refl, arith}
 use Rattle.text_lines.proofs.Prefixes.{appends_none}
 use Rattle.whole_tool.specs.Tally.{tally_from}
 use Rattle.whole_tool.specs.Transcript.{after_from}
-use Rattle.whole_tool.proofs.CarrierLaws.{first_next, first_watching}
-use Rattle.whole_tool.proofs.SumLaws.{worth_none}
+use Rattle.whole_tool.proofs.lines.CarrierLaws.{first_next, first_watching}
+use Rattle.whole_tool.proofs.costs.SumLaws.{worth_none}
 use Rattle.whole_tool.proofs.run.Run.new.Goals as goal
 
 pub returns-clause-following : goal.returns-clause-following

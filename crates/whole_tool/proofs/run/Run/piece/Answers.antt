@@ -5,7 +5,7 @@ use Rattle.std.specs.Prelude.{◌≡◌, Err}
 use Rattle.script_lines.specs.cutting.Lines.{cut_of}
 use Rattle.whole_tool.specs.Run.{HasReadUpTo, StopsIn}
 use Rattle.whole_tool.specs.Works.{trace}
-use Rattle.whole_tool.proofs.LongScriptLaws.{rest_short, taken_more, taken_rest, taken_short}
+use Rattle.whole_tool.proofs.lines.LongScriptLaws.{rest_short, taken_more, taken_rest, taken_short}
 use Rattle.whole_tool.proofs.run.Run.piece.Goals as goal
 
 pub loop-at-preserved : goal.loop-at-preserved

@@ -6,7 +6,7 @@ use Rattle.script_lines.specs.cutting.Lines.{Line, cut_of}
 use Rattle.whole_tool.specs.Run.{line_now}
 use Rattle.whole_tool.specs.Tally.{tally_from}
 use Rattle.whole_tool.specs.Transcript.{after_from}
-use Rattle.whole_tool.proofs.RunLaws.{after_more, after_passed, after_same, counted_short, front_short, lines_short, passed_few, stops_in_piece}
+use Rattle.whole_tool.proofs.lines.RunLaws.{after_more, after_passed, after_same, counted_short, front_short, lines_short, passed_few, stops_in_piece}
 use Rattle.whole_tool.proofs.run.Run.take.Goals as goal
 
 pub returns-then-passed-gt0-clause-done : goal.returns-then-passed-gt0-clause-done

@@ -9,7 +9,7 @@ use Rattle.whole_tool.specs.Transcript.{after_line}
 use Rattle.whole_tool.specs.Works.{Trace, trace}
 use Rattle.whole_tool.specs.declared.run.LineRunner.{LineRunner}
 use Rattle.view_world.specs.frames.Watched.{no_costs}
-use Rattle.whole_tool.proofs.SessionLaws.{answered_line, at_line, few_lines, ran_line, unwritten}
+use Rattle.whole_tool.proofs.lines.SessionLaws.{answered_line, at_line, few_lines, ran_line, unwritten}
 use Rattle.whole_tool.proofs.session.Session.line.Goals as goal
 
 at_next : (files : Files) (script line : List ℕ) (first now : Trace) (runner : LineRunner) (tally : Tally) (l : Line) → l ≡ line_of line

@@ -1,5 +1,5 @@
 use Rattle.std.proofs.Common.{refl}
-use Rattle.whole_tool.proofs.SessionLaws.{runs_nothing}
+use Rattle.whole_tool.proofs.lines.SessionLaws.{runs_nothing}
 use Rattle.whole_tool.proofs.session.Session.new.Goals as goal
 
 pub returns : goal.returns

@@ -1,0 +1,8 @@
+-- Laws of views that are laid out.
+pub mod Brought
+pub mod Keys
+pub mod LaidCalm
+pub mod LaidFrames
+pub mod LaidRows
+pub mod PlacedKids
+pub mod SameCourse

@@ -1,0 +1,6 @@
+-- Laws of the rules by which classes measure their children.
+pub mod FrameLaws
+pub mod Lawful
+pub mod Laws
+pub mod LeafLaws
+pub mod LinearLaws

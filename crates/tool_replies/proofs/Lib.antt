@@ -1,0 +1,5 @@
+pub mod DumpLaws
+pub mod EndingLaws
+mod LookupLaws
+pub mod NameLaws
+mod RefusalExamples

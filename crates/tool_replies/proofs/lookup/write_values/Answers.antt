@@ -1,0 +1,6 @@
+use Rattle.text_lines.proofs.Sending.{delivered}
+use Rattle.tool_replies.proofs.lookup.write_values.Goals as goal
+
+pub returns : goal.returns
+returns g c =
+    delivered c.finish.result c.new-reply.ensures c.put_values.ensures c.finish.ensures.sends c.finish.ensures.empty c.finish.ensures.whole c.finish.ensures.failed

@@ -1,0 +1,3 @@
+-- Laws of the map from views to nodes.
+pub mod EntryCounts
+pub mod LastEntries

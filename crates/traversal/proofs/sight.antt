@@ -1,0 +1,4 @@
+-- Laws of what is seen of views while they are laid out.
+pub mod CoverLaws
+pub mod FollowedViews
+pub mod SightLaws

@@ -1,0 +1,13 @@
+use Rattle.std.proofs.Common.{◌≡◌, ◌≤◌, ◌-◌, length, drop}
+use Rattle.std.specs.Str.{bytes_eq}
+use Rattle.view_model.proofs.words.is.Given as goal
+
+abbrev pub invariant-loop-at : goal.invariant-loop-at
+invariant-loop-at l = record {
+  within : l.at ≤ length l.word;
+  long : length l.word ≡ length l.name;
+  same : bytes_eq (drop l.at l.word) (drop l.at l.name) ≡ bytes_eq l.word l.name;
+}
+
+abbrev pub decreases-loop-at : goal.decreases-loop-at
+decreases-loop-at l = length l.word - l.at

@@ -1,0 +1,4 @@
+-- Laws of how a run ends.
+pub mod EndLaws
+pub mod StatusLaws
+pub mod ToolLaws

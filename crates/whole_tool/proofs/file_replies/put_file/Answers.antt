@@ -1,7 +1,0 @@
-use Rattle.text_lines.proofs.Sending.{◌⨾◌}
-use Rattle.whole_tool.specs.Dump.{refused_file_text}
-use Rattle.whole_tool.proofs.file_replies.put_file.Goals as goal
-
-pub returns : goal.returns
-unfolding refused_file_text
-returns g c = c.put.ensures ⨾ c.put_refused.ensures ⨾ c.put-2.ensures

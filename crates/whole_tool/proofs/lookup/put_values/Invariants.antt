@@ -1,9 +1,0 @@
-use Rattle.std.proofs.Common.{take}
-use Rattle.text_lines.specs.BufferedText.{Sends}
-use Rattle.text_lines.specs.Joined.{texts_of}
-use Rattle.whole_tool.specs.Lookup.{word_line}
-use Rattle.whole_tool.proofs.lookup.put_values.Given as goal
-
-abbrev pub invariant-loop-word : goal.invariant-loop-word
-invariant-loop-word g l =
-    Sends (g.K.Sink.state l.fn.sink) (g.K.Sink.state l.sink) l.fn.reply l.reply (texts_of (word_line l.table) (take l.word-index l.ids))

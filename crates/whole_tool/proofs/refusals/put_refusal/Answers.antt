@@ -1,7 +1,0 @@
-use Rattle.text_lines.proofs.Sending.{◌⨾◌}
-use Rattle.whole_tool.specs.Refusals.{refused_line}
-use Rattle.whole_tool.proofs.refusals.put_refusal.Goals as goal
-
-pub returns : goal.returns
-unfolding refused_line
-returns g c = c.put.ensures ⨾ c.natural.ensures ⨾ c.put-2.ensures ⨾ c.put_refused.ensures ⨾ c.put_detail.ensures ⨾ c.put-3.ensures

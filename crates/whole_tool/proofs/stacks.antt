@@ -1,0 +1,3 @@
+-- Laws of stacks of windows.
+pub mod StackPageLaws
+pub mod WatchedLaws
