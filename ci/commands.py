@@ -1,5 +1,6 @@
 """The words that may follow `vindaesk`: each is in the help with an example that runs, and each tool is one of them."""
 import os
+import re
 import shutil
 import subprocess
 import tempfile
@@ -10,6 +11,8 @@ from vindaesk.command_line import commands
 
 # commands that run these checks, or go on until they are ended
 ENDLESS = ("test", "preview", "serve")
+# commands whose example finds what is wrong, or ends without a goodbye
+FOUND = {"check": 1, "language": 1, "lint": 1}
 # words that are near another one
 NEAR = {"tre": "tree", "screenshoot": "screenshot", "lnt": "lint", "Run": "run", "lokup": "lookup", "vers": "version"}
 
@@ -34,18 +37,18 @@ def examples_run() -> str:
             if "vindaesk %s" % it.name not in it.use.example:
                 return "the example of %s is '%s'" % (it.name, it.use.example)
             status, _, said = call(it.use.example, folder) if it.name not in ENDLESS else (0, "", "")
-            if status not in (0, 1) or "Traceback" in said or "error:" in said:
+            if status != FOUND.get(it.name, 0) or "Traceback" in said or "error:" in said:
                 return "%s: status %d, '%s'" % (it.use.example, status, said)
     return ""
 
 
 def all_are_in_the_help() -> str:
     """`vindaesk help`, and `vindaesk --help`, list each command with its example."""
-    said = call("vindaesk help")[2]
+    said = call("vindaesk help")[1]
     for it in commands.every():
         if "\n  %-12s%s\n      %s\n" % (it.name, it.use.summary, it.use.example) not in said:
             return "%s is not in it" % it.name
-    return "" if call("vindaesk --help")[2] == said else "help and --help print other things"
+    return "" if call("vindaesk --help") == (0, said, "") else "help and --help print other things"
 
 
 def tools_are_commands() -> str:
@@ -69,6 +72,16 @@ def each_helps() -> str:
     return ""
 
 
+def help_on_a_full_disk() -> str:
+    """What help and versions print is lost with a sentence and the status 4, whether Python holds it back or not."""
+    for words in ("help", "help tree", "tree --help", "tree --version", "version"):
+        for buffered in ("", "PYTHONUNBUFFERED=1"):
+            status, _, said = call("%s vindaesk %s > /dev/full" % (buffered, words))
+            if status != 4 or not re.fullmatch("vindaesk( [a-z]+)?: standard output: .*\n", said):
+                return "%s: status %d, '%s'" % (words, status, said)
+    return ""
+
+
 def near_words_are_asked_for() -> str:
     """A word that is none is reported with the one that is near."""
     for word, meant in NEAR.items():
@@ -80,5 +93,6 @@ def near_words_are_asked_for() -> str:
 
 def checks() -> Iterator[Tuple[str, Callable[[], str]]]:
     """The checks of this file."""
-    for check in (examples_run, all_are_in_the_help, tools_are_commands, each_helps, near_words_are_asked_for):
+    for check in (examples_run, all_are_in_the_help, tools_are_commands, each_helps, help_on_a_full_disk,
+                  near_words_are_asked_for):
         yield "the commands: " + check.__name__.replace("_", " "), check

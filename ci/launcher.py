@@ -154,7 +154,7 @@ def asks_for_help() -> str:
     with repository(is_built=False) as it:
         for word in ("--help", "-h", "help"):
             ended = it.call([word])
-            if (ended.status, ended.out, "usage: vindaesk WORD" in ended.said) != (0, b"", True):
+            if (ended.status, ended.said, b"usage: vindaesk WORD" in ended.out) != (0, "", True):
                 return "%s: status %d, '%s'" % (word, ended.status, ended.said)
         for words in WRONG:
             ended = it.call(words)
@@ -183,7 +183,7 @@ def hints() -> str:
 
 def example_of_help() -> str:
     """The usage's own example, over the program."""
-    said = subprocess.run(["./vindaesk", "--help"], cwd=TOP, stderr=subprocess.PIPE).stderr.decode()
+    said = subprocess.run(["./vindaesk", "--help"], cwd=TOP, stdout=subprocess.PIPE).stdout.decode()
     command, *answer = re.findall(r"^    (\S.*)$", said, re.M)
     written, _ = run(["bash", "-c", command], b"", TOP)
     return "" if written.decode().splitlines() == answer else "it writes '%s'" % written.decode()

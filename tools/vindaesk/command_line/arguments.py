@@ -3,7 +3,7 @@ import argparse
 import io
 import os
 import sys
-from typing import Any, Callable, List, NamedTuple, Optional, Sequence
+from typing import Any, Callable, List, NamedTuple, NoReturn, Optional, Sequence
 
 from ..common import files
 from ..common.failures import Failure, NOT_RUN
@@ -43,9 +43,23 @@ def columns() -> int:
         return WIDTH
 
 
+class Parser(argparse.ArgumentParser):
+    """A parser for which a standard output that cannot be written is an error, as it is for what a tool writes."""
+
+    def print_help(self, file: Any = None) -> None:
+        """Prints the help. That of argparse passes over errors."""
+        (file or sys.stdout).write(self.format_help())
+
+    def exit(self, status: int = 0, message: Optional[str] = None) -> NoReturn:
+        """Ends the process, after what was printed is written."""
+        if status == 0:
+            sys.stdout.flush()
+        super().exit(status, message)
+
+
 def parser(doc: str) -> argparse.ArgumentParser:
     """A parser whose help is a tool's docstring, and which knows `--version`."""
-    found = argparse.ArgumentParser(description=doc, formatter_class=Formatter)
+    found = Parser(description=doc, formatter_class=Formatter)
     found.add_argument("--version", action=ShowVersion, nargs=0, help="prints the version")
     return found
 

@@ -20,7 +20,7 @@ from ..scripts.resource_names import Names
 from . import arguments
 from .uses import Purpose, Use
 
-USE = Use(Purpose.READ, "vindaesk axml inbox/res/layout/inbox.xml out.xml",
+USE = Use(Purpose.READ, "vindaesk axml inbox/res/layout/inbox.xml out.xml --ids inbox/ids.txt",
           "compiles the source of a layout, or makes a source of a compiled one")
 
 

@@ -14,7 +14,7 @@ from ..lint import refused_lines
 from . import arguments, many
 from .uses import Purpose, Use
 
-USE = Use(Purpose.CHECK, "vindaesk check faults.script", "which lines of a script are refused, at which word, and why")
+USE = Use(Purpose.CHECK, "vindaesk check refusals.script", "which lines of a script are refused, at which word, and why")
 
 
 def reader() -> argparse.ArgumentParser:

@@ -60,7 +60,7 @@ FORMS: Dict[str, Form] = {
         Use(Purpose.READ, "vindaesk dump page.xml", "prints a compiled layout file"),
         "docs/FORMATS.md has the form of layout files, and of what is printed.", (NAME,)),
     "lookup": Form(
-        Use(Purpose.READ, "cd app && vindaesk lookup values.arsc 7f050000",
+        Use(Purpose.READ, "cd app && vindaesk lookup resources.arsc 7f050000",
             "prints what resources hold in a compiled table"),
         "docs/FORMATS.md has the form of resource tables, and of what is printed.",
         (NAME, ("ID", "the number of a resource, 8 hex digits; up to 64"))),

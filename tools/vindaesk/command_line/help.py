@@ -64,7 +64,7 @@ def unknown(word: str) -> Failure:
 def main(words: Optional[Sequence[str]] = None) -> int:
     given: List[str] = sys.argv[1:] if words is None else list(words)
     if not given:
-        print(every(), end="", file=sys.stderr)
+        print(every(), end="")
         return 0
     if len(given) > 1 or given[0] in ("-h", "--help", "--version"):
         reader().parse_args(given)
