@@ -5,6 +5,7 @@ import glob
 import json
 import os
 import shutil
+import zipfile
 from functools import partial
 from typing import Any, Iterator, List, Set, Tuple
 
@@ -123,6 +124,19 @@ def writes_a_folder() -> str:
             return "the tree is another one: %r" % tree[1][:200]
         ids = it.read("made/ids.txt").decode().splitlines()
         return "" if any(line.startswith("vindaesk.trips:id/book = 0x7f") for line in ids) else "the ids are %s" % ids
+
+
+def names_files_of_the_app() -> str:
+    """A page says of a view in which file of the app it is, and names no file that was made for the page."""
+    with place() as it:
+        why = unlike(it.call("app", TRIPS, "home", "--page", "a.html"), 0, None, "")
+        data = it.read("a.html").split(b'<script id="data" type="application/json">')[1].split(b"</script>")[0]
+        places = [[at["file"] for at in source["places"]] for source in json.loads(data)["sources"].values()]
+        with zipfile.ZipFile(TRIPS) as app:
+            strange = {name for names in places for name in names} - set(app.namelist())
+        # the content of the window is of no file
+        return why or ("it names %s" % sorted(strange) if strange else "") or (
+            "" if [len(names) for names in places] == [0, *[1] * (len(places) - 1)] else "places: %s" % places)
 
 
 def marks_what_is_not_exact() -> str:
@@ -268,6 +282,7 @@ def checks() -> Checks:
     yield "app: the report fits its schema", fits_schema
     yield "app: a folder of scripts", writes_a_folder
     yield "app: marks", marks_what_is_not_exact
+    yield "app: a page names files of the app", names_files_of_the_app
     yield "app: lint", lint_names_the_source
     yield "app: check", check_names_the_source
     yield "app: configurations", takes_configurations

@@ -53,7 +53,8 @@ def whole_page(screen: Screen) -> bytes:
     """The page of a layout."""
     with script_of(screen) as made:
         refused = Refused(made)
-        found = page.recorded(made, refused, 1)
+        # script and compiled file are gone once the page is there
+        found = page.recorded(made, refused, 1, (files.named(made.file), screen.name + ".xml"))
     check(screen, refused)
     return page.page(screen.name, found)
 

@@ -3,7 +3,7 @@ import base64
 import hashlib
 import json
 import os
-from typing import Dict, Iterator, List, Optional
+from typing import Container, Dict, Iterator, List, Optional
 
 from ..common import embedding
 from ..common.failures import Failure
@@ -67,9 +67,9 @@ def picture_record(picture: Picture, body: bytes) -> Record:
 class Recording:
     """What there is to show of a script, put together as answers come: at most a number of frames."""
 
-    def __init__(self, made: Script, most: int):
+    def __init__(self, made: Script, most: int, hidden: Container[str] = ()):
         self.tree = view_tree.Tree(made.folder, made.ids, made.written)
-        self.most = most
+        self.most, self.hidden = most, hidden
         self.pictures, self.views = Pool(), Pool()
         # what made the views, by their numbers
         self.sources: Dict[int, Optional[Record]] = {}
@@ -120,15 +120,15 @@ class Recording:
             if it.view.of_app:
                 record["app"] = placement.mark(it.view).strip()
             if it.view.number not in self.sources:
-                self.sources[it.view.number] = placement.source_record(it.view.source)
+                self.sources[it.view.number] = placement.source_record(it.view.source, self.hidden)
             places.append(self.views.place(json.dumps(record).encode(), record))
         place = self.pictures.place(hashlib.sha256(body).digest(), picture_record(picture, body))
         self.steps.append({"line": self.line, "picture": place, "views": places, "events": self.events})
 
 
-def recorded(made: Script, refused: Refused, most: int) -> Recording:
-    """What there is to show of a script. Refused lines are reported on the way."""
-    found = Recording(made, most)
+def recorded(made: Script, refused: Refused, most: int, hidden: Container[str] = ()) -> Recording:
+    """What there is to show of a script, without places in the files `hidden`. Refused lines are reported on the way."""
+    found = Recording(made, most, hidden)
     for part, answer in replies.answers(list(parts_of(made.lines)), made.folder):
         if part.first:
             refused.add_all(part, answer)

@@ -1,5 +1,5 @@
 """Where the views of a script lie, in their parents and in the window, and how a tree is written."""
-from typing import Dict, List, NamedTuple, Optional, Tuple
+from typing import Container, Dict, List, NamedTuple, Optional, Tuple
 
 from ..common.failures import Failure, WRONG
 from ..scripts import replies
@@ -176,15 +176,16 @@ def place_record(it: Place) -> Dict[str, object]:
     return {"file": it.file, "line": it.line, "column": it.column or None}
 
 
-def source_record(it: Optional[Source]) -> Optional[Dict[str, object]]:
-    """What made a view as JSON has it."""
+def source_record(it: Optional[Source], made: Container[str] = ()) -> Optional[Dict[str, object]]:
+    """What made a view as JSON has it, without the places in files that a tool made for itself."""
     if it is None:
         return None
     found = {
         name: {"written": at.written, "resolved": at.resolved, "resources": at.resources, "origin": at.origin}
         for name, at in it.attributes.items()
     }
-    return {"element": it.element, "places": [place_record(at) for at in it.places], "attributes": found,
+    places = [place_record(at) for at in it.places if at.file not in made]
+    return {"element": it.element, "places": places, "attributes": found,
             "added": it.is_added, "exact_bounds": it.has_exact_bounds, "exact_picture": it.has_exact_picture}
 
 
