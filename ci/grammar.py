@@ -239,7 +239,7 @@ def names_elements() -> str:
             if why:
                 return "%s %s: %s" % (kind, rest, why)
         it.put("a.xml", LAYOUT)
-        said = "-:1:9: 5 NotXml: this is the source of a layout; tools/axml compiles it\n"
+        said = "-:1:9: 5 NotXml: this is the source of a layout; %s compiles it\n" % os.path.join(TOP, "tools", "axml")
         return unlike(it.call("check", "-", given="inflate a.xml"), 1, said.encode(), "")
 
 

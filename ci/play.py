@@ -22,6 +22,7 @@ from running import PROGRAM, SECONDS, TOP, Checks, difference, named, need, run
 from vindaesk.building import play
 from vindaesk.common import files
 from vindaesk.common.failures import Failure
+from vindaesk.common.messages import tool
 from vindaesk.layouts import attributes, compiler, faults
 from vindaesk.layouts.documents import ANDROID, Attribute, End, Start, Value
 from vindaesk.lint import refused_lines
@@ -135,8 +136,8 @@ def made_of(case: Case) -> Iterator[Tuple[Script, str]]:
 def messages(made: Script, form: str, folder: str) -> List[List[Any]]:
     """What `vindaesk check` says of a script, line by line."""
     place = folder + os.sep
-    return [["" if it.file.endswith("-own") else it.file[len(place) :], it.line, it.column, it.title, it.why.replace(place, "")]
-            for it in refused_lines.findings(made, form)]
+    return [["" if it.file.endswith("-own") else it.file[len(place) :], it.line, it.column, it.title,
+             it.why.replace(place, "").replace(tool("axml"), "tools/axml")] for it in refused_lines.findings(made, form)]
 
 
 def rows(made: Script) -> List[str]:

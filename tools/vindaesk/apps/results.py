@@ -6,7 +6,7 @@ from typing import Dict, List, Sequence
 
 from ..common import files
 from ..common.failures import NOT_RUN, Failure
-from ..common.messages import printable
+from ..common.messages import printable, tool
 from ..layouts.app_elements import REPORT, VERSION
 from . import report, writer
 from .app import Screen
@@ -19,7 +19,7 @@ def unknown(name: str, known: Sequence[str]) -> str:
     """Says that an app has no layout of a name, and which name may be meant."""
     near = difflib.get_close_matches(name, known, 1)
     return "the app has no layout '%s'%s" % (
-        printable(name), "; did you mean '%s'?" % near[0] if near else "; --list prints their names"
+        printable(name), "; did you mean '%s'?" % near[0] if near else "; %s --list prints their names" % tool("app")
     )
 
 

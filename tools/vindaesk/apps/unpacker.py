@@ -5,7 +5,7 @@ from typing import Container, Dict, Iterable, Iterator, List, NamedTuple, Option
 
 from ..common import progress
 from ..common.failures import Failure
-from ..common.messages import shown
+from ..common.messages import shown, tool
 from ..layouts import attributes, dimensions, documents
 from ..layouts.documents import REFERENCE, Start
 from ..program import process
@@ -15,6 +15,8 @@ from .archives import Archive, failure
 LAYOUT = re.compile(r"res/layout(-[^/]+)?/([^/]+)\.xml")
 TABLE = "resources.arsc"
 SCRIPT = "resources.lines"
+# after the refusal of a string: what most likely is the reason
+EMOJI = "; aapt2 writes an emoji in a form that is no UTF-8, and %s reads it"
 UNSAYABLE = re.compile(r"[^A-Za-z0-9_.-]")
 MAX_NAME = 64
 # the longest files that the program reads, and how much of an app is taken
@@ -110,7 +112,9 @@ def answers(ids: List[int], folder: str) -> Tuple[List[str], str]:
         if status == 2:
             return [], "this program has no lookup"
         if status == 1:
-            return [], "%s is %s" % (TABLE, shown(written.rstrip(b"\n")[len(b"file: ") :]))
+            why = shown(written.rstrip(b"\n")[len(b"file: ") :])
+            hint = EMOJI % tool("app") if why.startswith("refused 4 ") else ""
+            return [], "%s is %s%s" % (TABLE, why, hint)
         if status:
             raise process.failed(status)
         found += written.decode().split("\n")[:-1]

@@ -61,7 +61,7 @@ class Files:
         if refusal.number == MISSING:
             return REFUSALS[MISSING].why + guess(name, tuple(sorted(os.listdir(self.folder))))
         if refusal.number == NOT_XML and self.is_source(name):
-            return sentences.SOURCE
+            return sentences.SOURCE % messages.tool("axml")
         offset = OFFSET.search(refusal.text)
         if offset and refusal.number in REFUSALS:
             return sentences.AT_BYTE % (REFUSALS[refusal.number].why, int(offset[1]))

@@ -12,6 +12,7 @@ from ..apps import app, app_files, report, single, source_tree, writer
 from ..apps.app import Request
 from ..common import files
 from ..common.failures import NOT_RUN, WRONG, Failure
+from ..common.messages import tool
 from ..layouts import compiler, source_reader
 from ..lint import refused_lines
 from ..program.statuses import MAX_SCRIPT
@@ -351,8 +352,8 @@ def subject(
         raise Failure("%s cannot be read: No such file or directory" % path, NOT_RUN)
     if os.path.isdir(path) or app_files.APK.fullmatch(path):
         if len(names_of) != 1:
-            raise Failure("of an app one layout is shown: name it after %s; vindaesk app %s --list prints their names" % (
-                path, path), NOT_RUN)
+            raise Failure("of an app one layout is shown: name it after %s; %s %s --list prints their names" % (
+                path, tool("app"), path), NOT_RUN)
         found = AppSubject(paths, names_of[0], theme, framework)
         # a name that the app has not, and an app that cannot be read, end the call
         found.load()

@@ -32,7 +32,7 @@ MANY_INCLUDES = "files include others more than %d deep, or %d times"
 NO_FILE = "there is no file %s"
 LONG_INCLUDE = "with this file the script has more than %d bytes"
 # of a layout file
-SOURCE = "this is the source of a layout; tools/axml compiles it"
+SOURCE = "this is the source of a layout; %s compiles it"
 AT_BYTE = "%s, at the byte %d"
 IN_LINE = "%s in line %d"
 THERE_ARE = ": there are %s"
