@@ -156,6 +156,32 @@ IN_BROKEN = [
 ]
 
 
+# what aapt2 links, and refuses, with the resources of Android 10
+FITTING = (
+    'layout_width=" 10dp "', 'padding="-4dp"', 'background="#123"', 'layout_weight="1e2"', 'clipToPadding="TRUE"',
+    'gravity="center"', 'minWidth="5in"', 'layout_margin=".5dp"', 'text=""', 'layout_alignParentLeft="true"',
+)
+UNFIT = (
+    'layout_width="10"', 'layout_width="10 dp"', 'padding="0"', 'background="#12"', 'background="red"', 'background=""',
+    'textColor="#12"', 'layout_weight="1dp"', 'layout_weight=""', 'gravity="17"', 'orientation="1"', 'visibility="2"',
+    'clipToPadding="1"', 'fillViewport="yes"', 'id="foo"', 'layout_toLeftOf="true"',
+)
+ONE_VIEW = '<TextView xmlns:android="http://schemas.android.com/apk/res/android"%s android:layout_height="8dp"\n    android:%s/>'
+
+
+def finds_values_that_do_not_fit() -> str:
+    """Values of the outermost element too are those of `aapt2`; a value by data binding may be any."""
+    with place() as it:
+        for written in (*FITTING, *UNFIT, 'text="@{a.b}"', 'background="?android:attr/colorAccent"'):
+            size = "" if "layout_width" in written else ' android:layout_width="match_parent"'
+            it.put("a.xml", ONE_VIEW % (size, written))
+            status, out, said = it.call("lint", "a.xml", "--only", "wrong-value")
+            wanted = b"wrong-value: v2 TextView: android:" + written.encode() if written in UNFIT else b""
+            if (status, said) != (int(bool(wanted)), "") or wanted not in out or out.count(b"\n") != status:
+                return "%s: status %d, %r, '%s'" % (written, status, out, said)
+        return ""
+
+
 def finds_broken_sources() -> str:
     """What aapt or Android refuses in a source is an error, in a project and of a file by itself, which has no
     resources; a view has the name of its element; and what is no XML has a place."""
@@ -299,6 +325,6 @@ def wrong_scripts() -> str:
 
 def checks() -> Checks:
     yield from named("the lint", (
-        finds, measures_texts, lays_out_a_matrix, takes_apps, finds_broken_sources, names_circles, finds_once,
-        takes_folders_of_sources, own_rules, wrong_scripts,
+        finds, measures_texts, lays_out_a_matrix, takes_apps, finds_broken_sources, finds_values_that_do_not_fit, names_circles,
+        finds_once, takes_folders_of_sources, own_rules, wrong_scripts,
     ))

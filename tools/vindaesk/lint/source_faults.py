@@ -6,6 +6,8 @@ from ..apps import boxes, draft
 from ..apps.report import Note, Record
 from ..apps.source_tree import SourceTree
 from ..apps.source_xml import REFERENCE
+from ..layouts import attributes, documents, values
+from ..scripts.resource_names import Names
 from ..views.facts import Place
 from . import registry
 from .findings import Finding
@@ -38,6 +40,19 @@ def of_note(record: Record, note: Note) -> Iterator[Fault]:
         yield Fault(REQUIRED_SIZE, "", "it has no %s, and Android refuses it" % key)
 
 
+def unfit_in(record: Record) -> Iterator[Fault]:
+    """The attributes of docs/FORMATS.md whose value, as an element has it, `aapt2` refuses. A value that is the name of
+    a resource, or that data binding has, is not looked at."""
+    for key, text in record.written.items():
+        prefix, _, name = key.partition(":")
+        if prefix != "android" or text.lstrip().startswith(("@", "?")):
+            continue
+        try:
+            values.read(text, attributes.form_of(documents.ANDROID, name), Names())
+        except values.Unfit:
+            yield Fault(WRONG_VALUE, key, draft.UNFIT)
+
+
 def missing_in(record: Record, trees: List[SourceTree]) -> Iterator[Fault]:
     """The resources that an element names, and that its project does not have. Styles may be those of libraries."""
     for key, text in record.written.items():
@@ -54,6 +69,7 @@ def faults_of(record: Record, trees: List[SourceTree]) -> Iterator[Fault]:
     """What is broken at an element."""
     for note in record.notes:
         yield from of_note(record, note)
+    yield from unfit_in(record)
     yield from missing_in(record, trees)
 
 
