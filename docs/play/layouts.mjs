@@ -59,7 +59,8 @@ export class Faults {
     detail(name, text) {
         const number = Number(text.split(" ")[1]), why = this.reasons.known(number).why;
         if (number === MISSING) return why + this.reasons.grammar.guess(name, Object.keys(this.files).sort());
-        if (number === NOT_XML && this.files[name] && isXml(this.files[name])) return filled(this.say.SOURCE, "tools/axml");
+        const isSource = number === NOT_XML && this.files[name] && isXml(this.files[name]);
+        if (isSource) return filled(this.say.SOURCE, "tools/axml");
         const offset = / at ([0-9]+)$/.exec(text);
         if (offset) return filled(this.say.AT_BYTE, why, offset[1]);
         const form = number === CYCLE ? / e([1-9][0-9]*)/g : / element ([1-9][0-9]*)$/g;
