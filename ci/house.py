@@ -6,7 +6,10 @@
     unreached           a definition or a lemma that no code, and no answer to a goal of code, uses, and that is not for its
                         own sake by the comment above it (definitions.py)
     twice               a record or a data type whose name another one has too
+    law twice           a definition or a lemma of at least 100 characters whose text, without comments and `pub`,
+                        another file has too. What the goals of a function ask for, and what has their types, is no law
     many parameters     a function with more than five, `self` not counted
+    many arguments      a definition that is no record and no data type with more than six, types in braces not counted
     wide clause         a function with a line of its contract above 120 columns
     repeated clause     a formula in more than four clauses, in place of a name. A predicate of names is no formula, and
                         `result ≡ []` and `self.new ≡ self.old` are as short as a name
@@ -33,6 +36,8 @@ from running import TOP, Checks
 
 KNOWN = os.path.join(TOP, "ci", "house.txt")
 MOST_PARAMETERS, MOST_COLUMNS, MOST_LINES, MOST_IN_BODY, MOST_CLAUSES = 5, 120, 800, 40, 4
+SHORTEST_LAW = 100
+MOST_ARGUMENTS = 6
 SHOWN = 12
 USE = re.compile(r"^[ \t]*(pub(?:\([a-z]+\))? )?(ghost )?use ([^;]+);", re.M)
 ANTT_USE = re.compile(r"^use (\S+?)(?:\.\{([^}]*)\}| as (\S+))?$", re.M)
@@ -42,6 +47,8 @@ SCRIPTS = ("docs/play/*.mjs", "bindings/web/*.mjs", "ci/*.mjs")
 SCRIPTED = re.compile(r"^( *)(?!(?:if|for|while|switch|class|\})\b)\S.*(?:\)|=>) \{$")
 FUNCTION = re.compile(r"^( *)(?:pub(?:\([a-z]+\))? )?(?:const )?fn (\w+)", re.M)
 WORD = re.compile(r"[\w']+")
+# arguments of a definition with their type
+GROUP = re.compile(r"([({])([^(){}:]+) : ([^(){}]+)[)}]")
 CLAUSE = re.compile(r"\b(?:requires|ensures)\*?(?: [\w-]+)? \{")
 TEXT = re.compile(r'"(\\.|[^"\\\n])*"')
 # what a predicate of names does not have: an operator or a number
@@ -50,6 +57,8 @@ FORMULA = re.compile(r"[≡≢≤<>→↔⊎×¬λ∷+*/%^&|∙-]|(?<![\w.])\d")
 SAME = re.compile(r"(?:result|self\.new) ≡ (?:\[\]|\w+(?:\.(?:now|old))?)")
 # the end of a line of a clause at which a record begins
 RECORD = re.compile(r"\brecord( [^{}]*)? \{$")
+# the line at which a definition or a lemma begins
+LAW = re.compile(r"(\s*)(?:(?:abbrev|unfoldable|pub)\s+)*([^\s:(){},]+)\s*(?:[({].*[)}]\s*)?:(?:\s|$)")
 # traits of libraries, which calls of their methods use without the name
 TRAITS = {"ByteOrder", "Digest", "Shelf", "Sink", "Source"}
 
@@ -97,6 +106,48 @@ class Function:
                 given = split(text[begun + 1 : place])
                 return sum(not re.fullmatch(r"(&('\w+ )?)?(mut )?self(: .*)?", it) for it in given)
         return 0
+
+
+def signature(it: definitions.Definition) -> str:
+    """A definition's name and type, in one line."""
+    text = definitions.COMMENT.sub("", "\n".join(it.lines))
+    return " ".join(re.split(r"\n(?=\S)", text)[0].split())
+
+
+def bound(part: str) -> int:
+    """How many arguments a part of a type before an arrow is for: one, or those that it names."""
+    if GROUP.sub("", part).strip():
+        return 1
+    return sum(len(names.split()) for bracket, names, kind in GROUP.findall(part)
+               if bracket == "(" or not kind.startswith("Type"))
+
+
+def arguments(text: str) -> int:
+    """How many arguments a definition of this signature has, without types in braces."""
+    flat, depth = "", 0
+    for it in text:
+        depth -= it in ")}"
+        # brackets in others bind none
+        if depth == 0 or depth == 1 and it not in "(){}":
+            flat += it
+        depth += it in "({"
+    return sum(map(bound, re.split(r"(?:→|\s:\s)(?![^({]*[)}])", flat)[1:-1]))
+
+
+def many_arguments(files: Iterable[definitions.File]) -> Iterator[str]:
+    """The definitions of functions and predicates with too many arguments."""
+    for file in files:
+        for it in file.definitions:
+            if not it.kind and arguments(signature(it)) > MOST_ARGUMENTS:
+                yield "many arguments: %s: %s" % (below_top(it.path), it.name)
+
+
+def example_of_arguments() -> str:
+    """Why arguments are not counted as they should be."""
+    texts = ("abbrev pub a : ℕ", "abbrev pub b : ℕ → (ℕ → ℕ) → List (ℕ × ℕ) → ℕ × ℕ",
+             "pub c : {A B : Type 0} (n m : ℕ) {k : ℕ} (f : (n : ℕ) → A) → A → (k : ℕ) × (k < n) → Type 0")
+    counts = [arguments(text) for text in texts]
+    return "" if counts == [0, 3, 6] else "found %s" % counts
 
 
 def functions(text: str) -> Iterator[Function]:
@@ -221,6 +272,34 @@ def twice(files: Iterable[definitions.File]) -> Iterator[str]:
         yield from ("twice: %s: %s" % (path, name) for path in paths if len(paths) > 1)
 
 
+def laws(text: str) -> Iterator[Tuple[str, str]]:
+    """The definitions and lemmas of a file, those inside others too, that no goal of a function asks for: the name and
+    the text of each, without comments, in one line."""
+    plain = definitions.COMMENT.sub("", text)
+    goals = [names for module, names, _ in ANTT_USE.findall(plain) if module.endswith(".Goals")]
+    own = {name.strip() for names in goals for name in names.split(",")}
+    for part in re.split(r"\n\s*\n", ANTT_USE.sub("", plain)):
+        lines = part.split("\n")
+        begun = {at: named for at, named in enumerate(map(LAW.match, lines)) if named and any(
+            line.startswith(named[1] + named[2] + " ") for line in lines[at + 1 :])}
+        for (at, named), end in zip(begun.items(), [*begun, len(lines)][1:]):
+            words = " ".join([lines[at][named.start(2) :], *lines[at + 1 : end]]).split()
+            law = " ".join(words[:-1] if words[-1] == "where" else words)
+            if ": goal." not in law and not own.intersection(definitions.TOKEN.findall(law)):
+                yield named[2], law
+
+
+def laws_twice(texts: Dict[str, str]) -> Iterator[str]:
+    """The laws that are in two files, by the paths and the texts of the files."""
+    places: Dict[Tuple[str, str], Set[str]] = {}
+    for path, text in texts.items():
+        for it in laws(text):
+            places.setdefault(it, set()).add(path)
+    for (name, law), paths in places.items():
+        if len(law) >= SHORTEST_LAW and len(paths) > 1:
+            yield from ("law twice: %s: %s" % (path, name) for path in paths)
+
+
 def scripted(text: str) -> Iterator[Tuple[str, int]]:
     """The functions of a file of JavaScript: the line at which the body of each begins, and how many lines it has."""
     lines = text.split("\n")
@@ -254,6 +333,8 @@ def found() -> List[str]:
     every += [line for path in code + specs + proofs for line in long_file(path)]
     every += [line for form in SCRIPTS for path in glob.glob(os.path.join(TOP, form)) for line in of_script(path)]
     every += twice(files)
+    every += laws_twice({below_top(path): read(path) for path in specs + proofs})
+    every += many_arguments(file for file in files if file.path in specs)
     every += ["unreached: %s: %s" % (below_top(it.path), it.name) for it in definitions.unreached(files)]
     return sorted(set(every))
 
@@ -284,13 +365,23 @@ def example() -> str:
     kinds = ("requires live { IsLive tree.old view }", "ensures { OnOk result (AreOf self.new) }", "ensures { result ≡ [] }",
              "requires few { length kids.now\n    ≤ max_views }", "ensures a { IfOk result (λ n. Is n) }", "requires { Is (2 ^ 3) x }")
     often = [line.partition(": ")[2] for line in repeated(["\n".join(kinds)] * 5 + [kinds[5]])]
+    law = "same : (n m : ℕ)\n    → n ≡ m → m ≡ n\nsame n m e = %s\n" % " ∙ ".join(["(sym e)"] * 20)
+    goal = law.replace("same", "returns").replace("(n m : ℕ)", "goal.returns (n m : ℕ)")
+    own = "use a.Goals.{After}\n\n" + law.replace("same", "after").replace("ℕ", "After")
+    inside = "f : ℕ\nf = 0\n  where\n    " + law.replace("\n", "\n    ")
+    proofs = {"a": "-- A.\npub " + law + "\n" + goal + "\n" + own, "b": goal + "\n" + inside,
+              "c": "-- B.\nabbrev pub " + law.replace("same", "other"), "d": own + "\n-- C.\nabbrev " + law}
+    same = sorted(laws_twice(proofs))
     right = ([("f", 2, 1), ("g", 0, 0)], ["D"], [5, 1],
-             ["length kids.now ≤ max_views", "IfOk result (λ n. Is n)", "Is (2 ^ 3) x"])
-    return "" if (counts, names, sizes, often) == right else "found %s, %s, %s, %s" % (counts, names, sizes, often)
+             ["length kids.now ≤ max_views", "IfOk result (λ n. Is n)", "Is (2 ^ 3) x"],
+             ["law twice: %s: same" % path for path in "abd"])
+    given = (counts, names, sizes, often, same)
+    return "" if given == right else "found %s, %s, %s, %s, %s" % given
 
 
 def checks() -> Checks:
     yield "the house: the patterns themselves", example
+    yield "the house: how many arguments a definition has", example_of_arguments
     yield "the house: unused, unreached, twice, wide and long", problem
 
 

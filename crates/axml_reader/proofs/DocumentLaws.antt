@@ -123,14 +123,14 @@ closes_by_all : (o : Option StringPool) (rest : List StringPool) (only : StringP
 closes_by_all None rest only stack b e below a = absurd (omega (arith, below))
 closes_by_all (Some pool) rest only stack b e below a = subst (λ (p : StringPool). allows (same_text (Some p)) stack (Closes b) ≡ true) (sym (first_is pool only rest e)) a
 
-node_agrees : (bytes : List ℕ) (before place : ℕ) (chunk : Chunk) (o : Option StringPool) (rest : List StringPool) (only : StringPool) (stack : Stack) (node : Node) (attrs : List Attr)
-    → IsNode bytes (strings o) before place chunk node attrs → pools_before o ++ rest ≡ only ∷ []
+node_agrees : (bytes : List ℕ) (before : ℕ) (p : Place) (o : Option StringPool) (rest : List StringPool) (only : StringPool) (stack : Stack) (node : Node) (attrs : List Attr)
+    → IsNode bytes (strings o) before p node attrs → pools_before o ++ rest ≡ only ∷ []
     → allows (same_text (Some only)) stack (token node) ≡ true → allows (same_text o) stack (token node) ≡ true
-node_agrees bytes before place chunk o rest only stack (NsStart prefix uri) attrs is e a = refl
-node_agrees bytes before place chunk o rest only stack (NsEnd prefix uri) attrs is e a = refl
-node_agrees bytes before place chunk o rest only stack (Start line ns name first n) attrs is e a = a
-node_agrees bytes before place chunk o rest only stack (End line ns name) attrs is e a = closes_by_all o rest only stack name e is.name_at.below a
-node_agrees bytes before place chunk o rest only stack (Chars line text kind word) attrs is e a = refl
+node_agrees bytes before p o rest only stack (NsStart prefix uri) attrs is e a = refl
+node_agrees bytes before p o rest only stack (NsEnd prefix uri) attrs is e a = refl
+node_agrees bytes before p o rest only stack (Start line ns name first n) attrs is e a = a
+node_agrees bytes before p o rest only stack (End line ns name) attrs is e a = closes_by_all o rest only stack name e is.name_at.below a
+node_agrees bytes before p o rest only stack (Chars line text kind word) attrs is e a = refl
 
 -- parts that follow each other make the brackets
 stack_with : (s : State) (parts : List Part) (only : StringPool) → pools_before s.pool ++ pools_of parts ≡ only ∷ [] → Turns s parts
@@ -172,7 +172,7 @@ comes bytes before s (p ∷ ps) (Item node attrs ∷ rest) only u each e b few =
     let step = allowed_then (allows (same_text (Some only)) s.stack (token node)) (brackets (same_text (Some only)) (turned s.stack (token node)) (map token (nodes_of rest))) u b in
     let later = comes bytes (before + length attrs) (with_part s (Item node attrs)) ps rest only u each.1 e step.1 (omega (arith, few)) in
     record {
-      turns = (record { fresh = tt; allowed = node_agrees bytes before p.at p.chunk s.pool (pools_of rest) only s.stack node attrs each.0 e step.0; few = λ more. omega (arith, few, more) }, later.turns);
+      turns = (record { fresh = tt; allowed = node_agrees bytes before p s.pool (pools_of rest) only s.stack node attrs each.0 e step.0; few = λ more. omega (arith, few, more) }, later.turns);
       stack_is = later.stack_is;
     }
 comes bytes before s (p ∷ ps) (Other ∷ rest) only u each e b few =

@@ -6,7 +6,6 @@ use Rattle.std.proofs.lemmas.Bool.{eq-eqb, ne_eqb, cases_eq, lt-ltb, le-leb}
 use Rattle.std.proofs.lemmas.List.Elements.{All-cons, All-append}
 use Rattle.std.proofs.lemmas.List.Sums.{sum_by_more_le}
 use Rattle.std.proofs.lemmas.Option.{slice_get-get_or}
-use Rattle.axml_chunks.specs.declared.chunk.Chunk.{Chunk}
 use Rattle.axml_chunks.specs.Pool.{StringPool}
 use Rattle.axml_chunks.specs.Short.{IsShort}
 use Rattle.axml_reader.specs.declared.doc.Attr.{Attr}
@@ -42,12 +41,12 @@ refers low high n le (inr below) = test_by_reference high n (inr (omega (arith, 
 names : (low high n : ℕ) → low ≤ high → n < low → ltb n high ≡ true
 names low high n le below = lt-ltb n high (omega (arith, le, below))
 
-node_strings : (bytes : List ℕ) (low high before place : ℕ) (chunk : Chunk) (node : Node) (attrs : List Attr) → low ≤ high → IsNode bytes low before place chunk node attrs → has_strings high node ≡ true
-node_strings bytes low high before place chunk (NsStart prefix uri) attrs le is = both_true (is_reference high prefix) (is_reference high uri) (refers low high prefix le is.prefix_at.refers) (refers low high uri le is.uri_at.refers)
-node_strings bytes low high before place chunk (NsEnd prefix uri) attrs le is = both_true (is_reference high prefix) (is_reference high uri) (refers low high prefix le is.prefix_at.refers) (refers low high uri le is.uri_at.refers)
-node_strings bytes low high before place chunk (Start line ns name first n) attrs le is = both_true (is_reference high ns) (ltb name high) (refers low high ns le is.ns_at.refers) (names low high name le is.name_at.below)
-node_strings bytes low high before place chunk (End line ns name) attrs le is = both_true (is_reference high ns) (ltb name high) (refers low high ns le is.ns_at.refers) (names low high name le is.name_at.below)
-node_strings bytes low high before place chunk (Chars line text kind word) attrs le is = refers low high text le is.text_at.refers
+node_strings : (bytes : List ℕ) (low high before : ℕ) (p : Place) (node : Node) (attrs : List Attr) → low ≤ high → IsNode bytes low before p node attrs → has_strings high node ≡ true
+node_strings bytes low high before p (NsStart prefix uri) attrs le is = both_true (is_reference high prefix) (is_reference high uri) (refers low high prefix le is.prefix_at.refers) (refers low high uri le is.uri_at.refers)
+node_strings bytes low high before p (NsEnd prefix uri) attrs le is = both_true (is_reference high prefix) (is_reference high uri) (refers low high prefix le is.prefix_at.refers) (refers low high uri le is.uri_at.refers)
+node_strings bytes low high before p (Start line ns name first n) attrs le is = both_true (is_reference high ns) (ltb name high) (refers low high ns le is.ns_at.refers) (names low high name le is.name_at.below)
+node_strings bytes low high before p (End line ns name) attrs le is = both_true (is_reference high ns) (ltb name high) (refers low high ns le is.ns_at.refers) (names low high name le is.name_at.below)
+node_strings bytes low high before p (Chars line text kind word) attrs le is = refers low high text le is.text_at.refers
 
 value_strings : (low high kind word : ℕ) → low ≤ high → (kind ≡ 3 → word < low) → (not (eqb kind 3) || ltb word high) ≡ true
 value_strings low high kind word le below =
@@ -77,30 +76,30 @@ all_attr_strings bytes low high place step n attrs le are k d lt =
 no_attr_strings : (high : ℕ) (attrs : List Attr) → attrs ≡ [] → All (AttrStrings high) attrs
 no_attr_strings high attrs e k d lt = (let len : length attrs ≡ 0 = ap (λ (l : List Attr). length l) e in absurd (omega (arith, len, lt)))
 
-attrs_of_node : (bytes : List ℕ) (low high before place : ℕ) (chunk : Chunk) (node : Node) (attrs : List Attr) → low ≤ high → IsNode bytes low before place chunk node attrs → All (AttrStrings high) attrs
-attrs_of_node bytes low high before place chunk (NsStart prefix uri) attrs le is = no_attr_strings high attrs is.no_attrs
-attrs_of_node bytes low high before place chunk (NsEnd prefix uri) attrs le is = no_attr_strings high attrs is.no_attrs
-attrs_of_node bytes low high before place chunk (Start line ns name first n) attrs le is = all_attr_strings bytes low high _ _ n attrs le is.attrs_at
-attrs_of_node bytes low high before place chunk (End line ns name) attrs le is = no_attr_strings high attrs is.no_attrs
-attrs_of_node bytes low high before place chunk (Chars line text kind word) attrs le is = no_attr_strings high attrs is.no_attrs
+attrs_of_node : (bytes : List ℕ) (low high before : ℕ) (p : Place) (node : Node) (attrs : List Attr) → low ≤ high → IsNode bytes low before p node attrs → All (AttrStrings high) attrs
+attrs_of_node bytes low high before p (NsStart prefix uri) attrs le is = no_attr_strings high attrs is.no_attrs
+attrs_of_node bytes low high before p (NsEnd prefix uri) attrs le is = no_attr_strings high attrs is.no_attrs
+attrs_of_node bytes low high before p (Start line ns name first n) attrs le is = all_attr_strings bytes low high _ _ n attrs le is.attrs_at
+attrs_of_node bytes low high before p (End line ns name) attrs le is = no_attr_strings high attrs is.no_attrs
+attrs_of_node bytes low high before p (Chars line text kind word) attrs le is = no_attr_strings high attrs is.no_attrs
 
 -- the attributes of a node are after those before it
-node_within : (bytes : List ℕ) (count before place len : ℕ) (chunk : Chunk) (node : Node) (attrs : List Attr) → before + length attrs ≤ len → IsNode bytes count before place chunk node attrs → is_within len node ≡ true
-node_within bytes count before place len chunk (NsStart prefix uri) attrs le is = refl
-node_within bytes count before place len chunk (NsEnd prefix uri) attrs le is = refl
-node_within bytes count before place len chunk (Start line ns name first n) attrs le is = le-leb (first + n) len (omega (arith, le, is.first_is, is.attrs_at.count_is))
-node_within bytes count before place len chunk (End line ns name) attrs le is = refl
-node_within bytes count before place len chunk (Chars line text kind word) attrs le is = refl
+node_within : (bytes : List ℕ) (count before : ℕ) (p : Place) (len : ℕ) (node : Node) (attrs : List Attr) → before + length attrs ≤ len → IsNode bytes count before p node attrs → is_within len node ≡ true
+node_within bytes count before p len (NsStart prefix uri) attrs le is = refl
+node_within bytes count before p len (NsEnd prefix uri) attrs le is = refl
+node_within bytes count before p len (Start line ns name first n) attrs le is = le-leb (first + n) len (omega (arith, le, is.first_is, is.attrs_at.count_is))
+node_within bytes count before p len (End line ns name) attrs le is = refl
+node_within bytes count before p len (Chars line text kind word) attrs le is = refl
 
 abbrev Within : ℕ → Node → Type 0
 Within len node = is_within len node ≡ true
 
-node_few : (bytes : List ℕ) (count before place : ℕ) (chunk : Chunk) (node : Node) (attrs : List Attr) → IsNode bytes count before place chunk node attrs → has_few_attrs node ≡ true
-node_few bytes count before place chunk (NsStart prefix uri) attrs is = refl
-node_few bytes count before place chunk (NsEnd prefix uri) attrs is = refl
-node_few bytes count before place chunk (Start line ns name first n) attrs is = le-leb n 256 is.few
-node_few bytes count before place chunk (End line ns name) attrs is = refl
-node_few bytes count before place chunk (Chars line text kind word) attrs is = refl
+node_few : (bytes : List ℕ) (count before : ℕ) (p : Place) (node : Node) (attrs : List Attr) → IsNode bytes count before p node attrs → has_few_attrs node ≡ true
+node_few bytes count before p (NsStart prefix uri) attrs is = refl
+node_few bytes count before p (NsEnd prefix uri) attrs is = refl
+node_few bytes count before p (Start line ns name first n) attrs is = le-leb n 256 is.few
+node_few bytes count before p (End line ns name) attrs is = refl
+node_few bytes count before p (Chars line text kind word) attrs is = refl
 
 abbrev FewAttrs : Node → Type 0
 FewAttrs node = has_few_attrs node ≡ true
@@ -130,10 +129,10 @@ keep bytes o before len (p ∷ ps) (Item node attrs ∷ rest) only each e le =
     let sum : length (attrs ++ attrs_of rest) ≡ length attrs + length (attrs_of rest) = length-append attrs (attrs_of rest) in
     let k = keep bytes o (before + length attrs) len ps rest only each.1 e (omega (arith, le, sum)) in
     record {
-      node_names = All-cons (NodeStrings high) node (nodes_of rest) (node_strings bytes (strings o) high before p.at p.chunk node attrs more each.0) k.node_names;
-      attr_names = All-append (AttrStrings high) attrs (attrs_of rest) (attrs_of_node bytes (strings o) high before p.at p.chunk node attrs more each.0) k.attr_names;
-      within = All-cons (Within len) node (nodes_of rest) (node_within bytes (strings o) before p.at len p.chunk node attrs (omega (arith, le, sum)) each.0) k.within;
-      few_attrs = All-cons FewAttrs node (nodes_of rest) (node_few bytes (strings o) before p.at p.chunk node attrs each.0) k.few_attrs;
+      node_names = All-cons (NodeStrings high) node (nodes_of rest) (node_strings bytes (strings o) high before p node attrs more each.0) k.node_names;
+      attr_names = All-append (AttrStrings high) attrs (attrs_of rest) (attrs_of_node bytes (strings o) high before p node attrs more each.0) k.attr_names;
+      within = All-cons (Within len) node (nodes_of rest) (node_within bytes (strings o) before p len node attrs (omega (arith, le, sum)) each.0) k.within;
+      few_attrs = All-cons FewAttrs node (nodes_of rest) (node_few bytes (strings o) before p node attrs each.0) k.few_attrs;
     }
 keep bytes o before len (p ∷ ps) (Other ∷ rest) only each e le =
     (let k = keep bytes o (before + 0) len ps rest only each.1 e (omega (arith, le)) in record { node_names = k.node_names; attr_names = k.attr_names; within = k.within; few_attrs = k.few_attrs })

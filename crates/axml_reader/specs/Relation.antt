@@ -98,17 +98,22 @@ pub record IsCharsNode (bytes : List ℕ) (count place : ℕ) (chunk : Chunk) (l
   pub word_is : word ≡ number32 bytes (place + chunk.head + chars_word_offset)
   pub no_attrs : attrs ≡ []
 
--- the node of the chunk at a place, with its attributes
-abbrev pub IsNode : List ℕ → ℕ → ℕ → ℕ → Chunk → Node → List Attr → Type 0
-IsNode bytes count before place chunk (NsStart prefix uri) attrs =
-    IsNamespace bytes count place namespace_start_kind chunk prefix uri attrs
-IsNode bytes count before place chunk (NsEnd prefix uri) attrs =
-    IsNamespace bytes count place namespace_end_kind chunk prefix uri attrs
-IsNode bytes count before place chunk (Start line ns name first n) attrs =
-    IsStartNode bytes count before place chunk line ns name first n attrs
-IsNode bytes count before place chunk (End line ns name) attrs = IsEndNode bytes count place chunk line ns name attrs
-IsNode bytes count before place chunk (Chars line text kind word) attrs =
-    IsCharsNode bytes count place chunk line text kind word attrs
+-- a chunk and where it is
+pub record Place : Type 0 where
+  pub at : ℕ
+  pub chunk : Chunk
+
+-- the node of a chunk, with its attributes
+abbrev pub IsNode : List ℕ → ℕ → ℕ → Place → Node → List Attr → Type 0
+IsNode bytes count before p (NsStart prefix uri) attrs =
+    IsNamespace bytes count p.at namespace_start_kind p.chunk prefix uri attrs
+IsNode bytes count before p (NsEnd prefix uri) attrs =
+    IsNamespace bytes count p.at namespace_end_kind p.chunk prefix uri attrs
+IsNode bytes count before p (Start line ns name first n) attrs =
+    IsStartNode bytes count before p.at p.chunk line ns name first n attrs
+IsNode bytes count before p (End line ns name) attrs = IsEndNode bytes count p.at p.chunk line ns name attrs
+IsNode bytes count before p (Chars line text kind word) attrs =
+    IsCharsNode bytes count p.at p.chunk line text kind word attrs
 
 -- a chunk of a kind that is passed over
 pub record IsOther (kind : ℕ) : Type 0 where
@@ -125,13 +130,9 @@ abbrev pub IsPart : List ℕ → Option StringPool → ℕ → ℕ → Chunk →
 IsPart bytes pool before place chunk (Strings strings) = (chunk.kind ≡ pool_kind) × IsPool bytes place chunk strings
 IsPart bytes pool before place chunk (Ids ids) =
     (chunk.kind ≡ map_kind) × (ids ≡ words_at bytes (place + chunk.head) ((chunk.size - chunk.head) / 4))
-IsPart bytes pool before place chunk (Item node attrs) = IsNode bytes (strings pool) before place chunk node attrs
+IsPart bytes pool before place chunk (Item node attrs) =
+    IsNode bytes (strings pool) before (record { at = place; chunk = chunk }) node attrs
 IsPart bytes pool before place chunk Other = IsOther chunk.kind
-
--- a chunk and where it is
-pub record Place : Type 0 where
-  pub at : ℕ
-  pub chunk : Chunk
 
 -- these chunks follow one another, from a place to the end
 abbrev pub Fills : List ℕ → ℕ → ℕ → List Place → Type 0

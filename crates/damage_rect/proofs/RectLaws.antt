@@ -1,13 +1,11 @@
 -- Points of the intersection of two rectangles, and of the smallest rectangle around both.
 use Rattle.std.proofs.Common.{◌≡◌, ℤ, ◌≤ℤ◌, ◌<ℤ◌, pos, ◌-ℤ◌, Bool, true, false, refl, sym, ◌∙◌, arith}
+use Rattle.std.proofs.lemmas.Bool.{and_parts}
 use Rattle.std.specs.Prelude.{◌&&◌, ◌||◌, not, int_lt, if◌then◌else◌}
 use Rattle.std.proofs.lemmas.Int.{ints}
 use Rattle.geom_core.specs.declared.geometry.Rect.{Rect}
-use Rattle.geom_core.specs.Rects.{around_of, holds, hull_of, is_empty, larger_of, meet_of, overlap_of, smaller_of}
+use Rattle.geom_core.specs.Rects.{around_of, empty_rect, holds, hull_of, is_empty, larger_of, meet_of, overlap_of, smaller_of}
 use Rattle.damage_rect.specs.Within.{IsInside, LiesIn}
-
-abbrev pub no_rect : Rect
-no_rect = record { left = pos 0; top = pos 0; right = pos 0; bottom = pos 0 }
 
 -- a place between two edges
 abbrev pub among : ℤ → ℤ → ℤ → Bool
@@ -31,10 +29,6 @@ overlap_holds a b x y =
 
 -- what a test of two has shown
 module _ where
-  pub both : (s t : Bool) → (s && t) ≡ true → (s ≡ true) × (t ≡ true)
-  both true t e = (refl, e)
-  both false t e = absurd (cc)
-
   pub and_true : (s t : Bool) → s ≡ true → t ≡ true → (s && t) ≡ true
   and_true s t e f = rw (e, f) refl
 
@@ -63,9 +57,9 @@ ge_test a b h = grind (arith, ints)
 
 pub between : (rect : Rect) (x y : ℤ) → holds rect x y ≡ true → Between rect x y
 between rect x y e =
-    let h = both (among rect.left rect.right x) (among rect.top rect.bottom y) e in
-    let across = both (not (int_lt x rect.left)) (int_lt x rect.right) h.0 in
-    let down = both (not (int_lt y rect.top)) (int_lt y rect.bottom) h.1 in
+    let h = and_parts (among rect.left rect.right x) (among rect.top rect.bottom y) e in
+    let across = and_parts (not (int_lt x rect.left)) (int_lt x rect.right) h.0 in
+    let down = and_parts (not (int_lt y rect.top)) (int_lt y rect.bottom) h.1 in
     record { left = ge_of x rect.left across.0; right = lt_of x rect.right across.1; top = ge_of y rect.top down.0; bottom = lt_of y rect.bottom down.1 }
 
 pub is_between : (rect : Rect) (x y : ℤ) → Between rect x y → holds rect x y ≡ true
@@ -91,10 +85,10 @@ none_by l r t b x y e = grind (arith, ints)
 pub empty_none : (rect : Rect) (x y : ℤ) → is_empty rect ≡ true → holds rect x y ≡ false
 empty_none rect x y e = none_by rect.left rect.right rect.top rect.bottom x y e
 
-pub holds_none : (x y : ℤ) → holds no_rect x y ≡ false
-holds_none x y = empty_none no_rect x y refl
+pub holds_none : (x y : ℤ) → holds empty_rect x y ≡ false
+holds_none x y = empty_none empty_rect x y refl
 
-meet_by : (a b : Rect) (x y : ℤ) (t : Bool) → is_empty (overlap_of a b) ≡ t → holds (if t then no_rect else overlap_of a b) x y ≡ (holds a x y && holds b x y)
+meet_by : (a b : Rect) (x y : ℤ) (t : Bool) → is_empty (overlap_of a b) ≡ t → holds (if t then empty_rect else overlap_of a b) x y ≡ (holds a x y && holds b x y)
 meet_by a b x y true e = holds_none x y ∙ sym (empty_none (overlap_of a b) x y e) ∙ overlap_holds a b x y
 meet_by a b x y false e = overlap_holds a b x y
 
@@ -111,9 +105,17 @@ absurd_test false e f = absurd (cc)
 pub empty_within : (inner outer : Rect) → is_empty inner ≡ true → LiesIn inner outer
 empty_within inner outer e x y h = absurd_test (holds inner x y) h (empty_none inner x y e)
 
+-- a point outside of a rectangle is outside of what lies in it
+pub outside : (less more : Rect) → LiesIn less more → (x y : ℤ) → holds more x y ≡ false → holds less x y ≡ false
+outside less more grew x y out = by (holds less x y) refl
+  where
+    by : (t : Bool) → holds less x y ≡ t → holds less x y ≡ false
+    by true e = absurd (let f : true ≡ false = sym (grew x y e) ∙ out in cc)
+    by false e = e
+
 -- what two have in common lies in the second
 pub meet_within_second : (a b : Rect) → LiesIn (meet_of a b) b
-meet_within_second a b x y h = (both (holds a x y) (holds b x y) (sym (meet_holds a b x y) ∙ h)).1
+meet_within_second a b x y h = (and_parts (holds a x y) (holds b x y) (sym (meet_holds a b x y) ∙ h)).1
 
 empty_by : (rect : Rect) → ((x y : ℤ) → holds rect x y ≡ false) → (t : Bool) → is_empty rect ≡ t → t ≡ true
 empty_by rect none true e = refl
@@ -125,7 +127,7 @@ empty_by rect none false e =
     sym (none rect.left rect.top) ∙ has
 
 -- what two without a common point have in common
-pub meet_none : (a b : Rect) → ((x y : ℤ) → (holds a x y && holds b x y) ≡ false) → meet_of a b ≡ no_rect
+pub meet_none : (a b : Rect) → ((x y : ℤ) → (holds a x y && holds b x y) ≡ false) → meet_of a b ≡ empty_rect
 unfolding meet_of
 meet_none a b none =
     let empty : is_empty (overlap_of a b) ≡ true = empty_by (overlap_of a b) (λ x y. overlap_holds a b x y ∙ none x y) (is_empty (overlap_of a b)) refl in
@@ -150,7 +152,7 @@ around_second a b x y h = record {
 }
 
 abbrev hull_by : Bool → Bool → Rect → Rect → Rect
-hull_by none_a none_b a b = if none_a then (if none_b then no_rect else b) else (if none_b then a else around_of a b)
+hull_by none_a none_b a b = if none_a then (if none_b then empty_rect else b) else (if none_b then a else around_of a b)
 
 hull_first : (a b : Rect) (s t : Bool) → is_empty a ≡ s → is_empty b ≡ t → LiesIn a (hull_by s t a b)
 hull_first a b true t e f x y h = absurd_test (holds a x y) h (empty_none a x y e)
@@ -197,7 +199,7 @@ around_least a b box p q x y h =
     })
 
 least : (a b box : Rect) (s t : Bool) → is_empty a ≡ s → is_empty b ≡ t → LiesIn a box → LiesIn b box → LiesIn (hull_by s t a b) box
-least a b box true true e f p q x y h = absurd_test (holds no_rect x y) h (holds_none x y)
+least a b box true true e f p q x y h = absurd_test (holds empty_rect x y) h (holds_none x y)
 least a b box true false e f p q x y h = q x y h
 least a b box false true e f p q x y h = p x y h
 least a b box false false e f p q x y h = around_least a b box (inside a box (wide a e) p) (inside b box (wide b f) q) x y h

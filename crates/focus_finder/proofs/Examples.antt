@@ -2,13 +2,13 @@
 use Rattle.std.proofs.Common.{◌≡◌, ℕ, pos, List, [], ◌∷◌, Some, None, refl}
 use Rattle.geom_core.specs.Rects.{larger_of, meet_of, smaller_of}
 use Rattle.geom_core.specs.declared.geometry.Size.{Size}
+use Rattle.view_model.proofs.ExampleViews.{view, at}
 use Rattle.view_model.specs.Facts.{new_facts}
 use Rattle.view_model.specs.Forest.{Forest, Nothing, Branch}
 use Rattle.view_model.specs.Geometry.{Laid}
 use Rattle.view_model.specs.PlainTree.{PlainView}
 use Rattle.view_model.specs.declared.facts.Facts.{Facts}
 use Rattle.view_model.specs.declared.answer.Answer.TheVariants.{Yes, Click}
-use Rattle.view_model.specs.declared.class.Class.{Class}
 use Rattle.view_model.specs.declared.class.Class.TheVariants as class
 use Rattle.view_model.specs.declared.visibility.Visibility.TheVariants.{Invisible}
 use Rattle.focus_finder.specs.Focus.{distance_of, next_focus}
@@ -19,12 +19,6 @@ plain = new_facts (pos 0) (pos 0)
 
 clicking : Facts
 clicking = record plain { answer = Click }
-
-view : ℕ → Class → Facts → PlainView
-view number class facts = record { number = number; class = class; facts = facts; text = [] }
-
-at : ℕ → ℕ → ℕ → ℕ → ℕ → Laid
-at number left top right bottom = record { number = number; rect = record { left = pos left; top = pos top; right = pos right; bottom = pos bottom } }
 
 button : ℕ → Forest PlainView → Forest PlainView
 button number after = Branch (view number class.View clicking) Nothing after

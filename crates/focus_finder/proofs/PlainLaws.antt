@@ -16,7 +16,7 @@ use Rattle.view_model.specs.Visible.{Canvas, canvas_below, seen_in, visible_rect
 use Rattle.view_tree.specs.Rows.{Row, count_of_key, head_view}
 use Rattle.view_tree.specs.Views.{IsLive, IsTree, Views, geometry_of, held_of, number_of, plain_of, plain_rows, scrolled}
 use Rattle.view_tree.proofs.forest.Forests.{Within-children_of_first, Within-later_siblings}
-use Rattle.view_tree.proofs.forest.KeyLaws.{Agree, Within, count_of_key-within, from_within, here, times_self}
+use Rattle.view_tree.proofs.forest.KeyLaws.{Agree, Within, count_of_key-within, from_within, here, times_self, own_more}
 use Rattle.view_tree.proofs.forest.PlainLaws.{agree_live}
 use Rattle.focus_finder.proofs.LeastLaws.{least-renamed, renamed}
 use Rattle.focus_finder.specs.Focus.{candidate_of, focusable, is_candidate, is_focusable, key_of, least, next_focus}
@@ -24,9 +24,6 @@ use Rattle.focus_finder.specs.Sights.{Sight, candidates_in, sights}
 use Rattle.focus_finder.specs.declared.keys.FocusKey.{FocusKey}
 use Rattle.focus_finder.specs.declared.searching.Candidate.{Candidate}
 use Rattle.focus_finder.specs.declared.searching.Search.{Search}
-
-own_more : (row : Row) (kids siblings : Forest Row) (x : ℕ) → row.key ≡ x → count_of_key x kids + count_of_key x siblings < count_of_key x (Branch row kids siblings)
-own_more row kids siblings x e = rw (eq-eqb row.key x e) (omega arith)
 
 map-cons_option : {X Y : Type 0} (f : X → Y) (one : Option X) (xs : List X) → map f (cons_option one xs) ≡ cons_option (option_map f one) (map f xs)
 map-cons_option f None xs = refl

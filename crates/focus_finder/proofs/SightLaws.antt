@@ -4,7 +4,7 @@ use Rattle.std.proofs.lemmas.List.Elements.{filter_map-append}
 use Rattle.std.specs.Option.{option_map}
 use Rattle.std.specs.Prelude.{◌==◌, ◌&&◌, ◌||◌, not, if◌then◌else◌, IfSome}
 use Rattle.damage_rect.proofs.RectLaws.{and_none, holds_none, meet_none}
-use Rattle.geom_core.specs.Rects.{holds, is_empty}
+use Rattle.geom_core.specs.Rects.{empty_rect, holds, is_empty}
 use Rattle.geom_core.specs.declared.geometry.Rect.{Rect}
 use Rattle.seen_parts.proofs.MeetingLaws.{outside_unseen}
 use Rattle.seen_parts.proofs.SeeingLaws.{unseen_below}
@@ -12,7 +12,7 @@ use Rattle.view_model.specs.declared.facts.Facts.{Facts}
 use Rattle.view_model.specs.Forest.{Forest, Nothing, Branch}
 use Rattle.view_model.specs.Painting.{is_drawn}
 use Rattle.view_model.specs.PlainTree.{PlainView}
-use Rattle.view_model.specs.Visible.{Canvas, canvas_below, moved_rect, no_rect, seen_in}
+use Rattle.view_model.specs.Visible.{Canvas, canvas_below, moved_rect, seen_in}
 use Rattle.view_tree.specs.Rows.{Row, children_of_first, count_of_key, first_tree, head_view, later_siblings, part_from}
 use Rattle.view_tree.specs.Views.{Held, IsLive, Views, facts_of, held_of, scrolled, state_of, view_at}
 use Rattle.view_tree.proofs.forest.KeyLaws.{located, times_self}
@@ -94,10 +94,10 @@ module _ (search : Search) where
       first_hidden (held_of views) canvas (part_from view views.tree) f.row f.kids f.siblings f.is hidden
 
   -- a view of which nothing is seen is no candidate
-  pub nowhere_own : (view : PlainView) (key : ℕ) → own_candidate search view key no_rect ≡ None
+  pub nowhere_own : (view : PlainView) (key : ℕ) → own_candidate search view key empty_rect ≡ None
   nowhere_own view key =
-      no_matter (is_focusable view) (key == search.view) (not (is_empty search.from)) (lies_on (is_low search.side) (turned search.side search.from) (turned search.side no_rect))
-      (record { view = key; key = key_of search.side search.from no_rect })
+      no_matter (is_focusable view) (key == search.view) (not (is_empty search.from)) (lies_on (is_low search.side) (turned search.side search.from) (turned search.side empty_rect))
+      (record { view = key; key = key_of search.side search.from empty_rect })
     where
       no_matter : (focusable self some lies : Bool) (one : Candidate) → (if focusable then (if self || not ((some && false) && lies) then None else Some one) else None) ≡ None
       no_matter false self some lies one = refl
@@ -116,7 +116,7 @@ module _ (search : Search) where
       no_matter true true least_key = tt
       no_matter true false least_key = refl
 
-unseen : (bounds : Option Rect) (canvas : Canvas) → ((x y : ℤ) → holds canvas.clip x y ≡ false) → seen_in bounds canvas ≡ no_rect
+unseen : (bounds : Option Rect) (canvas : Canvas) → ((x y : ℤ) → holds canvas.clip x y ≡ false) → seen_in bounds canvas ≡ empty_rect
 unseen None canvas none = refl
 unseen (Some rect) canvas none =
     meet_none (moved_rect rect canvas.left canvas.top) canvas.clip λ x y. and_none (holds (moved_rect rect canvas.left canvas.top) x y) (holds canvas.clip x y) (none x y)

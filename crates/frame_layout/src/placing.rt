@@ -69,8 +69,9 @@ impl Room {
     #[inline(always)]
     fn left_edge(&self, across: Across, kid: &Facts, width: i32) -> i32
         ensures value { result ≡ clamp_coordinate
-            (low_edge (alignment_across self.now.rtl across) self.now.size.w self.now.padding.left
-            self.now.padding.right width (margin_left kid.now) (margin_right kid.now)) }
+            (low_edge (alignment_across self.now.rtl across)
+            (record { size = self.now.size.w; before = self.now.padding.left; after = self.now.padding.right })
+            (record { size = width; before = margin_left kid.now; after = margin_right kid.now })) }
         ensures edge { IsCoordinate result }
     {
         to_coordinate(
@@ -92,8 +93,9 @@ impl Room {
     #[inline(always)]
     fn top_edge(&self, down: Down, kid: &Facts, height: i32) -> i32
         ensures value { result ≡ clamp_coordinate
-            (low_edge (alignment_down down) self.now.size.h self.now.padding.top self.now.padding.bottom height
-            kid.now.margins.top kid.now.margins.bottom) }
+            (low_edge (alignment_down down)
+            (record { size = self.now.size.h; before = self.now.padding.top; after = self.now.padding.bottom })
+            (record { size = height; before = kid.now.margins.top; after = kid.now.margins.bottom })) }
         ensures edge { IsCoordinate result }
     {
         to_coordinate(

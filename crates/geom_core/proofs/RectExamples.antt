@@ -3,7 +3,7 @@ use Rattle.std.specs.Prelude.{◌≡◌, ℤ, pos, negsuc, refl}
 use Rattle.geom_core.specs.declared.geometry.Rect.{Rect}
 use Rattle.geom_core.specs.Rects.{empty_rect, hull_of, larger_of, meet_of, smaller_of}
 
-abbrev rect : ℤ → ℤ → ℤ → ℤ → Rect
+abbrev pub rect : ℤ → ℤ → ℤ → ℤ → Rect
 rect left top right bottom = record { left = left; top = top; right = right; bottom = bottom }
 
 meet_at_a_corner : meet_of (rect (pos 0) (pos 0) (pos 4) (pos 3)) (rect (pos 2) (negsuc 0) (pos 9) (pos 2)) ≡ rect (pos 2) (pos 0) (pos 4) (pos 2)

@@ -1,12 +1,25 @@
 -- What holds of kept views depends only on what is kept with them.
-use Rattle.std.proofs.Common.{◌≡◌, ℕ, ◌<◌, Some, List, ◌∷◌, arith, ap, ◌∙◌, sym, refl, subst}
+use Rattle.std.proofs.Common.{◌≡◌, ℕ, ◌<◌, Bool, true, false, Some, None, List, [], ◌∷◌, arith, ap, ◌∙◌, sym, refl, subst}
+use Rattle.std.specs.Prelude.{if◌then◌else◌}
 use Rattle.geom_core.specs.declared.geometry.Rect.{Rect}
+use Rattle.geom_core.specs.declared.geometry.Size.{Size}
 use Rattle.view_model.specs.Forest.{Forest, Nothing, Branch}
+use Rattle.view_model.specs.Measuring.{Specs}
 use Rattle.view_model.specs.Offsets.{brought, range_by}
 use Rattle.view_tree.specs.Rows.{Row, count_of_key}
 use Rattle.view_tree.proofs.forest.KeyLaws.{times_self}
 use Rattle.view_tree.specs.Views.{Held}
+use Rattle.measure_cache.specs.Entries.{found}
 use Rattle.kept_views.specs.Kept.{Around, HiddenView, InRange, IsSized, Kept, ShownView, first_place, inside, last_edges, last_places, last_specs}
+
+-- what is not hidden has none around it that is
+pub outer : (v w : Bool) → (if v then w else true) ≡ false → w ≡ false
+outer true w e = e
+outer false w e = absurd (let n : true ≡ false = e in cc)
+
+-- nothing is found where nothing was kept
+pub none_found : {A : Type 0} (own : Held) (specs : Specs) (size : Size) → own.cache ≡ [] → found own.cache specs ≡ Some size → A
+none_found own specs size e y = let n : None ≡ Some size = sym (ap (λ cache. found cache specs) e) ∙ y in absurd (cc)
 
 -- what is kept with each view of a list is the same
 abbrev pub Same : (ℕ → Held) → (ℕ → Held) → Forest Row → Type 0

@@ -1,6 +1,5 @@
 -- Laws of views that are laid out.
 pub mod Brought
-pub mod Keys
 pub mod LaidCalm
 pub mod LaidFrames
 pub mod LaidRows

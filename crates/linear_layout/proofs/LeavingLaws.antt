@@ -1,6 +1,6 @@
 -- A uniform pass in which no child wants to be as broad as the group.
 use Rattle.std.proofs.Common.{◌≡◌, ℤ, Bool, true, false, Option, Some, None, List, [], ◌∷◌, ◌++◌, refl, sym, ap, ◌∙◌, inl, inr}
-use Rattle.std.proofs.lemmas.Bool.{cases_Bool}
+use Rattle.std.proofs.lemmas.Bool.{cases_Bool, not-true}
 use Rattle.std.specs.List.{list_any}
 use Rattle.std.specs.Prelude.{if◌then◌else◌, ◌||◌, not}
 use Rattle.linear_layout.specs.declared.plan.LinearPlan.{LinearPlan}
@@ -21,10 +21,6 @@ uniform_in : (plan : LinearPlan) (phase : Phase) → leaves_by plan phase ≡ tr
 uniform_in plan First leaves = absurd (let e : false ≡ true = leaves in cc)
 uniform_in plan (Weight pass) leaves = absurd (let e : false ≡ true = leaves in cc)
 uniform_in plan (Uniform weighed) leaves = (weighed, refl)
-
-not_true : (b : Bool) → not b ≡ true → b ≡ false
-not_true true e = absurd (let e : false ≡ true = e in cc)
-not_true false e = refl
 
 -- where no child matches, the uniform pass asks none
 asks_none : (own : Facts) (specs : Specs) (breadth : ℤ) (kids : List Measured)
@@ -66,11 +62,11 @@ asks_line plan own specs [] last leaves s = elim (cases_Bool (has_weight_pass ow
       let idle : not plan.first.any_match ≡ true = ap (leaves_by plan) (sym (s.2.uniform over)) ∙ leaves in
       asks_same (λ taken kid. uniform_pass own (own_breadth own specs (last ∷ [])) kid) (linear_ask own specs (last ∷ []))
       (λ taken kid. ap (λ (v : Bool). if v then weight_pass own specs last taken kid else uniform_pass own (own_breadth own specs (last ∷ [])) kid) (sym over)) last
-      (asks_none own specs (own_breadth own specs (last ∷ [])) last (sym s.1.any_match ∙ not_true plan.first.any_match idle))
+      (asks_none own specs (own_breadth own specs (last ∷ [])) last (sym s.1.any_match ∙ not-true plan.first.any_match idle))
 ]
 asks_line plan own specs (first ∷ []) last leaves s =
     let idle : not s.2.pass.any_match ≡ true = ap (leaves_by plan) (sym s.2.phase) ∙ leaves in
-    asks_none own specs (own_breadth own specs (first ∷ last ∷ [])) last (sym s.2.is_pass.any_match ∙ not_true s.2.pass.any_match idle)
+    asks_none own specs (own_breadth own specs (first ∷ last ∷ [])) last (sym s.2.is_pass.any_match ∙ not-true s.2.pass.any_match idle)
 asks_line plan own specs (first ∷ second ∷ []) last leaves s = absurd s
 asks_line plan own specs (first ∷ second ∷ third ∷ more) last leaves s = absurd s
 

@@ -1,5 +1,7 @@
 -- A child with a number of pixels on both axes and no weight is asked for these.
 use Rattle.std.proofs.Common.{arith, ◌≡◌, ℕ, ℤ, pos, Bool, true, false, Some, None, List, refl, ap, ◌∙◌}
+use Rattle.std.proofs.Math.Bool.{and-false}
+use Rattle.std.proofs.lemmas.Bool.{not-true}
 use Rattle.std.specs.Prelude.{◌&&◌, ◌==◌, if◌then◌else◌, int_lt, not}
 use Rattle.std.proofs.lemmas.Bool.Decides.{nat_tests}
 use Rattle.std.specs.Ordering.{int_eq}
@@ -12,10 +14,6 @@ use Rattle.view_model.specs.declared.facts.Facts.{Facts}
 use Rattle.view_model.specs.LinearLayout.{dim_on, exactly, first_along, first_dim, first_pass, is_skipped, spec_beside, spec_on, specs_by}
 use Rattle.view_model.specs.Measuring.{Measured, Specs}
 
-and_false : (a : Bool) → (a && false) ≡ false
-and_false true = refl
-and_false false = refl
-
 both_first : (a b : Bool) → (a && b) ≡ true → a ≡ true
 both_first true b e = refl
 both_first false b e = absurd (let e : false ≡ true = e in cc)
@@ -24,20 +22,16 @@ both_second : (a b : Bool) → (a && b) ≡ true → b ≡ true
 both_second true b e = e
 both_second false b e = absurd (let e : false ≡ true = e in cc)
 
-not_true : (b : Bool) → not b ≡ true → b ≡ false
-not_true true e = absurd (let e : false ≡ true = e in cc)
-not_true false e = refl
-
 light_dim : (dim : ℤ) (weight : ℕ) → weight ≡ 0 → first_dim dim weight ≡ dim
 unfolding first_dim
-light_dim dim weight light = rw light (ap (λ (b : Bool). if b then wrap_content else dim) (and_false _))
+light_dim dim weight light = rw light (ap (λ (b : Bool). if b then wrap_content else dim) (and-false _))
 
 light_skipped : (along : Spec) (dim : ℤ) (weight : ℕ) → weight ≡ 0 → is_skipped along dim weight ≡ false
 unfolding is_skipped
 light_skipped along dim weight light = rw light (by_both (is_exactly along.mode) (int_eq dim (pos 0)))
   where
     by_both : (a b : Bool) → (a && (b && false)) ≡ false
-    by_both true b = and_false b
+    by_both true b = and-false b
     by_both false b = refl
 
 exact_dim : (spec : Spec) (used dim : ℤ) → int_lt dim (pos 0) ≡ false → child_spec_of spec used dim ≡ exactly dim
@@ -61,8 +55,8 @@ pub sized_first : (own : Facts) (specs : Specs) (kids : List Measured) (kid : Me
 sized_first own specs kids kid sized =
     let facts = kid.facts in
     let v = own.vertical in
-    let wide : int_lt facts.width (pos 0) ≡ false = not_true _ (both_first _ _ sized) in
-    let high : int_lt facts.height (pos 0) ≡ false = not_true _ (both_first _ _ (both_second _ _ sized)) in
+    let wide : int_lt facts.width (pos 0) ≡ false = not-true _ (both_first _ _ sized) in
+    let high : int_lt facts.height (pos 0) ≡ false = not-true _ (both_first _ _ (both_second _ _ sized)) in
     let none : (facts.weight == 0) ≡ true = both_second _ _ (both_second _ _ sized) in
     let light : facts.weight ≡ 0 = grind (arith, nat_tests) in
     let along : first_along own specs kids facts ≡ exactly (dim_on v facts) = light_exact _ _ _ _ light (long_on v facts wide high) in

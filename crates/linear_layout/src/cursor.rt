@@ -143,10 +143,13 @@ impl Cursor {
     /// before them counts.
     #[inline(always)]
     fn edge_by(&self, alignment: Alignment, kid: &Facts, size: Size) -> i32
-        ensures value { result ≡ clamp_coordinate (low_edge alignment self.now.breadth self.now.padding_low
-            self.now.padding_high (size_on (not self.now.vertical) size)
-            (low_margin (not self.now.vertical) (layout_facts kid.now))
-            (high_margin (not self.now.vertical) (layout_facts kid.now))) }
+        ensures value { result ≡ clamp_coordinate (low_edge alignment
+            (record { size = self.now.breadth; before = self.now.padding_low; after = self.now.padding_high })
+            (record {
+              size = size_on (not self.now.vertical) size;
+              before = low_margin (not self.now.vertical) (layout_facts kid.now);
+              after = high_margin (not self.now.vertical) (layout_facts kid.now);
+            })) }
         ensures edge { IsCoordinate result }
     {
         match alignment {
@@ -161,10 +164,13 @@ impl Cursor {
     /// The same of any alignment.
     #[inline(never)]
     fn far_edge(&self, alignment: Alignment, kid: &Facts, size: Size) -> i32
-        ensures value { result ≡ clamp_coordinate (low_edge alignment self.now.breadth self.now.padding_low
-            self.now.padding_high (size_on (not self.now.vertical) size)
-            (low_margin (not self.now.vertical) (layout_facts kid.now))
-            (high_margin (not self.now.vertical) (layout_facts kid.now))) }
+        ensures value { result ≡ clamp_coordinate (low_edge alignment
+            (record { size = self.now.breadth; before = self.now.padding_low; after = self.now.padding_high })
+            (record {
+              size = size_on (not self.now.vertical) size;
+              before = low_margin (not self.now.vertical) (layout_facts kid.now);
+              after = high_margin (not self.now.vertical) (layout_facts kid.now);
+            })) }
         ensures edge { IsCoordinate result }
     {
         let beside = !self.vertical;

@@ -1,7 +1,8 @@
 -- The costs of measuring: of nothing, of one part of a list after another, and of one measuring after another.
 use Rattle.std.proofs.Common.{◌≡◌, ◌≤◌, ℕ, ◌+◌, ◌-◌, ◌^◌, min, arith, ap, ◌∙◌, refl}
+use Rattle.kept_views.proofs.laid.LaidFrames.{owed_parts}
 use Rattle.measure_pass.specs.Measured.{Costs, Counted}
-use Rattle.measure_pass.proofs.held.Frames.{owed-along, owed_parts}
+use Rattle.measure_pass.proofs.held.Frames.{owed-along}
 use Rattle.view_model.specs.declared.work.Work.{Work}
 use Rattle.view_model.specs.Forest.{Forest}
 use Rattle.view_tree.specs.declared.counts.Counts.{Counts}

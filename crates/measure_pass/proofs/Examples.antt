@@ -1,9 +1,10 @@
 -- Worked measurings, by computation.
 use Rattle.std.specs.Prelude.{◌≡◌, ℕ, ℤ, pos, negsuc, refl, [], ◌∷◌}
-use Rattle.geom_core.specs.declared.measuring.Mode.TheVariants.{Exactly, AtMost}
+use Rattle.geom_core.specs.declared.measuring.Mode.TheVariants.{Exactly}
 use Rattle.geom_core.specs.Spec.{child_spec_of, default_size_of, remaining_of, resolve_of}
 use Rattle.kept_views.specs.Kept.{last_specs}
 use Rattle.measure_pass.specs.Measured.{calls_under, finals_under, size_under}
+use Rattle.view_model.proofs.ExampleViews.{at_most}
 use Rattle.view_model.specs.declared.facts.Facts.{Facts}
 use Rattle.view_model.specs.declared.class.Class.{Class}
 use Rattle.view_model.specs.declared.class.Class.TheVariants as class
@@ -33,9 +34,6 @@ leaf key width height = row key class.View (new_facts width height)
 
 gone : ℕ → Row
 gone key = row key class.FrameLayout (record (new_facts (pos 90) (pos 40)) { visibility = Gone })
-
-at_most : Specs
-at_most = record { across = record { mode = AtMost; size = pos 100 }; down = record { mode = AtMost; size = pos 50 } }
 
 exactly : ℕ → ℕ → Specs
 exactly w h = record { across = record { mode = Exactly; size = pos w }; down = record { mode = Exactly; size = pos h } }

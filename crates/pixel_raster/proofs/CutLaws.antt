@@ -1,5 +1,6 @@
 -- The part of a picture that a rectangle covers has the pixels that the rectangle holds.
 use Rattle.std.proofs.Common.{◌≡◌, ℕ, ◌-◌, ◌*◌, ◌<◌, ◌≤◌, ℤ, pos, negsuc, ◌≤ℤ◌, ◌<ℤ◌, Bool, false, nat_lt, if◌then◌else◌, refl, sym, ap, ◌∙◌, arith}
+use Rattle.std.proofs.lemmas.Bool.{false_from_ne_true, and_parts}
 use Rattle.std.specs.Prelude.{int_lt}
 use Rattle.std.proofs.lemmas.Bool.Decides.{nat_tests}
 use Rattle.std.proofs.lemmas.Int.{ints}
@@ -9,9 +10,9 @@ use Rattle.geom_core.specs.declared.color.Argb.{Argb}
 use Rattle.geom_core.specs.declared.geometry.Rect.{Rect}
 use Rattle.pixel_raster.specs.Cuts.{area_of, cut_of, edge_within, from_zero, has_pixel}
 use Rattle.pixel_raster.specs.declared.cut.Cut.{Cut}
-use Rattle.pixel_raster.proofs.TestLaws.{between_from, never, of_both}
+use Rattle.pixel_raster.proofs.TestLaws.{between_from}
 
-edge_test : (limit place : ℕ) (edge : ℤ) → place < limit → nat_lt place (edge_within limit edge) ≡ int_lt (pos place) edge
+pub edge_test : (limit place : ℕ) (edge : ℤ) → place < limit → nat_lt place (edge_within limit edge) ≡ int_lt (pos place) edge
 unfolding edge_within from_zero
 edge_test limit place (pos n) lt = grind (arith, ints, nat_tests)
 edge_test limit place (negsuc n) lt = grind (arith, ints, nat_tests)
@@ -28,8 +29,8 @@ no_place x y left right top bottom none l r t b =
 
 -- a part without an area has no pixel
 has_pixel-none : (cut : Cut) (x y : ℕ) → area_of cut ≡ 0 → has_pixel cut x y ≡ false
-has_pixel-none cut x y none = never (has_pixel cut x y) (λ is.
-    let tests = of_both _ _ is in
+has_pixel-none cut x y none = false_from_ne_true (has_pixel cut x y) (λ is.
+    let tests = and_parts _ _ is in
     let across = between_from cut.left cut.right x tests.0 in
     let down = between_from cut.top cut.bottom y tests.1 in
     no_place x y cut.left cut.right cut.top cut.bottom none across.0 across.1 down.0 down.1)

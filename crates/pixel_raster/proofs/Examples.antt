@@ -1,14 +1,11 @@
 -- Areas, bytes and new pictures, by computation.
-use Rattle.std.specs.Prelude.{◌≡◌, ℤ, pos, negsuc, refl, [], ◌∷◌}
+use Rattle.std.specs.Prelude.{◌≡◌, pos, negsuc, refl, [], ◌∷◌}
+use Rattle.geom_core.proofs.RectExamples.{rect}
 use Rattle.geom_core.specs.Numbers.{unpainted}
-use Rattle.geom_core.specs.declared.geometry.Rect.{Rect}
 use Rattle.geom_core.specs.Color.{blue_of, green_of, red_of}
 use Rattle.pixel_raster.specs.Bytes.{bytes_of}
 use Rattle.pixel_raster.specs.Cuts.{area_within, cut_of, edge_within, from_zero}
 use Rattle.pixel_raster.specs.Raster.{black_raster}
-
-abbrev rect : ℤ → ℤ → ℤ → ℤ → Rect
-rect left top right bottom = record { left = left; top = top; right = right; bottom = bottom }
 
 -- of a picture of 4 by 3: all of it, what is inside of a rectangle that is partly outside, and none
 whole : area_within 4 3 (rect (negsuc 7) (negsuc 7) (pos 99) (pos 99)) ≡ 12

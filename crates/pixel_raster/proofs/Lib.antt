@@ -1,5 +1,5 @@
 mod BlackLaws
-mod CutLaws
+pub mod CutLaws
 mod Examples
 mod MarkLaws
 mod MixLaws
@@ -9,5 +9,5 @@ mod RowLaws
 mod RunLaws
 mod SeenLaws
 pub mod StripLaws
-mod TestLaws
+pub mod TestLaws
 mod WritingLaws

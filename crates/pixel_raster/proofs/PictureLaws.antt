@@ -8,7 +8,7 @@ use Rattle.geom_core.specs.Numbers.{unpainted}
 use Rattle.pixel_raster.specs.Raster.{IsRaster, Raster, color_at}
 use Rattle.view_model.specs.Painting.{picture_of}
 
-positive : (w h k : ℕ) → k < w * h → 0 < w
+pub positive : (w h k : ℕ) → k < w * h → 0 < w
 positive zero h k lt = absurd (let none : zero * h ≡ 0 = omega arith in omega arith)
 positive (suc w) h k lt = omega arith
 

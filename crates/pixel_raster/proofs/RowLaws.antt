@@ -2,7 +2,7 @@
 use Rattle.std.proofs.Common.{◌≡◌, ℕ, suc, ◌+◌, ◌-◌, ◌*◌, ◌<◌, ◌≤◌, Bool, true, false, List, map, length, if◌then◌else◌, refl, ap, ◌∙◌, arith, inl, inr, mul-le-mul_right}
 use Rattle.std.specs.Prelude.{◌&&◌, ◌||◌}
 use Rattle.std.specs.List.{between}
-use Rattle.std.proofs.lemmas.Bool.{cases_order}
+use Rattle.std.proofs.lemmas.Bool.{and_from, and_parts, cases_order}
 use Rattle.std.proofs.lemmas.Bool.Decides.{nat_tests}
 use borrow.Rule.Slice.PartMut.{put_mid}
 use Rattle.geom_core.specs.declared.color.Argb.{Argb}
@@ -10,7 +10,7 @@ use Rattle.geom_core.specs.Numbers.{unpainted}
 use Rattle.pixel_raster.specs.Cuts.{is_between}
 use Rattle.pixel_raster.specs.Raster.{pixel_at}
 use Rattle.pixel_raster.proofs.RunLaws.{get_or-mapped_run}
-use Rattle.pixel_raster.proofs.TestLaws.{between_from, between_to, both, of_both, same_test}
+use Rattle.pixel_raster.proofs.TestLaws.{between_from, between_to, same_test}
 
 row_is : (width left right x y z : ℕ) → right ≤ width → x < width → z * width + left ≤ y * width + x → y * width + x < z * width + right → y ≡ z
 row_is width left right x y z fits column low high =
@@ -32,9 +32,9 @@ place_in_run width left right x y z fits column =
     let at = between_from _ _ _ is in
     let row : y ≡ z = row_is width left right x y z fits column at.0 at.1 in
     let across = column_is width left right x y z row at.0 at.1 in
-    both _ _ (between_to left right x across.0 across.1) (between_to z (z + 1) y (omega arith) (omega arith)))
+    and_from _ _ (between_to left right x across.0 across.1) (between_to z (z + 1) y (omega arith) (omega arith)))
     (λ is.
-    let tests = of_both _ _ is in
+    let tests = and_parts _ _ is in
     let across = between_from left right x tests.0 in
     let down = between_from z (z + 1) y tests.1 in
     let row : y ≡ z = omega arith in

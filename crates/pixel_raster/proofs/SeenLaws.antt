@@ -1,8 +1,8 @@
 -- What is seen of a picture in which some pixels were changed, and of one row of it.
-use Rattle.std.proofs.Common.{◌≡◌, ℕ, suc, ◌+◌, ◌-◌, ◌*◌, ◌/◌, ◌%◌, ◌<◌, ◌≤◌, Bool, true, false, List, map, take, drop, length, get_or, slice_index_or, if◌then◌else◌, sym, ap, ◌∙◌, arith, inl, inr, mul-le-mul_right}
+use Rattle.std.proofs.Common.{◌≡◌, ℕ, suc, ◌+◌, ◌-◌, ◌*◌, ◌/◌, ◌%◌, ◌<◌, ◌≤◌, Bool, true, false, List, map, take, drop, length, get_or, slice_index_or, if◌then◌else◌, refl, sym, ap, ◌∙◌, arith, inl, inr, mul-le-mul_right}
 use Rattle.std.proofs.lemmas.List.{get_or_default, get_or_past, get_or-drop, get_or-map, get_or-take, length-drop, length-map, length-take, same_lists}
 use Rattle.std.proofs.lemmas.Bool.{cases_lt}
-use Rattle.geom_core.specs.Color.{alpha_of}
+use Rattle.geom_core.specs.Color.{alpha_of, blend_of}
 use Rattle.geom_core.specs.declared.color.Argb.{Argb}
 use Rattle.geom_core.specs.Numbers.{unpainted}
 use Rattle.pixel_raster.specs.Marks.{seen_at, seen_of, seen_pixels}
@@ -10,6 +10,11 @@ use Rattle.pixel_raster.specs.Raster.{AllOpaque, IsRaster, pixel_at}
 use Rattle.pixel_raster.proofs.BlackLaws.{black-opaque}
 use Rattle.pixel_raster.proofs.MarkLaws.{length-seen_pixels, pixel_at-seen}
 use Rattle.pixel_raster.proofs.PictureLaws.{column_of, place_of, row_of}
+
+-- a colour that leaves a pixel as it was
+pub unblended : (test : Bool) (color was : Argb) → blend_of color was ≡ was → was ≡ (if test then blend_of color was else was)
+unblended true color was is = sym is
+unblended false color was is = refl
 
 -- a picture is opaque if each of its points is
 points-opaque : (width height : ℕ) (pixels : List Argb) → length pixels ≡ width * height

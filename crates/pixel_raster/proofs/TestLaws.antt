@@ -1,6 +1,6 @@
 -- Laws of tests, and of places between two others.
 use Rattle.std.proofs.Common.{◌≡◌, ℕ, ◌<◌, ◌≤◌, Bool, true, false, if◌then◌else◌, refl, sym, arith}
-use Rattle.std.specs.Prelude.{◌&&◌, ◌⊎◌}
+use Rattle.std.specs.Prelude.{◌⊎◌}
 use Rattle.std.proofs.lemmas.Bool.Decides.{nat_tests}
 use Rattle.pixel_raster.specs.Cuts.{is_between}
 
@@ -8,21 +8,10 @@ pub chosen : {A : Type 0} (test : Bool) (p q r : A) → (test ≡ true → r ≡
 chosen true p q r f g = f refl
 chosen false p q r f g = g refl
 
-pub never : (test : Bool) → (test ≡ true → ⊥) → test ≡ false
-never test not_so = elim test as (λ v. (v ≡ true → ⊥) → v ≡ false) [ true ↦ (λ f. absurd (f refl)) | false ↦ (λ f. refl) ] not_so
-
 pub same_test : (s t : Bool) → (s ≡ true → t ≡ true) → (t ≡ true → s ≡ true) → s ≡ t
 same_test true t f g = sym (f refl)
 same_test false true f g = g refl
 same_test false false f g = refl
-
-pub of_both : (s t : Bool) → (s && t) ≡ true → (s ≡ true) × (t ≡ true)
-of_both true t both = (refl, both)
-of_both false t both = absurd (cc)
-
-pub both : (s t : Bool) → s ≡ true → t ≡ true → (s && t) ≡ true
-both true t first second = second
-both false t first second = first
 
 pub between_from : (low high place : ℕ) → is_between low high place ≡ true → (low ≤ place) × (place < high)
 between_from low high place is = (grind (arith, nat_tests), grind (arith, nat_tests))

@@ -80,7 +80,7 @@ impl RelativePlan {
         requires height { IsSide size.h }
         ensures edges { (own : FactsValue) (specs : Specs) (past : List (List Spanned)) (taken : List Spanned)
             → RepresentsRelative self.old own specs past taken
-            → result ≡ edges_as own specs past (layout_facts kid.now) edges anchors.now size }
+            → result ≡ edges_as past (spanned_as own specs past (layout_facts kid.now) anchors.now size) edges }
         ensures taken { (own : FactsValue) (specs : Specs) (past : List (List Spanned)) (taken : List Spanned)
             → RepresentsRelative self.old own specs past taken
             → RepresentsRelative self.new own specs past

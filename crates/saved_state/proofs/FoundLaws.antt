@@ -1,7 +1,7 @@
 -- Bytes that are read are those of the state that was read, and no others.
 use Rattle.std.proofs.Common.{◌≡◌, ℕ, zero, suc, ◌+◌, ◌-◌, ◌<◌, ◌≤◌, Bool, true, false, cond, eqb, ltb, List, [], ◌∷◌, ◌++◌, length, get_or, take, drop, not, ◌||◌, ◌&&◌, Result, Ok, Err, IfOk, refl, sym, ◌∙◌, ap, subst, arith, inl, inr, slice_index, ◌⊎◌, append_assoc}
 use Rattle.std.proofs.Math.Seq.{drop-cons}
-use Rattle.std.proofs.lemmas.Bool.{cases_Bool, cases_lt, eq-eqb, ltb-false, ltb-true}
+use Rattle.std.proofs.lemmas.Bool.{and_parts, cases_Bool, cases_lt, eq-eqb, ltb-false, ltb-true}
 use Rattle.std.proofs.lemmas.Bool.Decides.{nat_tests}
 use Rattle.std.proofs.lemmas.List.{drop-drop, get_or-drop, get_or-take, get_or_past, length-drop, length-take, nil_from_length, take-append-drop}
 use Rattle.std.proofs.lemmas.List.Concat.{flat_map-cons}
@@ -168,7 +168,7 @@ module _ (version place : ℕ) (bytes : List ℕ) (fit : AreBytes bytes) where
         (record { fits = found.0; cells = ap (λ (kind : ℕ). kind ∷ bytes) same ∙ ap (λ (rest : List ℕ). 1 ∷ rest) found.1 })
     | inr other ↦
         let text_kind : (not (eqb version 1) && eqb kind 2) ≡ true = rw other at has in
-        let both = and_true (not (eqb version 1)) (eqb kind 2) text_kind in
+        let both = and_parts (not (eqb version 1)) (eqb kind 2) text_kind in
         let same : kind ≡ 2 = eqb_is kind 2 both.1 in
         let read = bind_ok (text_of place bytes) (λ (text : List ℕ). Ok (Text text)) value (rw other at is) in
         let found = text_found place read.0 bytes fit read.1 in
@@ -178,10 +178,6 @@ module _ (version place : ℕ) (bytes : List ℕ) (fit : AreBytes bytes) where
           cells = ap (λ (kind : ℕ). kind ∷ bytes) same ∙ ap (λ (rest : List ℕ). 2 ∷ rest) found.cells;
         })
   ]
-    where
-      and_true : (a b : Bool) → (a && b) ≡ true → (a ≡ true) × (b ≡ true)
-      and_true true b e = (refl, e)
-      and_true false b e = absurd (let n : false ≡ true = e in cc)
 
 record IsEntryOf (version before : ℕ) (entry : StateEntry) (bytes : List ℕ) : Type 0 where
   above : before < entry.0

@@ -1,13 +1,10 @@
 -- The characters of a text and its bytes, character by character.
 use Rattle.std.proofs.Common.{◌≡◌, ℕ, ◌+◌, ◌<◌, ◌++◌, ◌∷◌, [], List, length, take, true, false, get_or, Bool, ◌&&◌, refl, sym, ap, subst, ◌∙◌}
+use Rattle.std.proofs.lemmas.Bool.{and_parts}
 use Rattle.std.proofs.lemmas.List.{append-nil, take_more}
 use Rattle.std.proofs.lemmas.Str.{encodes-append, encodes_same}
 use Rattle.std.specs.Prelude.{IsUtf8, encode_utf8, encode_utf8_all}
 use lib.Utf8.{scalar, scalars}
-
-and_true : (a b : Bool) → (a && b) ≡ true → (a ≡ true) × (b ≡ true)
-and_true true b e = (refl, e)
-and_true false b e = absurd (let n : false ≡ true = e in cc)
 
 -- the bytes of a character are those of a text only if it is one
 pub character_valid : (c : ℕ) → IsUtf8 (encode_utf8 c) → scalar c ≡ true
@@ -31,4 +28,4 @@ valid_more text place there before own = ap scalars (take_more text place 0 ther
   where
     last : (text : List ℕ) (c : ℕ) → scalars text ≡ true → scalar c ≡ true → scalars (text ++ c ∷ []) ≡ true
     last [] c e own = rw own refl
-    last (x ∷ text) c e own = let both = and_true (scalar x) (scalars text) e in rw (both.0, last text c both.1 own) refl
+    last (x ∷ text) c e own = let both = and_parts (scalar x) (scalars text) e in rw (both.0, last text c both.1 own) refl

@@ -96,38 +96,46 @@ pub fn end(bytes: &[u8]) -> Result<(), LineFault>
     Err(LineFault::Syntax)
 }
 
-/// Whether each byte is ASCII. Eight are tested together, since nearly all are.
-#[tactic(auto, using(crate::proofs::texts::PlainLaws::ascii_by_eight))]
-fn all_ascii(bytes: &[u8]) -> bool
+/// Whether each of a few bytes is ASCII. Four are tested together.
+#[tactic(auto, using(crate::proofs::texts::PlainLaws::ascii_of_four))]
+fn few_ascii(bytes: &[u8]) -> bool
     ensures { result ≡ list_all is_ascii bytes.now }
 {
-    let mut at = 0;
-    while bytes.len() - at >= 8 {
-        let first = bytes[at].is_ascii() & bytes[at + 1].is_ascii();
-        let second = bytes[at + 2].is_ascii() & bytes[at + 3].is_ascii();
-        let third = bytes[at + 4].is_ascii() & bytes[at + 5].is_ascii();
-        let fourth = bytes[at + 6].is_ascii() & bytes[at + 7].is_ascii();
-        if !((first & second) & (third & fourth)) {
-            return false;
-        }
-        at += 8;
+    if bytes.len() < 4 {
+        return all_ascii(bytes);
     }
-    all_ascii_one_by_one(&bytes[at..])
+    let first = bytes[0].is_ascii() & bytes[1].is_ascii();
+    let second = bytes[2].is_ascii() & bytes[3].is_ascii();
+    if !(first & second) {
+        return false;
+    }
+    all_ascii(&bytes[4..])
 }
 
 /// The same, each byte by itself.
-fn all_ascii_one_by_one(bytes: &[u8]) -> bool
+fn all_ascii(bytes: &[u8]) -> bool
     ensures { result ≡ list_all is_ascii bytes.now }
 {
     bytes.iter().all(|b| b.is_ascii())
 }
 
-/// Whether a line is valid UTF-8. Most lines are ASCII, which is faster to see.
+/// Whether a line of less than eight bytes is valid UTF-8.
 #[tactic(auto, using(crate::proofs::texts::PlainLaws::utf8_of_ascii))]
+fn is_short_text(line: &[u8]) -> bool
+    ensures { result ≡ is_utf8 line.now }
+{
+    few_ascii(line) || std::str::from_utf8(line).is_ok()
+}
+
+/// Whether a line is valid UTF-8. Most lines are ASCII, which is faster to see: std tests eight bytes together.
+#[inline(always)]
 pub fn is_text(line: &[u8]) -> bool
     ensures { result ≡ is_utf8 line.now }
 {
-    all_ascii(line) || std::str::from_utf8(line).is_ok()
+    if line.len() < 8 {
+        return is_short_text(line);
+    }
+    line.is_ascii() || std::str::from_utf8(line).is_ok()
 }
 
 /// Bytes as a text, if they are valid UTF-8.

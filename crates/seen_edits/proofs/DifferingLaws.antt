@@ -1,16 +1,17 @@
 -- Pictures that differ only in a rectangle differ at no more places than its area.
-use Rattle.std.proofs.Common.{◌≡◌, ℕ, zero, suc, mul_comm, mul-le-mul, ◌+◌, ◌-◌, ◌*◌, ◌/◌, ◌%◌, ◌<◌, ◌≤◌, ℤ, pos, negsuc, Bool, true, false, nat_lt, List, [], ◌∷◌, length, refl, sym, ap, ◌∙◌, subst, arith}
-use Rattle.std.specs.Prelude.{◌==◌, ◌&&◌, if◌then◌else◌, int_lt, slice_index_or}
+use Rattle.std.proofs.Common.{◌≡◌, ℕ, zero, suc, mul_comm, mul-le-mul, ◌+◌, ◌-◌, ◌*◌, ◌/◌, ◌%◌, ◌<◌, ◌≤◌, pos, Bool, true, false, List, [], ◌∷◌, length, refl, sym, ap, ◌∙◌, subst, arith}
+use Rattle.std.specs.Prelude.{◌==◌, if◌then◌else◌, slice_index_or}
 use Rattle.std.proofs.Math.Nat.{div-add-mod, div-lt_iff_lt-mul, mod-eq-sub-div-mul, mul-suc, suc-mul}
-use Rattle.std.proofs.lemmas.Bool.{eq-eqb}
+use Rattle.std.proofs.lemmas.Bool.{and_parts, eq-eqb}
 use Rattle.std.proofs.lemmas.Bool.Decides.{nat_tests}
-use Rattle.std.proofs.lemmas.Int.{ints}
 use Rattle.std.proofs.lemmas.Nat.{div-mul-add}
 use Rattle.geom_core.specs.Rects.{holds}
 use Rattle.geom_core.specs.declared.color.Argb.{Argb}
 use Rattle.geom_core.specs.declared.color.TheConstants.{BLACK}
 use Rattle.geom_core.specs.declared.geometry.Rect.{Rect}
-use Rattle.pixel_raster.specs.Cuts.{area_within, cut_of, edge_within, from_zero, is_between}
+use Rattle.pixel_raster.proofs.CutLaws.{edge_test}
+use Rattle.pixel_raster.proofs.PictureLaws.{positive}
+use Rattle.pixel_raster.specs.Cuts.{area_within, cut_of, edge_within, is_between}
 use Rattle.pixel_raster.specs.Raster.{IsRaster, Raster, color_at}
 use Rattle.seen_edits.specs.Differing.{differing}
 use Rattle.tree_painter.specs.Painted.{IsPainted, area_in}
@@ -134,21 +135,12 @@ tally_between low high (suc n) = edges low high (tally_less (λ k. is_between lo
     edges zero (suc high) fewer most = let one = at_most (is_between 0 (suc high) 0) in omega arith
     edges (suc low) high fewer most = rw (before low high) (omega arith)
 
-edge_test : (limit place : ℕ) (edge : ℤ) → place < limit → nat_lt place (edge_within limit edge) ≡ int_lt (pos place) edge
-unfolding edge_within from_zero
-edge_test limit place (pos n) lt = grind (arith, ints, nat_tests)
-edge_test limit place (negsuc n) lt = grind (arith, ints, nat_tests)
-
 -- the points of a picture that a rectangle holds are in its columns and rows
 holds_between : (width height x y : ℕ) (rect : Rect) → x < width → y < height → holds rect (pos x) (pos y) ≡ true
     → (is_between (edge_within width rect.left) (edge_within width rect.right) x ≡ true) × (is_between (edge_within height rect.top) (edge_within height rect.bottom) y ≡ true)
 holds_between width height x y rect column row e =
-    both (is_between (edge_within width rect.left) (edge_within width rect.right) x) (is_between (edge_within height rect.top) (edge_within height rect.bottom) y)
+    and_parts (is_between (edge_within width rect.left) (edge_within width rect.right) x) (is_between (edge_within height rect.top) (edge_within height rect.bottom) y)
     (rw (edge_test width x rect.left column, edge_test width x rect.right column, edge_test height y rect.top row, edge_test height y rect.bottom row) e)
-  where
-    both : (s t : Bool) → (s && t) ≡ true → (s ≡ true) × (t ≡ true)
-    both true t e = (refl, e)
-    both false t e = absurd (cc)
 
 column_back : (width x y : ℕ) → x < width → (y * width + x) % width ≡ x
 column_back width x y column = mod-eq-sub-div-mul (y * width + x) width ∙ ap (λ (q : ℕ). (y * width + x) - q * width) (div-mul-add y width x column) ∙ (let e : (y * width + x) - y * width ≡ x = omega arith in e)
@@ -167,10 +159,6 @@ tally_held width height rect =
     each : (x y : ℕ) → x < width → y < height → holds rect (pos ((y * width + x) % width)) (pos ((y * width + x) / width)) ≡ true
         → (is_between (edge_within width rect.left) (edge_within width rect.right) x ≡ true) × (is_between (edge_within height rect.top) (edge_within height rect.bottom) y ≡ true)
     each x y column row e = holds_between width height x y rect column row (rw (column_back width x y column, div-mul-add y width x column) at e)
-
-positive : (w h k : ℕ) → k < w * h → 0 < w
-positive zero h k lt = absurd (let none : zero * h ≡ 0 = omega arith in omega arith)
-positive (suc w) h k lt = omega arith
 
 -- a picture was painted in a rectangle
 pub differing_most : (old new : Raster) (rect : Rect) (paint : Painter) → IsRaster old → IsRaster new → IsPainted paint rect old new → differing old.pixels new.pixels ≤ area_in old rect

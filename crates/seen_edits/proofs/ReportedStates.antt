@@ -16,12 +16,9 @@ use Rattle.view_model.specs.PlainTree.{PlainView}
 use Rattle.view_model.specs.Visible.{Canvas, canvas_below, seen_in}
 use Rattle.view_model.specs.declared.facts.Facts.{Facts}
 use Rattle.view_tree.proofs.forest.Forests.{Within-children_of_first, Within-later_siblings}
-use Rattle.view_tree.proofs.forest.KeyLaws.{Within, count_of_key-within, from_within, times_self}
+use Rattle.view_tree.proofs.forest.KeyLaws.{Within, count_of_key-within, from_within, times_self, own_more}
 use Rattle.view_tree.specs.Rows.{Row, count_of_key, head_view}
 use Rattle.view_tree.specs.Views.{Held, scrolled}
-
-own_more : (row : Row) (kids siblings : Forest Row) (x : ℕ) → row.key ≡ x → count_of_key x kids + count_of_key x siblings < count_of_key x (Branch row kids siblings)
-own_more row kids siblings x e = rw (eq-eqb row.key x e) (omega arith)
 
 -- texts change no facts
 same_facts : (own : Option Value) (view : PlainView) → (with_text_of own view).facts ≡ view.facts

@@ -1,14 +1,14 @@
 -- Scroll views that a log has as scrolled, and what is seen of these.
 use Rattle.std.proofs.Common.{◌≡◌, ℕ, zero, suc, arith, ◌+◌, ◌<◌, ◌≤◌, ℤ, Bool, true, false, Some, None, List, [], ◌∷◌, ◌++◌, length, take, get_or, refl, sym, ap, ◌∙◌, subst, inl, inr, ◌⊎◌, eqb-true}
 use Rattle.std.specs.Prelude.{◌==◌, ◌&&◌, ◌||◌}
-use Rattle.std.proofs.lemmas.Bool.{eq-eqb}
+use Rattle.std.proofs.lemmas.Bool.{and_parts, eq-eqb}
 use Rattle.std.proofs.lemmas.List.{take_more, take_all}
 use Rattle.damage_rect.specs.Within.{LiesIn}
-use Rattle.damage_rect.proofs.RectLaws.{outside_second}
+use Rattle.damage_rect.proofs.RectLaws.{outside, outside_second}
 use Rattle.geom_core.specs.Rects.{holds, hull_of}
 use Rattle.geom_core.specs.declared.geometry.Rect.{Rect}
 use Rattle.geom_core.specs.declared.geometry.Size.{Size}
-use Rattle.seen_edits.proofs.ShownLaws.{colors_same, outside}
+use Rattle.seen_edits.proofs.ShownLaws.{colors_same}
 use Rattle.seen_edits.specs.Scrolled.{IsIn, NotesAll, NotesEntry}
 use Rattle.seen_edits.specs.Shown.{KeepsShown}
 use Rattle.seen_parts.proofs.ChangeLaws.{met_scrolled}
@@ -67,10 +67,6 @@ notes_more window less more views entries i d lt grew all one key live e =
 pub notes_all : (window : Size) (damage : Rect) (views : Views) (entries : List Entry) (i : ℕ) → length entries ≤ i → NotesAll window damage views (take i entries) → NotesAll window damage views entries
 notes_all window damage views entries i le all = subst (NotesAll window damage views) (take_all i entries le) all
 
-both : (s t : Bool) → (s && t) ≡ true → (s ≡ true) × (t ≡ true)
-both true t e = (refl, e)
-both false t e = absurd (cc)
-
 -- the view of a number is the one that is found
 key_is : (views : Views) (key found number : ℕ) → IsTree views → IsLive views key → Some found ≡ key_where (λ (view : PlainView). view.number == number) views.tree → number ≡ number_of views key → found ≡ key
 key_is views key found number is live at same =
@@ -83,13 +79,13 @@ key_is views key found number is live at same =
 pub notes_found : (window : Size) (damage more one : Rect) (views : Views) (entry : Entry) (found : ℕ) → IsTree views → Some found ≡ key_where (λ (view : PlainView). view.number == entry.view) views.tree
     → more ≡ hull_of damage one → ((x y : ℤ) → holds one x y ≡ holds (seen_at (held_of views) (whole_window window) found views.tree) x y) → NotesEntry window more views entry
 notes_found window damage more one views entry found is at grew seen key live e x y out =
-    let number : entry.view ≡ number_of views key = eqb-true _ _ (both (is_scroll entry.kind) (entry.view == number_of views key) e).1 in
+    let number : entry.view ≡ number_of views key = eqb-true _ _ (and_parts (is_scroll entry.kind) (entry.view == number_of views key) e).1 in
     ap (λ (k : ℕ). holds (seen_at (held_of views) (whole_window window) k views.tree) x y) (sym (key_is views key found entry.view is live at number))
     ∙ sym (seen x y) ∙ outside_second damage one x y (ap (λ (rect : Rect). holds rect x y) (sym grew) ∙ out)
 
 pub notes_absent : (window : Size) (damage : Rect) (views : Views) (entry : Entry) → IsTree views → None ≡ key_where (λ (view : PlainView). view.number == entry.view) views.tree → NotesEntry window damage views entry
 notes_absent window damage views entry is none key live e =
-    let number : entry.view ≡ number_of views key = eqb-true _ _ (both (is_scroll entry.kind) (entry.view == number_of views key) e).1 in
+    let number : entry.view ≡ number_of views key = eqb-true _ _ (and_parts (is_scroll entry.kind) (entry.view == number_of views key) e).1 in
     let some : None ≡ Some key = none ∙ ap (λ (n : ℕ). key_where (λ (view : PlainView). view.number == n) views.tree) number
     ∙ key_where_number key (number_of views key) views.tree live (agree_live views key is live) in
     absurd (cc)
@@ -109,7 +105,7 @@ pub is_of : (entry : Entry) (number : ℕ) → is_scroll entry.kind ≡ true →
 is_of entry number scroll same = rw (scroll, eq-eqb entry.view number (sym same)) refl
 
 pub notes_other : (window : Size) (damage : Rect) (views : Views) (entry : Entry) → is_scroll entry.kind ≡ false → NotesEntry window damage views entry
-notes_other window damage views entry other key live e = absurd (let h = (both (is_scroll entry.kind) (entry.view == number_of views key) e).0 in let f : true ≡ false = sym h ∙ other in cc)
+notes_other window damage views entry other key live e = absurd (let h = (and_parts (is_scroll entry.kind) (entry.view == number_of views key) e).0 in let f : true ≡ false = sym h ∙ other in cc)
 
 -- an event has moved children, and all of that was recorded
 pub shown_scrolled : (window : Size) (less more : Rect) (old new : Views) (before after : Kept) (log new_log : Log) → IsTree new → OnlyScrolls old new → LiesIn less more

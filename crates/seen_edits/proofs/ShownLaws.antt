@@ -4,7 +4,7 @@ use Rattle.std.specs.Prelude.{◌==◌, if◌then◌else◌, chars}
 use Rattle.std.proofs.lemmas.Bool.{eq-eqb, ne_eqb}
 use Rattle.std.proofs.lemmas.Int.{ints}
 use Rattle.damage_rect.specs.Within.{LiesIn}
-use Rattle.damage_rect.proofs.RectLaws.{hull_least, is_between, outside_first, outside_second}
+use Rattle.damage_rect.proofs.RectLaws.{hull_least, is_between, outside, outside_first, outside_second}
 use Rattle.geom_core.specs.Rects.{holds, hull_of}
 use Rattle.geom_core.specs.declared.geometry.Rect.{Rect}
 use Rattle.geom_core.specs.declared.geometry.Size.{Size}
@@ -13,11 +13,11 @@ use Rattle.pixel_raster.specs.Cuts.{area_within, cut_of, edge_within, from_zero}
 use Rattle.pixel_raster.specs.Raster.{IsRaster, Raster, color_at, size_of}
 use Rattle.seen_edits.proofs.AroundLaws.{seen_less}
 use Rattle.seen_edits.proofs.BesideLaws.{cut_spread}
-use Rattle.seen_edits.proofs.StillLaws.{AreStill, IsStill, met_beside, placed_still, whole_is}
+use Rattle.seen_edits.proofs.StillLaws.{AreStill, IsStill, met_beside, placed_still}
 use Rattle.seen_parts.proofs.PlacedLaws.{placed_is}
 use Rattle.seen_edits.specs.Shown.{GrowsWithin, IsChange, KeepsShown, Shows, edited, seen_of}
 use Rattle.seen_parts.proofs.ChangeLaws.{cut_changed, met_cut}
-use Rattle.seen_parts.proofs.MeetingLaws.{same_color}
+use Rattle.seen_parts.proofs.MeetingLaws.{same_color, whole_is}
 use Rattle.seen_parts.specs.Meeting.{met_at, placed_rows}
 use Rattle.tree_edits.proofs.SpreadLaws.{count_of_key-spread}
 use Rattle.tree_edits.proofs.UnaskedLaws.{stays_bounds, stays_offset}
@@ -40,14 +40,6 @@ use Rattle.view_tree.proofs.forest.NumberLaws.{count_of_key-cut_le, count_of_key
 -- the points of one rectangle
 pub points : {one other : Rect} → one ≡ other → (x y : ℤ) → holds one x y ≡ holds other x y
 points same x y = ap (λ (rect : Rect). holds rect x y) same
-
--- a point outside of more damage was outside before
-pub outside : (less more : Rect) → LiesIn less more → (x y : ℤ) → holds more x y ≡ false → holds less x y ≡ false
-outside less more grew x y out = by (holds less x y) refl
-  where
-    by : (t : Bool) → holds less x y ≡ t → holds less x y ≡ false
-    by true e = absurd (let f : true ≡ false = sym (grew x y e) ∙ out in cc)
-    by false e = e
 
 -- where the same is seen of two trees
 pub colors_same : (window : Size) (old new : Views) (x y : ℤ) → IsTree old → IsTree new → holds (rect_at (pos 0) (pos 0) window) x y ≡ true

@@ -1,23 +1,13 @@
 -- Views that have the bounds that they had.
-use Rattle.std.proofs.Common.{◌+ℤ◌, ◌≡◌, ◌<◌, ◌≤◌, ℕ, ℤ, false, refl, sym, ap, ◌∙◌, arith, pos}
-use Rattle.std.proofs.lemmas.Int.{ints}
-use Rattle.geom_core.specs.declared.geometry.Size.{Size}
+use Rattle.std.proofs.Common.{◌≡◌, ◌<◌, ◌≤◌, ℕ, ℤ, false, refl, sym, ap, ◌∙◌, arith}
 use Rattle.geom_core.specs.Rects.{holds}
 use Rattle.seen_parts.proofs.ChangeLaws.{met_cut}
 use Rattle.seen_parts.specs.Meeting.{met_at, placed_rows, seen_at}
 use Rattle.view_model.specs.Forest.{Forest, Nothing, Branch}
-use Rattle.view_model.specs.Geometry.{rect_at}
-use Rattle.view_model.specs.Visible.{Canvas, whole_window}
+use Rattle.view_model.specs.Visible.{Canvas}
 use Rattle.view_tree.specs.Rows.{Row, count_of_key, pruned_at_key}
 use Rattle.view_tree.specs.Views.{Held}
 use Rattle.view_tree.proofs.forest.KeyLaws.{times_self}
-
--- the origin of a window
-nothing_more : (n : ℤ) → pos 0 +ℤ n ≡ n
-nothing_more n = omega (arith, ints)
-
-pub whole_is : (window : Size) → rect_at (pos 0) (pos 0) window ≡ (whole_window window).clip
-whole_is window = rw (nothing_more window.w, nothing_more window.h) refl
 
 -- a view has the bounds and the offset that it had
 pub record IsStill (old new : Held) : Type 0 where

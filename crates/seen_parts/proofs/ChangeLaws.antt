@@ -1,9 +1,8 @@
 -- What is seen at a point where nothing is seen of the view that changes.
-use Rattle.std.proofs.Common.{◌≡◌, ◌≢◌, ℕ, ◌+◌, ◌<◌, ◌≤◌, ℤ, false, refl, ap, ◌∙◌, arith, inl, inr, ◌⊎◌}
+use Rattle.std.proofs.Common.{◌≡◌, ◌≢◌, ℕ, ◌<◌, ◌≤◌, ℤ, false, refl, ap, ◌∙◌, arith, inl, inr, ◌⊎◌}
 use Rattle.std.proofs.lemmas.Bool.{cases_Bool, cases_eq, eq-eqb, ne_eqb}
 use Rattle.std.specs.Prelude.{◌==◌, if◌then◌else◌}
 use Rattle.geom_core.specs.Rects.{holds}
-use Rattle.seen_parts.proofs.ClimbLaws.{own_more}
 use Rattle.seen_parts.specs.Meeting.{met_at, placed_rows, seen_at}
 use Rattle.view_model.specs.Forest.{Forest, Nothing, Branch}
 use Rattle.view_model.specs.Painting.{PlacedView}
@@ -12,7 +11,7 @@ use Rattle.view_model.specs.Visible.{Canvas, canvas_below, seen_in}
 use Rattle.view_tree.specs.Rows.{Row, changed_at_key, count_of_key, pruned_at_key}
 use Rattle.view_tree.specs.Views.{Held, scrolled}
 use Rattle.view_tree.proofs.forest.NumberLaws.{cut_absent}
-use Rattle.view_tree.proofs.forest.KeyLaws.{times_self}
+use Rattle.view_tree.proofs.forest.KeyLaws.{other_key, times_self}
 
 cut_here : (k : ℕ) (row : Row) (kids siblings : Forest Row) → row.key ≡ k → pruned_at_key k (Branch row kids siblings) ≡ siblings
 cut_here k row kids siblings e = rw (eq-eqb row.key k e) refl
@@ -87,12 +86,9 @@ met_scrolled x y old new canvas (Branch row kids siblings) once bounds scrolls =
           (met_scrolled x y old new (canvas_below (old row.key).state.bounds (scrolled old row).facts canvas) kids (λ key. let o = once key in omega arith) bounds (below same)))
     ]
   where
-    other : (key : ℕ) → 0 < count_of_key key kids + count_of_key key siblings → row.key ≢ key
-    other key some e = let o = once key in let more = own_more row kids siblings key e in absurd (omega arith)
-
     later : (key : ℕ) → 0 < count_of_key key siblings → ((new key).offset ≡ (old key).offset) ⊎ (holds (seen_at new canvas key siblings) x y ≡ false)
     later key live =
-        let ne = other key (omega arith) in
+        let ne = other_key key row kids siblings (once key) (omega arith) in
         let z : count_of_key key kids ≡ 0 = let o = once key in omega arith in
         elim (scrolls key (let o = once key in omega arith)) [
           | inl same ↦ inl same
@@ -102,7 +98,7 @@ met_scrolled x y old new canvas (Branch row kids siblings) once bounds scrolls =
     below : (new row.key).offset ≡ (old row.key).offset → (key : ℕ) → 0 < count_of_key key kids
         → ((new key).offset ≡ (old key).offset) ⊎ (holds (seen_at new (canvas_below (old row.key).state.bounds (scrolled old row).facts canvas) key kids) x y ≡ false)
     below same key live =
-        let ne = other key (omega arith) in
+        let ne = other_key key row kids siblings (once key) (omega arith) in
         let nz : count_of_key key kids ≡ 0 → ⊥ = λ z. absurd (omega arith) in
         elim (scrolls key (let o = once key in omega arith)) [
           | inl same ↦ inl same

@@ -1,9 +1,9 @@
 -- The canvas of a view, by that of its parent.
-use Rattle.std.proofs.Common.{◌≡◌, ◌≢◌, ℕ, ◌+◌, ◌<◌, ◌≤◌, ℤ, Bool, true, false, Option, Some, None, List, [], ◌∷◌, refl, sym, ap, ◌∙◌, arith, inl, inr, ◌⊎◌}
+use Rattle.std.proofs.Common.{◌≡◌, ◌≢◌, ℕ, ◌<◌, ◌≤◌, ℤ, Bool, true, false, Option, Some, None, List, [], ◌∷◌, refl, sym, ap, ◌∙◌, arith, inl, inr, ◌⊎◌}
 use Rattle.std.proofs.lemmas.Bool.{cases_eq, eq-eqb, ne_eqb}
 use Rattle.std.specs.Prelude.{MatchOption, pos}
 use Rattle.damage_rect.proofs.RectLaws.{and_none, meet_none}
-use Rattle.geom_core.specs.Rects.{holds}
+use Rattle.geom_core.specs.Rects.{empty_rect, holds}
 use Rattle.geom_core.specs.declared.geometry.Rect.{Rect}
 use Rattle.seen_parts.proofs.MeetingLaws.{nowhere_unseen, outside_unseen}
 use Rattle.seen_parts.proofs.SeeingLaws.{unseen_below}
@@ -11,14 +11,11 @@ use Rattle.seen_parts.specs.Meeting.{as_seen, canvas_around}
 use Rattle.seen_parts.specs.declared.frame.Canvas.{Canvas as FramedCanvas}
 use Rattle.view_model.specs.declared.facts.Facts.{Facts}
 use Rattle.view_model.specs.Forest.{Forest, Nothing, Branch}
-use Rattle.view_model.specs.Visible.{Canvas, canvas_below, moved_rect, no_rect, seen_in}
+use Rattle.view_model.specs.Visible.{Canvas, canvas_below, moved_rect, seen_in}
 use Rattle.view_tree.specs.Rows.{Row, ancestors, around, count_of_key, head_view, part_from}
 use Rattle.view_tree.specs.Views.{Held, scrolled}
 use Rattle.view_tree.proofs.forest.AncestorLaws.{around_after, around_below, around_here, left}
-use Rattle.view_tree.proofs.forest.KeyLaws.{Within, count_of_key-within, from_within, here, in_after, in_below, times_self}
-
-pub own_more : (row : Row) (kids siblings : Forest Row) (x : ℕ) → row.key ≡ x → count_of_key x kids + count_of_key x siblings < count_of_key x (Branch row kids siblings)
-own_more row kids siblings x e = rw (eq-eqb row.key x e) (omega arith)
+use Rattle.view_tree.proofs.forest.KeyLaws.{Within, count_of_key-within, from_within, here, in_after, in_below, times_self, own_more}
 
 module _ (held : ℕ → Held) where
   canvas_here : (canvas : Canvas) (k : ℕ) (row : Row) (kids siblings : Forest Row) → row.key ≡ k → canvas_around held canvas k (Branch row kids siblings) ≡ canvas
@@ -131,19 +128,19 @@ module _ (held : ℕ → Held) where
         ∙ ap (λ (x : ℕ). canvas_below (held x).state.bounds (record (head_view (part_from x t)).facts { offset = (held x).offset }) (canvas_around held canvas x t)) same
   ]
 
-no_rect_holds : (x y : ℤ) → holds no_rect x y ≡ false
-no_rect_holds x y = nowhere_unseen no_canvas x y
+empty_rect_holds : (x y : ℤ) → holds empty_rect x y ≡ false
+empty_rect_holds x y = nowhere_unseen no_canvas x y
   where
     no_canvas : Canvas
-    no_canvas = record { left = pos 0; top = pos 0; clip = no_rect }
+    no_canvas = record { left = pos 0; top = pos 0; clip = empty_rect }
 
 -- where nothing is seen of a view, nothing is seen of its children
 pub below_none : (bounds : Option Rect) (facts : Facts) (canvas : Canvas) (x y : ℤ) → holds canvas.clip x y ≡ false → holds (canvas_below bounds facts canvas).clip x y ≡ false
-below_none None facts canvas x y out = no_rect_holds x y
+below_none None facts canvas x y out = empty_rect_holds x y
 below_none (Some rect) facts canvas x y out = unseen_below facts rect canvas x y (outside_unseen (Some rect) canvas x y out)
 
 pub below_nowhere : (bounds : Option Rect) (facts : Facts) (canvas : Canvas) (x y : ℤ) → bounds ≡ None → holds (canvas_below bounds facts canvas).clip x y ≡ false
-below_nowhere bounds facts canvas x y is = rw is (no_rect_holds x y)
+below_nowhere bounds facts canvas x y is = rw is (empty_rect_holds x y)
 
 -- the canvas that was returned is that of the children of a view
 pub answer_below : (answer : Option FramedCanvas) (rect : Rect) (bounds : Option Rect) (facts own : Facts) (canvas outer whole : Canvas) → bounds ≡ Some rect → facts ≡ own → canvas ≡ outer
@@ -159,7 +156,7 @@ answer_below None rect bounds facts own canvas outer whole lies same at is below
 answer_below (Some inner) rect bounds facts own canvas outer whole lies same at is below = below ∙ sym (is ∙ rw (lies, same, at) refl)
 
 -- what is seen of a view of which nothing can be
-pub seen_none : (bounds : Option Rect) (canvas : Canvas) → ((x y : ℤ) → holds canvas.clip x y ≡ false) → no_rect ≡ seen_in bounds canvas
+pub seen_none : (bounds : Option Rect) (canvas : Canvas) → ((x y : ℤ) → holds canvas.clip x y ≡ false) → empty_rect ≡ seen_in bounds canvas
 seen_none None canvas none = refl
 seen_none (Some rect) canvas none =
     sym (meet_none (moved_rect rect canvas.left canvas.top) canvas.clip λ x y. and_none (holds (moved_rect rect canvas.left canvas.top) x y) (holds canvas.clip x y) (none x y))

@@ -3,18 +3,25 @@ use Rattle.std.proofs.Common.{◌≡◌, List, ℤ, pos, ◌-ℤ◌, ◌+ℤ◌,
 use Rattle.std.specs.Prelude.{◌&&◌, ◌||◌, not, int_lt, if◌then◌else◌}
 use Rattle.std.proofs.lemmas.Int.{ints}
 use Rattle.damage_rect.proofs.RectLaws.{and_true, empty_none, meet_holds}
-use Rattle.geom_core.specs.Rects.{holds, meet_of}
+use Rattle.geom_core.specs.Rects.{empty_rect, holds, meet_of}
 use Rattle.geom_core.specs.declared.color.Argb.{Argb}
 use Rattle.geom_core.specs.declared.color.TheConstants.{BLACK}
 use Rattle.geom_core.specs.declared.geometry.Size.{Size}
 use Rattle.geom_core.specs.declared.geometry.Rect.{Rect}
 use Rattle.view_model.specs.declared.facts.Facts.{Facts}
 use Rattle.view_model.specs.Forest.{Forest, Nothing, Branch}
-use Rattle.view_model.specs.Geometry.{Laid, size_of_rect}
+use Rattle.view_model.specs.Geometry.{Laid, rect_at, size_of_rect}
 use Rattle.view_model.specs.Painting.{Painter, PlacedView, drawn_in, inner_rect, is_drawn, painted, pixel_color, placed_by, reaches_children}
 use Rattle.view_model.specs.PlainTree.{PlainView}
-use Rattle.view_model.specs.Visible.{Canvas, canvas_below, moved_rect, no_rect, seen_in, whole_window}
+use Rattle.view_model.specs.Visible.{Canvas, canvas_below, moved_rect, seen_in, whole_window}
 use Rattle.seen_parts.specs.Meeting.{met_at}
+
+nothing_more : (n : ℤ) → pos 0 +ℤ n ≡ n
+nothing_more n = omega (arith, ints)
+
+-- what lies at the origin of a window and is as large is all of it
+pub whole_is : (window : Size) → rect_at (pos 0) (pos 0) window ≡ (whole_window window).clip
+whole_is window = rw (nothing_more window.w, nothing_more window.h) refl
 
 lt_moved : (x by edge : ℤ) → int_lt x (edge +ℤ by) ≡ int_lt (x -ℤ by) edge
 lt_moved x by edge = grind (arith, ints)
@@ -35,7 +42,7 @@ seen_holds rect canvas x y =
     ∙ ap (λ (t : Bool). t && holds canvas.clip x y) (moved_holds rect canvas.left canvas.top x y)
 
 pub nowhere_unseen : (canvas : Canvas) (x y : ℤ) → holds (seen_in None canvas) x y ≡ false
-nowhere_unseen canvas x y = empty_none no_rect x y refl
+nowhere_unseen canvas x y = empty_none empty_rect x y refl
 
 shifted_across : (x left canvas : ℤ) → x -ℤ (left +ℤ canvas) ≡ (x -ℤ canvas) -ℤ left
 shifted_across x left canvas = omega (arith, ints)

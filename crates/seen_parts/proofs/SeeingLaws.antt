@@ -3,7 +3,7 @@ use Rattle.std.proofs.Common.{◌≡◌, ℤ, ◌+ℤ◌, ◌<ℤ◌, Bool, true
 use Rattle.std.specs.Prelude.{IfSome, MatchOption, ◌&&◌, ◌||◌, not, int_lt, if◌then◌else◌}
 use Rattle.std.proofs.lemmas.Int.{ints}
 use Rattle.damage_rect.proofs.RectLaws.{meet_holds, meet_none}
-use Rattle.geom_core.specs.Rects.{holds, is_empty, larger_of, meet_of, overlap_of, smaller_of}
+use Rattle.geom_core.specs.Rects.{empty_rect, holds, is_empty, larger_of, meet_of, overlap_of, smaller_of}
 use Rattle.geom_core.specs.declared.geometry.Rect.{Rect}
 use Rattle.seen_parts.specs.Frames.{IsBelow, IsMoved, IsCommonPart, IsWithout, frame_holds, padding_of}
 use Rattle.seen_parts.specs.Meeting.{as_seen}
@@ -12,7 +12,7 @@ use Rattle.seen_parts.specs.declared.frame.Frame.{Frame}
 use Rattle.view_model.specs.declared.facts.Facts.{Facts}
 use Rattle.view_model.specs.Geometry.{size_of_rect}
 use Rattle.view_model.specs.Painting.{inner_rect}
-use Rattle.view_model.specs.Visible.{Canvas, canvas_below, moved_rect, no_rect, seen_in}
+use Rattle.view_model.specs.Visible.{Canvas, canvas_below, moved_rect, seen_in}
 
 -- a frame has the edges of a rectangle
 pub record FrameOf (rect : Rect) (frame : Frame) : Type 0 where
@@ -66,7 +66,7 @@ swap true false = refl
 swap false true = refl
 swap false false = refl
 
-pub none_is_meet : (rect clip : Rect) (frame : Frame) → FrameOf rect frame → ((x y : ℤ) → false ≡ (holds clip x y && frame_holds frame x y)) → no_rect ≡ meet_of rect clip
+pub none_is_meet : (rect clip : Rect) (frame : Frame) → FrameOf rect frame → ((x y : ℤ) → false ≡ (holds clip x y && frame_holds frame x y)) → empty_rect ≡ meet_of rect clip
 none_is_meet rect clip frame of none =
     sym (meet_none rect clip λ x y. swap (holds rect x y) (holds clip x y) ∙ ap (λ (t : Bool). holds clip x y && t) (sym (frame_is rect frame of x y)) ∙ sym (none x y))
 

@@ -3,13 +3,14 @@ use Rattle.std.proofs.Common.{◌≡◌, ℕ, ◌<◌, ◌≤◌, Bool, true, fa
 use Rattle.std.proofs.lemmas.Bool.{cases_Bool, cases_eq, eq-eqb, ne_eqb}
 use Rattle.std.specs.Prelude.{◌==◌, if◌then◌else◌, unwrap_or}
 use Rattle.damage_rect.specs.Within.{LiesIn}
+use Rattle.geom_core.specs.Rects.{empty_rect}
 use Rattle.geom_core.specs.declared.geometry.Rect.{Rect}
 use Rattle.geom_core.specs.declared.geometry.Size.{Size}
 use Rattle.seen_parts.proofs.PlacedLaws.{placed_is}
 use Rattle.seen_parts.specs.Meeting.{canvas_around, placed_rows, seen_at}
 use Rattle.view_model.specs.Forest.{Forest, Nothing, Branch}
 use Rattle.view_model.specs.Painting.{PlacedView}
-use Rattle.view_model.specs.Visible.{Canvas, canvas_below, no_rect, seen_in, visible_in, visible_rect, whole_window}
+use Rattle.view_model.specs.Visible.{Canvas, canvas_below, seen_in, visible_in, visible_rect, whole_window}
 use Rattle.seen_parts.proofs.VisibleLaws.{below_within, seen_within}
 use Rattle.view_tree.specs.Rows.{Row, count_of_key}
 use Rattle.view_tree.specs.Views.{Held, IsLive, IsTree, Views, geometry_of, held_of, number_of, plain_of, scrolled}
@@ -53,8 +54,8 @@ visible_is held canvas key number (Branch row kids siblings) live once agree = e
 pub seen_visible : (views : Views) (window : Size) (key : ℕ) → IsTree views → IsLive views key
     → visible_rect (plain_of views) (geometry_of views) window (number_of views key) ≡ seen_at (held_of views) (whole_window window) key views.tree
 seen_visible views window key is live =
-    ap (λ (list : Forest PlacedView). unwrap_or (visible_in list (whole_window window) (number_of views key)) no_rect) (placed_is views is)
-    ∙ ap (λ (rect : Option Rect). unwrap_or rect no_rect) (visible_is (held_of views) (whole_window window) key (number_of views key) views.tree live (is.keys key) (agree_live views key is live))
+    ap (λ (list : Forest PlacedView). unwrap_or (visible_in list (whole_window window) (number_of views key)) empty_rect) (placed_is views is)
+    ∙ ap (λ (rect : Option Rect). unwrap_or rect empty_rect) (visible_is (held_of views) (whole_window window) key (number_of views key) views.tree live (is.keys key) (agree_live views key is live))
 
 -- the canvas of a view lies in that of the list that it is in
 clip_within : (held : ℕ → Held) (canvas : Canvas) (key : ℕ) (list : Forest Row) → LiesIn (canvas_around held canvas key list).clip canvas.clip

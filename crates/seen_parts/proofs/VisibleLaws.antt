@@ -2,16 +2,16 @@
 use Rattle.std.proofs.Common.{◌+ℤ◌, Bool, true, false, Option, Some, None, refl}
 use Rattle.std.specs.Prelude.{if◌then◌else◌}
 use Rattle.geom_core.specs.declared.geometry.Rect.{Rect}
-use Rattle.geom_core.specs.Rects.{meet_of}
+use Rattle.geom_core.specs.Rects.{empty_rect, meet_of}
 use Rattle.damage_rect.specs.Within.{LiesIn}
 use Rattle.damage_rect.proofs.RectLaws.{empty_within, meet_within_second}
 use Rattle.view_model.specs.declared.facts.Facts.{Facts}
 use Rattle.view_model.specs.Geometry.{size_of_rect}
 use Rattle.view_model.specs.Painting.{inner_rect}
-use Rattle.view_model.specs.Visible.{Canvas, canvas_below, moved_rect, no_rect, seen_in}
+use Rattle.view_model.specs.Visible.{Canvas, canvas_below, moved_rect, seen_in}
 
 pub seen_within : (bounds : Option Rect) (canvas : Canvas) → LiesIn (seen_in bounds canvas) canvas.clip
-seen_within None canvas = empty_within no_rect canvas.clip refl
+seen_within None canvas = empty_within empty_rect canvas.clip refl
 seen_within (Some rect) canvas = meet_within_second (moved_rect rect canvas.left canvas.top) canvas.clip
 
 -- the canvas of the children of a view

@@ -1,9 +1,9 @@
 //! What is seen of a view in a canvas.
 ghost use Rattle.std.specs.Prelude.{◌≡◌, ◌≢◌, ◌^◌, ℤ, Some, None, true, false, IfSome, MatchOption};
 ghost use Rattle.damage_rect.specs.Within.{LiesIn};
-ghost use Rattle.geom_core.specs.Rects.{holds};
+ghost use Rattle.geom_core.specs.Rects.{empty_rect, holds};
 ghost use Rattle.geom_core.specs.declared.geometry.Rect.{Rect};
-ghost use Rattle.view_model.specs.Visible.{canvas_below, no_rect, seen_in, whole_window};
+ghost use Rattle.view_model.specs.Visible.{canvas_below, seen_in, whole_window};
 ghost use Rattle.seen_parts.specs.Frames.{IsBelow, IsCanvas, IsInReach, IsSeen, IsNearCanvas};
 ghost use Rattle.seen_parts.specs.Meeting.{Follows, as_seen};
 
@@ -42,7 +42,7 @@ pub fn part_seen(bounds: Option<Rect>, canvas: Canvas) -> Rect
 
 /// The rectangle without a pixel.
 pub fn nowhere() -> Rect
-    ensures { result ≡ no_rect }
+    ensures { result ≡ empty_rect }
 {
     Rect {
         left: 0,

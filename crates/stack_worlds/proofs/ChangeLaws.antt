@@ -7,9 +7,10 @@ use Rattle.std.specs.Prelude.{Option, Some, None, Box, Result, Ok, Err, ℤ, pos
 use Rattle.std.specs.declared.alloc.Global.{Global}
 use Rattle.script_lines.specs.reading.Pixels.{IsPart}
 use Rattle.stack_worlds.proofs.ComposedLaws.{some_text}
+use Rattle.stack_worlds.proofs.GivenLaws.{text_in}
 use Rattle.stack_worlds.proofs.PlaceLaws.{place_set}
 use Rattle.stack_worlds.specs.KeptStack.{KeyedStack, kept_world, stack_of}
-use Rattle.stack_worlds.specs.PlainStack.{PlainStack, StackReply, Done, Refused, composed, composed_text, own_step, placed_at}
+use Rattle.stack_worlds.specs.PlainStack.{PlainStack, Done, composed, composed_text, own_step, placed_at}
 use Rattle.stack_worlds.specs.StackCarried.{WritesStack, written}
 use Rattle.stack_worlds.specs.declared.stack.way.Own.TheVariants as own
 use Rattle.text_lines.specs.Delivered.{Delivered}
@@ -77,10 +78,6 @@ part_back stack x y w h part =
     ∙ ap (λ (n : ℤ). composed_text stack (unsigned_abs x) (unsigned_abs n) (unsigned_abs (back w)) (unsigned_abs (back h))) (same_back y part.1.0 (omega (arith, ints, part.1.1)))
     ∙ ap (λ (n : ℤ). composed_text stack (unsigned_abs x) (unsigned_abs y) (unsigned_abs n) (unsigned_abs (back h))) (same_back w (omega (arith, ints, part.2.0)) part.2.1)
     ∙ ap (λ (n : ℤ). composed_text stack (unsigned_abs x) (unsigned_abs y) (unsigned_abs w) (unsigned_abs n)) (same_back h (omega (arith, ints, part.3.0)) part.3.1)
-
-abbrev text_in : StackReply → List ℕ
-text_in (Done stack text) = text
-text_in (Refused refusal) = []
 
 -- a part always has a text
 pub part_text : (stack after : PlainStack) (x y w h : ℤ) → IsPart x y w h → own_step stack (own.Compose x y w h) ≡ Done after [] → ⊥

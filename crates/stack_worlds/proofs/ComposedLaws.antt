@@ -1,5 +1,5 @@
 -- The texts of a part of a stack, and the colour of a point of a window.
-use Rattle.std.proofs.Common.{◌≡◌, ◌∙◌, ℕ, zero, suc, ◌+◌, ◌≤◌, List, [], ◌∷◌, ap, arith, refl, sym}
+use Rattle.std.proofs.Common.{◌≡◌, ◌∙◌, ℕ, zero, suc, ◌≤◌, List, [], ◌∷◌, ap, arith, refl, sym}
 use Rattle.std.specs.Option.{option_map}
 use Rattle.std.proofs.lemmas.Int.{ints}
 use Rattle.std.specs.Prelude.{ℤ, pos, negsuc, ◌≤ℤ◌, unsigned_abs, Option, Some, None}
@@ -12,19 +12,11 @@ use Rattle.stack_worlds.specs.KeptStack.{KeyedStack, keyed_at, stack_of}
 use Rattle.stack_worlds.specs.PlainStack.{color_from, color_in, settled_sizes}
 use Rattle.stack_worlds.specs.declared.stack.composing.Composed.{Composed}
 use Rattle.stack_worlds.specs.declared.stack.composing.Part.{Part}
-use Rattle.text_lines.proofs.Sending.{sends_as, sends_both}
-use Rattle.text_lines.specs.BufferedText.{BufferedText, Sends}
 use Rattle.text_lines.specs.Joined.{◌⧺◌}
-use Rattle.tool_io.specs.SinkState.{SinkState}
 use Rattle.view_world.specs.world.KeyedWorld.{KeyedWorld, world_of}
 use Rattle.world_replies.specs.Replies.{pixel_text, pixels_text, separator, texts_below}
 use Rattle.world_parts.specs.World.{World}
 use Rattle.window_stack.specs.PlainPanes.{corner_of}
-
--- one text more of those by number
-pub sends_next : {old mid new : SinkState} {before held after : BufferedText} (text : ℕ → List ℕ) (n : ℕ)
-    → Sends old mid before held (texts_below text n) → Sends mid new held after (text n) → Sends old new before after (texts_below text (n + 1))
-sends_next text n first next = let e : suc n ≡ n + 1 = omega arith in sends_as (ap (texts_below text) e) (sends_both first next)
 
 -- the colour of a point of a window that has a world
 pub color_there : (stack : KeyedStack) (k : ℕ) (world : KeyedWorld) (x y : ℤ) → keyed_at stack k ≡ Some world

@@ -48,7 +48,7 @@ held_after old mid new holder k world after e is hold =
 pub asked_there : (old : KeyedStack) (k : ℕ) (said : PlainCommand) (world : KeyedWorld) → keyed_at old k ≡ Some world → asked_in (world_at (stack_of old) k) said ≡ asked_file (world_of world) said
 asked_there old k said world e = ap (λ (there : Option World). asked_in there said) (plain_there old k world e)
 
-abbrev text_in : StackReply → List ℕ
+abbrev pub text_in : StackReply → List ℕ
 text_in (Done stack text) = text
 text_in (Refused refusal) = []
 

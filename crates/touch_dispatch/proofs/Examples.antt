@@ -10,7 +10,7 @@ use Rattle.touch_dispatch.specs.handling.Handling.{Progress, is_same_offset, tar
 use Rattle.touch_dispatch.specs.reaching.Points.{cancel_event, is_inside, is_near_point, local_point}
 use Rattle.touch_dispatch.specs.declared.log.Entry.{Entry}
 use Rattle.touch_dispatch.specs.declared.log.Kind.TheVariants.{Ask, Touch, Scroll}
-use Rattle.touch_event.specs.declared.event.Action.{Action}
+use Rattle.touch_event.specs.Events.{event_of}
 use Rattle.touch_event.specs.declared.event.Action.TheVariants.{Down, Up, Move, Cancel, PointerDown, PointerUp}
 use Rattle.touch_event.specs.declared.event.Event.{Event}
 use Rattle.touch_event.specs.declared.event.Point.{Point}
@@ -44,9 +44,6 @@ on progress = record progress { entries = [] }
 abbrev at : ℕ → ℤ → ℤ → Point
 at id x y = record { id = id; x = x; y = y }
 
-abbrev event : Action → ℕ → List Point → Event
-event action pointer points = record { action = action; pointer = pointer; points = record { items = points } }
-
 abbrev ask : ℕ → Event → Bool → Entry
 ask view event yes_ = record { view = view; kind = Ask; event = event; yes = yes_; offset = pos 0 }
 
@@ -68,7 +65,7 @@ list_scene = record {
 }
 
 abbrev drag_down : Event
-drag_down = event Down 0 (at 0 (pos 5) (pos 30) ∷ [])
+drag_down = event_of Down 0 (at 0 (pos 5) (pos 30) ∷ [])
 
 abbrev after_down : Progress
 after_down = (reach list_scene list drag_down start).progress
@@ -79,7 +76,7 @@ down_entries = refl
 
 -- the pointer moves by more than the slop: the scroll view takes the gesture away from its child
 abbrev drag_move : Event
-drag_move = event Move 0 (at 0 (pos 5) (pos 20) ∷ [])
+drag_move = event_of Move 0 (at 0 (pos 5) (pos 20) ∷ [])
 
 abbrev after_move : Progress
 after_move = (reach list_scene list drag_move (on after_down)).progress
@@ -90,7 +87,7 @@ move_entries = refl
 
 -- and then scrolls by all that the pointer moves
 abbrev drag_on : Event
-drag_on = event Move 0 (at 0 (pos 5) (pos 10) ∷ [])
+drag_on = event_of Move 0 (at 0 (pos 5) (pos 10) ∷ [])
 
 abbrev after_on : Progress
 after_on = (reach list_scene list drag_on (on after_move)).progress
@@ -100,7 +97,7 @@ unfolding is_inside local_point clamp_coordinate is_near_point is_past way_up be
 on_entries = refl
 
 abbrev drag_up : Event
-drag_up = event Up 0 (at 0 (pos 5) (pos 10) ∷ [])
+drag_up = event_of Up 0 (at 0 (pos 5) (pos 10) ∷ [])
 
 up_entries : (reach list_scene list drag_up (on after_on)).progress.entries ≡ touch 1 drag_up true ∷ []
 unfolding is_inside local_point clamp_coordinate is_near_point is_past way_up beyond_slop is_same_offset offset_within
@@ -122,7 +119,7 @@ pair_scene = record {
 
 -- the first pointer goes to the child under it
 abbrev first : Event
-first = event Down 0 (at 0 (pos 10) (pos 5) ∷ [])
+first = event_of Down 0 (at 0 (pos 10) (pos 5) ∷ [])
 
 abbrev after_first : Progress
 after_first = (reach pair_scene pair first start).progress
@@ -133,25 +130,25 @@ first_entries = refl
 
 -- the second one to the other, and the first child gets a move
 abbrev second : Event
-second = event PointerDown 1 (at 0 (pos 10) (pos 5) ∷ at 1 (pos 60) (pos 5) ∷ [])
+second = event_of PointerDown 1 (at 0 (pos 10) (pos 5) ∷ at 1 (pos 60) (pos 5) ∷ [])
 
 abbrev after_second : Progress
 after_second = (reach pair_scene pair second (on after_first)).progress
 
 second_entries : after_second.entries
-    ≡ ask 1 second false ∷ touch 3 (event Down 1 (at 1 (pos 10) (pos 5) ∷ [])) true ∷ touch 2 (event Move 1 (at 0 (pos 10) (pos 5) ∷ [])) true ∷ []
+    ≡ ask 1 second false ∷ touch 3 (event_of Down 1 (at 1 (pos 10) (pos 5) ∷ [])) true ∷ touch 2 (event_of Move 1 (at 0 (pos 10) (pos 5) ∷ [])) true ∷ []
 unfolding is_inside local_point clamp_coordinate
 second_entries = refl
 
 -- a pointer that goes up leaves, and the child that had no other is no longer a target
 abbrev third : Event
-third = event PointerUp 0 (at 0 (pos 10) (pos 5) ∷ at 1 (pos 60) (pos 5) ∷ [])
+third = event_of PointerUp 0 (at 0 (pos 10) (pos 5) ∷ at 1 (pos 60) (pos 5) ∷ [])
 
 abbrev after_third : Progress
 after_third = (reach pair_scene pair third (on after_second)).progress
 
 third_entries : after_third.entries
-    ≡ ask 1 third false ∷ touch 3 (event Move 0 (at 1 (pos 10) (pos 5) ∷ [])) true ∷ touch 2 (event Up 0 (at 0 (pos 10) (pos 5) ∷ [])) true ∷ []
+    ≡ ask 1 third false ∷ touch 3 (event_of Move 0 (at 1 (pos 10) (pos 5) ∷ [])) true ∷ touch 2 (event_of Up 0 (at 0 (pos 10) (pos 5) ∷ [])) true ∷ []
 unfolding is_inside local_point clamp_coordinate
 third_entries = refl
 
@@ -160,9 +157,9 @@ unfolding is_inside local_point clamp_coordinate
 third_targets = refl
 
 abbrev last : Event
-last = event Up 1 (at 1 (pos 60) (pos 5) ∷ [])
+last = event_of Up 1 (at 1 (pos 60) (pos 5) ∷ [])
 
-last_entries : (reach pair_scene pair last (on after_third)).progress.entries ≡ ask 1 last false ∷ touch 3 (event Up 1 (at 1 (pos 10) (pos 5) ∷ [])) true ∷ []
+last_entries : (reach pair_scene pair last (on after_third)).progress.entries ≡ ask 1 last false ∷ touch 3 (event_of Up 1 (at 1 (pos 10) (pos 5) ∷ [])) true ∷ []
 unfolding is_inside local_point clamp_coordinate
 last_entries = refl
 
@@ -184,7 +181,7 @@ unfolding is_inside local_point clamp_coordinate
 whole_entries = refl
 
 abbrev all_up : Event
-all_up = event Cancel 1 []
+all_up = event_of Cancel 1 []
 
 cancel_entries : (reach pair_scene whole all_up (on whole_second)).progress.entries ≡ ask 1 all_up false ∷ touch 2 all_up true ∷ []
 unfolding is_inside local_point clamp_coordinate
@@ -210,7 +207,7 @@ abbrev after_removal : Progress
 after_removal = on after_cancel
 
 abbrev moved : Event
-moved = event Move 0 (at 0 (pos 6) (pos 6) ∷ [])
+moved = event_of Move 0 (at 0 (pos 6) (pos 6) ∷ [])
 
 moved_entries : (reach pair_scene alone moved after_removal).progress.entries ≡ touch 1 moved false ∷ []
 unfolding is_inside local_point clamp_coordinate

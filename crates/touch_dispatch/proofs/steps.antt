@@ -1,5 +1,6 @@
 -- Laws of the steps of an event through the tree.
 pub mod GrowLaws
+pub mod GroupEvents
 pub mod KeepLaws
 pub mod PartLaws
 pub mod ReachSteps

@@ -194,27 +194,37 @@ hand_part None kid progress = record { yes = false; progress = progress }
 hand_part (Some part) None progress = record { yes = false; progress = progress }
 hand_part (Some part) (Some kid) progress = kid.reach part progress
 
-abbrev pub hand_to : Scene → PlainView → List EventChild → Event → Bool → Taker → Target → Progress → Reached
-hand_to scene own kids event intercepted taker target progress =
-    if is_sent taker target.child
+-- an event that a group gives its targets: whether it takes the event away from its children, and which of them took
+-- it when they were tried
+pub record GroupEvent : Type 0 where
+  pub scene : Scene
+  pub own : PlainView
+  pub kids : List EventChild
+  pub event : Event
+  pub intercepted : Bool
+  pub taker : Taker
+
+abbrev pub hand_to : GroupEvent → Target → Progress → Reached
+hand_to h target progress =
+    if is_sent h.taker target.child
     then record { yes = true; progress = progress }
-    else hand_part (part_for (scene.rects target.child) (progress.offsets own.number) event intercepted target.ids)
-    (child_of target.child kids) progress
+    else hand_part
+    (part_for (h.scene.rects target.child) (progress.offsets h.own.number) h.event h.intercepted target.ids)
+    (child_of target.child h.kids) progress
 
 -- each target gets its part, the newest first; yes if one of them says so
-abbrev pub hand_out : Scene → PlainView → List EventChild → Event → Bool → Taker → List Target → Bool → Progress
-    → Reached
-hand_out scene own kids event intercepted taker [] said progress = record { yes = said; progress = progress }
-hand_out scene own kids event intercepted taker (t ∷ targets) said progress =
-    let reached = hand_to scene own kids event intercepted taker t progress in
-    hand_out scene own kids event intercepted taker targets (said || reached.yes) reached.progress
+abbrev pub hand_out : GroupEvent → List Target → Bool → Progress → Reached
+hand_out h [] said progress = record { yes = said; progress = progress }
+hand_out h (t ∷ targets) said progress =
+    let reached = hand_to h t progress in
+    hand_out h targets (said || reached.yes) reached.progress
 
 -- the group itself if it has no target, otherwise its targets
-abbrev pub answered : Scene → PlainView → List EventChild → Event → Bool → Taker → Progress → Reached
-answered scene own kids event intercepted taker progress =
-    if is_nil (targets_at progress own.number)
-    then handled (receiver scene own kids) event progress
-    else hand_out scene own kids event intercepted taker (targets_at progress own.number) false progress
+abbrev pub answered : GroupEvent → Progress → Reached
+answered h progress =
+    if is_nil (targets_at progress h.own.number)
+    then handled (receiver h.scene h.own h.kids) h.event progress
+    else hand_out h (targets_at progress h.own.number) false progress
 
 -- an interception leaves no target
 abbrev pub intercepted_cleared : Bool → ℕ → Progress → Progress
@@ -240,7 +250,14 @@ abbrev pub group_reached : Scene → PlainView → List EventChild → Event →
 group_reached scene own kids event progress =
     let first = asked (receiver scene own kids) event (begun own.number event.action progress) in
     let second = offered scene own kids event first.yes first.progress in
-    let third = answered scene own kids event first.yes second.taker second.progress in
+    let third = answered (record {
+      scene = scene;
+      own = own;
+      kids = kids;
+      event = event;
+      intercepted = first.yes;
+      taker = second.taker;
+    }) second.progress in
     record { yes = third.yes; progress = ended own.number own.facts.split event first.yes third.progress }
 
 abbrev pub reached_by : Scene → PlainView → List EventChild → Event → Progress → Reached

@@ -1,6 +1,7 @@
 -- Sets of pointers, and the numbers that represent them.
 use Rattle.std.proofs.Common.{◌≡◌, ℕ, zero, suc, ◌<◌, ◌≤◌, ◌+◌, ◌-◌, ◌^◌, true, false, Bool, min, max, refl, sym, ◌∙◌, ap, inl, inr, arith}
 use mathlib.Core.Path.{fun_ext}
+use Rattle.std.proofs.Math.Bool.{and-false}
 use Rattle.std.specs.Prelude.{◌==◌, ◌&&◌, ◌||◌, not}
 use Rattle.std.specs.Int.{bit_at, w32}
 use Rattle.std.specs.List.{list_any, range_with_len}
@@ -98,10 +99,6 @@ none_left ids = go 0 32 (omega arith)
     has_all : (i : ℕ) → i < 32 → has_id 4294967295 i ≡ true
     has_all i less = has_ones i less
 
-    and_false : (b : Bool) → (b && false) ≡ false
-    and_false true = refl
-    and_false false = refl
-
     go : (a n : ℕ) → a + n ≤ 32 → list_any (λ id. ids id && not (has_id 4294967295 id)) (range_with_len a n) ≡ false
     go a zero within = refl
-    go a (suc n) within = rw (has_all a (omega (arith, within)), and_false (ids a)) (go (a + 1) n (omega (arith, within)))
+    go a (suc n) within = rw (has_all a (omega (arith, within)), and-false (ids a)) (go (a + 1) n (omega (arith, within)))

@@ -5,7 +5,6 @@ use Rattle.kept_views.specs.Kept.{Reached}
 use Rattle.geom_core.specs.declared.geometry.Rect.{Rect}
 use Rattle.kept_views.specs.Laying.{Wrote, moved_to}
 use Rattle.kept_views.specs.Passes.{settled, settled_at}
-use Rattle.kept_views.proofs.laid.Keys.{own_more}
 use Rattle.kept_views.proofs.laid.LaidRows.{wrote_below}
 use Rattle.measure_pass.specs.Caches.{AskedBy, asked_under}
 use Rattle.measure_pass.specs.Sharing.{Share, Shared, SharesOut, mark_of}
@@ -17,7 +16,7 @@ use Rattle.view_model.specs.Measuring.{Specs}
 use Rattle.view_tree.specs.declared.node.state.State.{State}
 use Rattle.view_tree.specs.Rows.{Row, children_of_first, count_of_key, first_tree, head_view, later_siblings, part_from}
 use Rattle.view_tree.specs.Views.{Held, KeepsInside, KeepsOutside, specs_of}
-use Rattle.view_tree.proofs.forest.KeyLaws.{located}
+use Rattle.view_tree.proofs.forest.KeyLaws.{located, own_more}
 use Rattle.view_tree.proofs.forest.Walks.{once_from}
 use Rattle.traversal.specs.Growing.{LastAt}
 use Rattle.traversal.proofs.laid.GrownLaid.{LastAt-along, last_own}

@@ -21,6 +21,7 @@ use Rattle.view_model.specs.Numbers.{cycle}
 use Rattle.view_model.specs.declared.verbs.TheConstants.{ABOVE, BELOW, LEFT_OF, RIGHT_OF}
 use Rattle.view_model.specs.Refusals.{Cycle, refusal_numbered}
 use Rattle.view_model.specs.SiblingRules.{leads, names}
+use Rattle.tree_edits.proofs.SceneLaws.{scene}
 use Rattle.tree_edits.specs.Asking.{asked_by, excused}
 use Rattle.tree_edits.specs.declared.edits.Edit.TheVariants as edit
 use Rattle.tree_edits.specs.Editing.{Add, ActOn, Remove, SetText, outcome_of_edit, new_view}
@@ -40,9 +41,6 @@ leaf number = new_view number class.View (pos 5) (pos 6)
 laid : ℕ → ℕ → ℕ → Laid
 laid number right bottom = record { number = number; rect = record { left = pos 0; top = pos 0; right = pos right; bottom = pos bottom } }
 
-scene : Forest PlainView → ℕ → List Laid → EditScene
-scene tree next geometry = record { tree = tree; next = next; geometry = geometry }
-
 -- a frame 1 with a frame 2, which has a view 3, and after it a view 4
 inner : Forest PlainView
 inner = Branch (leaf 3) Nothing Nothing
@@ -60,25 +58,24 @@ start = scene (tree_with (frame 2)) 5 everywhere
 view_is_added : outcome_of_edit start (Add (Some 2) class.View (pos 7) (pos 8))
     ≡ Ok
     (scene (Branch (frame 1) (Branch (frame 2) (Branch (leaf 3) Nothing (Branch (new_view 5 class.View (pos 7) (pos 8)) Nothing Nothing)) (Branch (leaf 4) Nothing Nothing)) Nothing) 6 everywhere, Some 5)
-unfolding start scene tree_with inner everywhere frame leaf laid growth_refusal
+unfolding start tree_with inner everywhere frame leaf laid growth_refusal
 view_is_added = refl
 
 root_is_added : outcome_of_edit (scene Nothing 5 []) (Add None class.View (pos 7) (pos 8)) ≡ Ok (scene (Branch (new_view 5 class.View (pos 7) (pos 8)) Nothing Nothing) 6 [], Some 5)
-unfolding scene
 root_is_added = refl
 
 -- only a group takes a child
 view_takes_no_child : outcome_of_edit start (Add (Some 3) class.View (pos 7) (pos 8)) ≡ Err (refusal_numbered 21)
-unfolding start scene tree_with inner everywhere frame leaf laid growth_refusal
+unfolding start tree_with inner everywhere frame leaf laid growth_refusal
 view_takes_no_child = refl
 
 -- a view is removed with all below it, and with their bounds
 part_is_removed : outcome_of_edit start (Remove 2) ≡ Ok (scene (Branch (frame 1) (Branch (leaf 4) Nothing Nothing) Nothing) 5 (laid 1 40 30 ∷ laid 4 5 6 ∷ []), None)
-unfolding start scene tree_with inner everywhere frame leaf laid
+unfolding start tree_with inner everywhere frame leaf laid
 part_is_removed = refl
 
 root_is_removed : outcome_of_edit start (Remove 1) ≡ Ok (scene Nothing 5 [], None)
-unfolding start scene tree_with inner everywhere frame leaf laid
+unfolding start tree_with inner everywhere frame leaf laid
 root_is_removed = refl
 
 -- a view that is gone has no bounds from then on, nor has what is below it
@@ -86,18 +83,18 @@ gone : EditScene
 gone = scene (tree_with (record (frame 2) { facts = record (new_facts (pos 40) (pos 30)) { visibility = Gone } })) 5 (laid 1 40 30 ∷ laid 4 5 6 ∷ [])
 
 gone_lies_nowhere : outcome_of_edit start (ActOn 2 (act.Visible Gone)) ≡ Ok (gone, None)
-unfolding start gone scene tree_with inner everywhere frame leaf laid
+unfolding start gone tree_with inner everywhere frame leaf laid
 gone_lies_nowhere = refl
 
 -- shown again it has no bounds until the next layout
 shown_again : outcome_of_edit gone (ActOn 2 (act.Visible Visible)) ≡ Ok (scene (tree_with (frame 2)) 5 (laid 1 40 30 ∷ laid 4 5 6 ∷ []), None)
-unfolding gone scene tree_with inner frame leaf laid
+unfolding gone tree_with inner frame leaf laid
 shown_again = refl
 
 -- a view that is not drawn keeps its place
 invisible_stays : outcome_of_edit start (ActOn 2 (act.Visible Invisible))
     ≡ Ok (scene (tree_with (record (frame 2) { facts = record (new_facts (pos 40) (pos 30)) { visibility = Invisible } })) 5 everywhere, None)
-unfolding start scene tree_with inner everywhere frame leaf laid
+unfolding start tree_with inner everywhere frame leaf laid
 invisible_stays = refl
 
 -- margins replace start and end values
@@ -109,44 +106,44 @@ started = record (new_facts (pos 40) (pos 30)) { margin_start = Some (pos 8); ma
 
 margins_drop_start_and_end : outcome_of_edit (scene (Branch (record (frame 1) { facts = started }) Nothing Nothing) 2 []) (ActOn 1 (act.Change (change.Margins sides)))
     ≡ Ok (scene (Branch (record (frame 1) { facts = record (new_facts (pos 40) (pos 30)) { margins = sides; padding_start = Some (pos 7) } }) Nothing Nothing) 2 [], None)
-unfolding scene frame started sides
+unfolding frame started sides
 margins_drop_start_and_end = refl
 
 -- what a class does not have is refused
 view_clips_nothing : outcome_of_edit start (ActOn 3 (act.Flag flag.Clip true)) ≡ Err (refusal_numbered 29)
-unfolding start scene tree_with inner everywhere frame leaf laid
+unfolding start tree_with inner everywhere frame leaf laid
 view_clips_nothing = refl
 
 frame_does_not_scroll : outcome_of_edit start (ActOn 2 (act.Scroll (pos 3))) ≡ Err (refusal_numbered 29)
-unfolding start scene tree_with inner everywhere frame leaf laid
+unfolding start tree_with inner everywhere frame leaf laid
 frame_does_not_scroll = refl
 
 frame_has_no_text : outcome_of_edit start (SetText 2 (65 ∷ [])) ≡ Err (refusal_numbered 29)
-unfolding start scene tree_with inner everywhere frame leaf laid
+unfolding start tree_with inner everywhere frame leaf laid
 frame_has_no_text = refl
 
 -- what only a linear layout has
 sum_of_a_frame : outcome_of_edit start (ActOn 2 (act.WeightSum 256)) ≡ Err (refusal_numbered 29)
-unfolding start scene tree_with inner everywhere frame leaf laid
+unfolding start tree_with inner everywhere frame leaf laid
 sum_of_a_frame = refl
 
 way_of_a_view : outcome_of_edit start (ActOn 3 (act.Orient true)) ≡ Err (refusal_numbered 29)
-unfolding start scene tree_with inner everywhere frame leaf laid
+unfolding start tree_with inner everywhere frame leaf laid
 way_of_a_view = refl
 
 gravity_of_the_children_of_a_frame : outcome_of_edit start (ActOn 2 (act.Change (change.Gravity true no_gravity))) ≡ Err (refusal_numbered 29)
-unfolding start scene tree_with inner everywhere frame leaf laid
+unfolding start tree_with inner everywhere frame leaf laid
 gravity_of_the_children_of_a_frame = refl
 
 line : Facts → EditScene
 line facts = scene (Branch (record (new_view 1 class.LinearLayout (pos 40) (pos 30)) { facts = facts }) Nothing Nothing) 2 []
 
 sum_is_set : outcome_of_edit (line (new_facts (pos 40) (pos 30))) (ActOn 1 (act.WeightSum 256)) ≡ Ok (line (record (new_facts (pos 40) (pos 30)) { weight_sum = 256 }), None)
-unfolding line scene
+unfolding line
 sum_is_set = refl
 
 way_is_set : outcome_of_edit (line (new_facts (pos 40) (pos 30))) (ActOn 1 (act.Orient true)) ≡ Ok (line (record (new_facts (pos 40) (pos 30)) { vertical = true }), None)
-unfolding line scene
+unfolding line
 way_is_set = refl
 
 left : Gravity
@@ -154,18 +151,18 @@ left = record { given = true; across = across.Left; down = down.Unset }
 
 gravity_of_children_is_set : outcome_of_edit (line (new_facts (pos 40) (pos 30))) (ActOn 1 (act.Change (change.Gravity true left)))
     ≡ Ok (line (record (new_facts (pos 40) (pos 30)) { gravity = left }), None)
-unfolding line scene left
+unfolding line left
 gravity_of_children_is_set = refl
 
 own_gravity_is_set : outcome_of_edit (line (new_facts (pos 40) (pos 30))) (ActOn 1 (act.Change (change.Gravity false left)))
     ≡ Ok (line (record (new_facts (pos 40) (pos 30)) { layout_gravity = left }), None)
-unfolding line scene left
+unfolding line left
 own_gravity_is_set = refl
 
 -- any view has a weight
 weight_is_set : outcome_of_edit start (ActOn 2 (act.Change (change.Weight 256)))
     ≡ Ok (scene (tree_with (record (frame 2) { facts = record (new_facts (pos 40) (pos 30)) { weight = 256 } })) 5 everywhere, None)
-unfolding start scene tree_with inner everywhere frame leaf laid
+unfolding start tree_with inner everywhere frame leaf laid
 weight_is_set = refl
 
 -- what is kept of a view 7 with a view 8 below it and a view 9 after that: a scroll sets the offset of one view, and
@@ -231,9 +228,9 @@ tied =
 
 -- a rule of the second that names the first is refused on either axis
 circle_is_refused : outcome_of_edit (scene tied 4 everywhere) (ActOn 3 (act.Rule LEFT_OF 101)) ≡ Err (record { number = cycle; reason = Cycle false (member.View 2 ∷ member.View 3 ∷ []) })
-unfolding scene tied everywhere leaf laid leads names
+unfolding tied everywhere leaf laid leads names
 circle_is_refused = refl
 
 circle_down_is_refused : outcome_of_edit (scene tied 4 everywhere) (ActOn 3 (act.Rule BELOW 101)) ≡ Err (record { number = cycle; reason = Cycle true (member.View 2 ∷ member.View 3 ∷ []) })
-unfolding scene tied everywhere leaf laid leads names
+unfolding tied everywhere leaf laid leads names
 circle_down_is_refused = refl

@@ -16,7 +16,7 @@ use Rattle.view_tree.proofs.forest.KeyLaws.{times_self}
 use Rattle.view_tree.proofs.forest.NumberLaws.{count_of_key-put, put_absent}
 use Rattle.view_tree.proofs.values.GeometryLaws.{geometry-put}
 use Rattle.view_tree.proofs.values.KeptLaws.{ancestors-put}
-use Rattle.view_tree.specs.tree.Directions.{asked_by_direction, directed_rows, row_running, with_direction}
+use Rattle.view_tree.specs.tree.Directions.{asked_by_direction, directed_rows, row_running, turned_keys, with_direction}
 use Rattle.view_tree.specs.tree.Requests.{asking, pressed, requested, unforced}
 use Rattle.view_tree.specs.Rows.{Row, changed_at_key, count_of_key, head_view, part_from}
 use Rattle.view_tree.specs.node.Turning.{runs_so}
@@ -39,9 +39,6 @@ flip_all : List ℕ → Forest Row → Forest Row
 flip_all [] tree = tree
 flip_all (key ∷ keys) tree = flip_all keys (changed_at_key key flip tree)
 
-turned_keys : Bool → Forest Row → List ℕ
-turned_keys above tree = map (λ (row : Row). row.key) (turned (λ (row : Row). row.view.facts) above tree)
-
 -- each of these keys has a property
 abbrev Each : (ℕ → Type 0) → List ℕ → Type 0
 Each P [] = Unit {0}
@@ -61,7 +58,6 @@ own_keys rtl row = map (λ (row : Row). row.key) (let own : List Row = if runs_s
 
 turned_parts : (above : Bool) (row : Row) (kids siblings : Forest Row)
     → (let rtl = dir above row.view.facts.direction in turned_keys above (Branch row kids siblings) ≡ own_keys rtl row ++ (turned_keys rtl kids ++ turned_keys above siblings))
-unfolding turned_keys
 turned_parts above row kids siblings =
     let key : Row → ℕ = λ row. row.key in
     let rtl = dir above row.view.facts.direction in
@@ -71,7 +67,6 @@ turned_parts above row kids siblings =
     map-append key own (below ++ after) ∙ ap (λ (keys : List ℕ). map key own ++ keys) (map-append key below after)
 
 turned_live : (above : Bool) (tree : Forest Row) → Each (λ key. 0 < count_of_key key tree) (turned_keys above tree)
-unfolding turned_keys
 turned_live above Nothing = tt
 turned_live above (Branch row kids siblings) =
     let rtl = dir above row.view.facts.direction in
@@ -130,7 +125,7 @@ flip_own rtl row kids siblings = by (runs_so rtl row.view.facts.rtl) (same rtl r
 
 -- so do all, one after the other
 flips : (above : Bool) (tree : Forest Row) → ((key : ℕ) → count_of_key key tree ≤ 1) → flip_all (turned_keys above tree) tree ≡ directed_rows above tree
-unfolding flip_all turned_keys
+unfolding flip_all
 flips above Nothing once = refl
 flips above (Branch row kids siblings) once =
     let rtl = dir above row.view.facts.direction in
@@ -213,7 +208,6 @@ module _ (old new : Views) (view : ℕ) (direction : Direction) (is : IsTree old
   pub turned_kept : new.tree ≡ directed_rows false put
       → ((key : ℕ) → held_of new key ≡ requested (held_of old) (asked_by_direction view direction old.tree) old.tree key)
       → IsConsistent old → IsConsistent new
-  unfolding turned_keys
   turned_kept tree held k =
       let once : (key : ℕ) → count_of_key key put ≤ 1 = λ key. let count = count_of_key-put key view (with_direction direction) old.tree in let one = is.keys key in omega arith in
       let first : IsKept (pressed (held_of old) (asking (held_of old) view put)) put =

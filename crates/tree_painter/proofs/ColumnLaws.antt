@@ -1,5 +1,6 @@
 -- The pixels of a column of a cell that are seen in a clip and in a picture.
 use Rattle.std.proofs.Common.{◌≡◌, ℕ, ◌+◌, ◌-◌, ◌*◌, ◌/◌, ◌%◌, ◌<◌, ◌≤◌, ◌^◌, min, ℤ, pos, negsuc, ◌≤ℤ◌, ◌<ℤ◌, ◌+ℤ◌, ◌-ℤ◌, Bool, true, false, nat_lt, if◌then◌else◌, refl, sym, ◌∙◌, ap, arith}
+use Rattle.std.proofs.lemmas.Bool.{and_parts, and_from, false_from_ne_true, not-true}
 use Rattle.std.specs.Int.{int_max, int_min}
 use Rattle.std.specs.Prelude.{◌&&◌, ◌==◌, not, int_lt}
 use Rattle.std.proofs.lemmas.Bool.Decides.{nat_tests}
@@ -10,7 +11,9 @@ use Rattle.geom_core.specs.Color.{blend_of}
 use Rattle.geom_core.specs.Rects.{holds}
 use Rattle.geom_core.specs.declared.color.Argb.{Argb}
 use Rattle.geom_core.specs.declared.geometry.Rect.{Rect}
-use Rattle.pixel_raster.specs.Cuts.{edge_within, from_zero}
+use Rattle.pixel_raster.proofs.CutLaws.{edge_test}
+use Rattle.pixel_raster.proofs.TestLaws.{same_test}
+use Rattle.pixel_raster.specs.Cuts.{edge_within}
 use Rattle.pixel_raster.specs.Raster.{Raster, color_at}
 use Rattle.pixel_raster.specs.Strips.{InksStrip, is_set, set_bits}
 use Rattle.pixel_raster.specs.declared.strip.Strip.{Strip}
@@ -21,11 +24,6 @@ use Rattle.view_model.specs.declared.work.Work.{Work}
 use Rattle.tree_painter.specs.Areas.{edge_at}
 use Rattle.tree_painter.specs.Inks.{column_ink, in_column}
 use Rattle.tree_painter.specs.Painted.{IsCounted, PaintedIn}
-
-edge_test : (limit place : ℕ) (edge : ℤ) → place < limit → nat_lt place (edge_within limit edge) ≡ int_lt (pos place) edge
-unfolding edge_within from_zero
-edge_test limit place (pos n) lt = grind (arith, ints, nat_tests)
-edge_test limit place (negsuc n) lt = grind (arith, ints, nat_tests)
 
 edge_fits : (limit : ℕ) (edge : ℤ) → edge_within limit edge ≤ limit
 unfolding edge_within
@@ -115,23 +113,6 @@ holds_of rect x y h = (grind (arith, ints), (grind (arith, ints), (grind (arith,
 of_holds : (rect : Rect) (x y : ℤ) → rect.left ≤ℤ x → x <ℤ rect.right → rect.top ≤ℤ y → y <ℤ rect.bottom → holds rect x y ≡ true
 of_holds rect x y a b c d = grind (arith, ints)
 
-same_test : (s t : Bool) → (s ≡ true → t ≡ true) → (t ≡ true → s ≡ true) → s ≡ t
-same_test true t f g = sym (f refl)
-same_test false true f g = g refl
-same_test false false f g = refl
-
-of_both : (s t : Bool) → (s && t) ≡ true → (s ≡ true) × (t ≡ true)
-of_both true t both = (refl, both)
-of_both false t both = absurd (cc)
-
-both : (s t : Bool) → s ≡ true → t ≡ true → (s && t) ≡ true
-both true t first second = second
-both false t first second = first
-
-never : (t : Bool) → (t ≡ true → ⊥) → t ≡ false
-never true not_so = absurd (not_so refl)
-never false not_so = refl
-
 split_if : (a b : Bool) (p u : Argb) → (if a && b then p else u) ≡ (if a then (if b then p else u) else u)
 split_if true b p u = refl
 split_if false b p u = refl
@@ -171,7 +152,7 @@ module _ (bits width height : ℕ) (canvas : Canvas) (left right top bottom : �
 
   seen_of : (x y : ℕ) → x < width → y < height → inked_at x y ≡ true → (row : ℕ) × IsSeen x y row
   seen_of x y xw yh is =
-      let tests = of_both _ _ is in
+      let tests = and_parts _ _ is in
       let h = holds_of canvas.clip (pos x) (pos y) tests.0 in
       let i = inked_of bits (pos x -ℤ canvas.left) (pos y -ℤ canvas.top) tests.1 in
       let across = i.1.across in
@@ -186,7 +167,7 @@ module _ (bits width height : ℕ) (canvas : Canvas) (left right top bottom : �
       (i.0, record { at = at; column = (omega (arith, left_is, columns.0), omega (arith, right_is, columns.1)); down = beneath; rows = (omega (arith, top_is, rows.0), omega (arith, bottom_is, rows.1)); set = i.1.set })
 
   unseen : (x y : ℕ) → x < width → y < height → ((left < right) → (top < bottom) → ⊥) → inked_at x y ≡ false
-  unseen x y xw yh none = never (inked_at x y) (λ is.
+  unseen x y xw yh none = false_from_ne_true (inked_at x y) (λ is.
       let s = seen_of x y xw yh is in
       let column = s.1.column in
       let rows = s.1.rows in
@@ -209,15 +190,15 @@ module _ (bits width height : ℕ) (canvas : Canvas) (left right top bottom : �
         let rows = s.1.rows in
         let column : x ≡ left = omega (arith, ints, from, to, at) in
         let row : s.0 ≡ skip + (y - top) = omega (arith, ints, down, skip_is, rows.0) in
-        both _ _ (is_eq x left column)
-        (both _ _ (both _ _ (ap not (to_ge y top rows.0)) (to_lt y bottom rows.1))
+        and_from _ _ (is_eq x left column)
+        (and_from _ _ (and_from _ _ (ap not (to_ge y top rows.0)) (to_lt y bottom rows.1))
         (shifted_bit bits skip (y - top) ∙ ap (λ (n : ℕ). has_bit bits n) (sym row) ∙ s.1.set)))
         (λ is.
-        let tests = of_both _ _ is in
-        let lower = of_both _ _ tests.1 in
-        let between = of_both _ _ lower.0 in
+        let tests = and_parts _ _ is in
+        let lower = and_parts _ _ tests.1 in
+        let between = and_parts _ _ lower.0 in
         let column : x ≡ left = eq_of x left tests.0 in
-        let above = of_ge y top (not_false (nat_lt y top) between.0) in
+        let above = of_ge y top (not-true (nat_lt y top) between.0) in
         let below = of_lt y bottom between.1 in
         let c = column_spanned width canvas left right left_is right_is x (omega (arith, column)) (omega (arith, column, across)) in
         let r = row_spanned height canvas top bottom top_is bottom_is y above below in
@@ -225,16 +206,12 @@ module _ (bits width height : ℕ) (canvas : Canvas) (left right top bottom : �
         let to = c.end in
         let end = r.end in
         let set : has_bit bits (skip + (y - top)) ≡ true = sym (shifted_bit bits skip (y - top)) ∙ lower.1 in
-        both _ _ (of_holds canvas.clip (pos x) (pos y) c.lower c.upper r.lower r.upper)
+        and_from _ _ (of_holds canvas.clip (pos x) (pos y) c.lower c.upper r.lower r.upper)
         (of_inked bits (skip + (y - top)) (pos x -ℤ canvas.left) (pos y -ℤ canvas.top)
         (record { across = omega (arith, ints, from, to); down = omega (arith, ints, skip_is, above); high = omega (arith, ints, skip_is, above, end); set = set })))
       where
         is_eq : (x c : ℕ) → x ≡ c → (x == c) ≡ true
         is_eq x c h = grind (arith, nat_tests)
-
-        not_false : (t : Bool) → not t ≡ true → t ≡ false
-        not_false true h = absurd (cc)
-        not_false false h = refl
 
 module _ (bits : ℕ) (canvas : Canvas) (ink : Argb) (old : Raster) (left right top bottom : ℕ)
     (left_is : left ≡ edge_at old.width canvas.clip.left canvas.clip.right canvas.left)

@@ -2,7 +2,7 @@
 use Rattle.std.proofs.Common.{◌≡◌, ℕ, ◌+◌, ◌-◌, ◌*◌, ◌/◌, ◌%◌, ◌^◌, ◌<◌, ◌≤◌, ℤ, pos, negsuc, ◌-ℤ◌, ◌+ℤ◌, ◌≤ℤ◌, ◌<ℤ◌, Bool, true, false, nat_lt, if◌then◌else◌, List, [], length, inl, inr, Option, Some, None, refl, sym, ap, ◌∙◌, arith}
 use Rattle.std.specs.Prelude.{◌&&◌, ◌==◌, ◌⊎◌, not, slice_get}
 use Rattle.std.proofs.lemmas.Int.{ints}
-use Rattle.std.proofs.lemmas.Bool.{cases_Bool, cases_order}
+use Rattle.std.proofs.lemmas.Bool.{cases_Bool, cases_order, not-true}
 use Rattle.std.proofs.lemmas.Bool.Decides.{nat_tests}
 use Rattle.std.proofs.lemmas.Option.{slice_get_past}
 use Rattle.std.proofs.Math.Nat.{zero-div}
@@ -20,10 +20,6 @@ lt_of y end h = grind (arith, nat_tests)
 
 ge_of : (y row : ℕ) → nat_lt y row ≡ false → row ≤ y
 ge_of y row h = grind (arith, nat_tests)
-
-not_false : (t : Bool) → not t ≡ true → t ≡ false
-not_false true h = absurd (cc)
-not_false false h = refl
 
 lt_test : (y end : ℕ) → y < end → nat_lt y end ≡ true
 lt_test y end h = grind (arith, nat_tests)
@@ -111,7 +107,7 @@ no_ink false e b v u h = refl
 pub line_over : (ink : Argb) (line : List ℕ) (c : ℕ) (x y : ℤ) (u : Argb) → ((k : ℕ) → x ≡ pos k → c ≤ k → length line ≤ k / 6) → line_ink ink line c x y u ≡ u
 line_over ink line c (pos x) (pos y) u past =
     no_ink (not (nat_lt x c)) (nat_lt y 8) (cell_pixel (slice_get line (x / 6)) (x % 6) y) (blend_of ink u) u
-    (λ h. ap (λ (o : Option ℕ). cell_pixel o (x % 6) y) (slice_get_past line (x / 6) (past x refl (ge_of x c (not_false (nat_lt x c) h)))))
+    (λ h. ap (λ (o : Option ℕ). cell_pixel o (x % 6) y) (slice_get_past line (x / 6) (past x refl (ge_of x c (not-true (nat_lt x c) h)))))
 line_over ink line c (pos x) (negsuc y) u past = refl
 line_over ink line c (negsuc x) y u past = refl
 

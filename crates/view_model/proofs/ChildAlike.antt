@@ -13,7 +13,7 @@ use Rattle.view_model.specs.Layout.{Placed, calls_by, child_by, course_by, cours
 use Rattle.view_model.specs.Measuring.{Manner, ByRule, BySiblings, Specs}
 use Rattle.view_model.specs.PlainTree.{PlainView}
 
-manner_alike : (manner : Manner) (view : PlainView) (specs : Specs) (some more : List Child) → KidsAlike some more → CourseAlike (course_in manner view some specs) (course_in manner view more specs)
+pub manner_alike : (manner : Manner) (view : PlainView) (specs : Specs) (some more : List Child) → KidsAlike some more → CourseAlike (course_in manner view some specs) (course_in manner view more specs)
 manner_alike (ByRule rule) view specs some more h = course_alike rule some more h
 manner_alike BySiblings view specs some more h = relative_alike view.facts specs some more h
 

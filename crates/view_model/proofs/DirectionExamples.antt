@@ -1,9 +1,10 @@
 -- Worked layouts of groups that run from right to left, in a window of 100 by 20.
-use Rattle.std.proofs.Common.{◌≡◌, ℕ, ℤ, pos, negsuc, [], ◌∷◌, true, refl}
+use Rattle.std.proofs.Common.{◌≡◌, ℤ, pos, negsuc, [], ◌∷◌, true, refl}
 use Rattle.std.specs.Prelude.{slice_set}
 use Rattle.geom_core.specs.Limits.{clamp_coordinate}
 use Rattle.geom_core.specs.Spec.{child_spec_of, default_size_of, remaining_of, resolve_of}
 use Rattle.geom_core.specs.declared.geometry.Size.{Size}
+use Rattle.view_model.proofs.ExampleViews.{view, at}
 use Rattle.view_model.specs.declared.facts.Facts.{Facts}
 use Rattle.view_model.specs.declared.class.Class.{Class}
 use Rattle.view_model.specs.declared.class.Class.TheVariants as class
@@ -13,7 +14,6 @@ use Rattle.view_model.specs.declared.verbs.TheConstants.{END_OF}
 use Rattle.view_model.specs.Facts.{new_facts}
 use Rattle.view_model.specs.Forest.{Forest, Nothing, Branch}
 use Rattle.view_model.specs.FrameLayout.{second_spec}
-use Rattle.view_model.specs.Geometry.{Laid}
 use Rattle.view_model.specs.Layout.{full_layout}
 use Rattle.view_model.specs.LinearLayout.{after_share, alignment_on, claim, dim_on, extent, first_dim, first_length, greater, high_margin, high_padding, is_skipped, line_begin, low_margin, low_padding, margins_on, min_on, needed_breadth, padding_on, resolved_breadth, share, size_on, spec_on, used_before, where_even, where_weighted, whole_weight}
 use Rattle.view_model.specs.PlainTree.{PlainView}
@@ -28,17 +28,11 @@ window = record { w = pos 100; h = pos 20 }
 rtl : Facts → Facts
 rtl facts = record facts { rtl = true }
 
-view : ℕ → Class → Facts → PlainView
-view number kind facts = record { number = number; class = kind; facts = facts; text = [] }
-
 -- a group of this class with two children
 group : Class → Facts → Facts → Forest PlainView
 group kind first second =
     Branch (view 1 kind (rtl (new_facts match match)))
     (Branch (view 2 class.View (rtl first)) Nothing (Branch (view 3 class.View (rtl second)) Nothing Nothing)) Nothing
-
-at : ℕ → ℕ → ℕ → ℕ → ℕ → Laid
-at number left top right bottom = record { number = number; rect = record { left = pos left; top = pos top; right = pos right; bottom = pos bottom } }
 
 a_line_runs_to_the_left :
     full_layout (group class.LinearLayout (new_facts (pos 10) match) (new_facts (pos 20) match)) window

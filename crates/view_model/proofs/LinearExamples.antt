@@ -3,15 +3,13 @@ use Rattle.std.specs.Prelude.{◌≡◌, ℕ, ℤ, pos, negsuc, refl, true, fals
 use Rattle.geom_core.specs.declared.geometry.Size.{Size}
 use Rattle.geom_core.specs.Limits.{clamp_coordinate}
 use Rattle.geom_core.specs.Spec.{child_spec_of, default_size_of, remaining_of, resolve_of}
-use Rattle.view_model.specs.declared.facts.Facts.{Facts}
-use Rattle.view_model.specs.declared.class.Class.{Class}
+use Rattle.view_model.proofs.ExampleViews.{view, frame, at}
 use Rattle.view_model.specs.declared.class.Class.TheVariants as class
 use Rattle.view_model.specs.declared.placing.Across.TheVariants as across
 use Rattle.view_model.specs.declared.placing.Down.TheVariants as down
 use Rattle.view_model.specs.Facts.{new_facts}
 use Rattle.view_model.specs.Forest.{Nothing, Branch}
 use Rattle.view_model.specs.FrameLayout.{second_spec}
-use Rattle.view_model.specs.Geometry.{Laid}
 use Rattle.view_model.specs.Layout.{full_layout, measure_calls, total_size}
 use Rattle.view_model.specs.LinearLayout.{after_share, alignment_on, claim, dim_on, extent, first_dim, first_length, greater, high_margin, high_padding, is_skipped, line_begin, low_margin, low_padding, margins_on, min_on, exactly, needed_breadth, padding_on, resolved_breadth, share, size_on, spec_on, used_before, where_even, where_weighted, whole_weight}
 use Rattle.view_model.specs.Measuring.{Specs}
@@ -22,9 +20,6 @@ match = negsuc 0
 
 wrap : ℤ
 wrap = negsuc 1
-
-view : ℕ → Class → Facts → PlainView
-view number class facts = record { number = number; class = class; facts = facts; text = [] }
 
 -- a linear layout of these dimensions
 line : ℕ → Bool → ℤ → ℤ → PlainView
@@ -37,12 +32,6 @@ summed number sum = view number class.LinearLayout (record (new_facts match matc
 -- a plain view with a weight
 leaf : ℕ → ℤ → ℤ → ℕ → PlainView
 leaf number width height weight = view number class.View (record (new_facts width height) { weight = weight })
-
-frame : ℕ → ℤ → ℤ → PlainView
-frame number width height = view number class.FrameLayout (new_facts width height)
-
-at : ℕ → ℕ → ℕ → ℕ → ℕ → Laid
-at number left top right bottom = record { number = number; rect = record { left = pos left; top = pos top; right = pos right; bottom = pos bottom } }
 
 window : ℕ → ℕ → Size
 window w h = record { w = pos w; h = pos h }

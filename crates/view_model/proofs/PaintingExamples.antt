@@ -6,8 +6,8 @@ use Rattle.geom_core.specs.Rects.{larger_of, meet_of, smaller_of}
 use Rattle.geom_core.specs.Spec.{child_spec_of, default_size_of, remaining_of, resolve_of}
 use Rattle.geom_core.specs.declared.color.Argb.{Argb}
 use Rattle.geom_core.specs.declared.geometry.Size.{Size}
+use Rattle.view_model.proofs.ExampleViews.{view}
 use Rattle.view_model.specs.declared.facts.Facts.{Facts}
-use Rattle.view_model.specs.declared.class.Class.{Class}
 use Rattle.view_model.specs.declared.class.Class.TheVariants as class
 use Rattle.view_model.specs.declared.visibility.Visibility.TheVariants.{Invisible}
 use Rattle.view_model.specs.CellText.{cell_in, lines_for}
@@ -54,9 +54,6 @@ the_sixth_column_is_empty = refl
 
 match : ℤ
 match = negsuc 0
-
-view : ℕ → Class → Facts → PlainView
-view number class facts = record { number = number; class = class; facts = facts; text = [] }
 
 at : ℕ → ℤ → ℤ → ℤ → ℤ → Laid
 at number left top right bottom = record { number = number; rect = record { left = left; top = top; right = right; bottom = bottom } }

@@ -4,13 +4,12 @@ use Rattle.geom_core.specs.declared.geometry.Size.{Size}
 use Rattle.geom_core.specs.declared.measuring.Mode.TheVariants.{Unspecified, Exactly, AtMost}
 use Rattle.geom_core.specs.Limits.{clamp_coordinate}
 use Rattle.geom_core.specs.Spec.{child_spec_of, default_size_of, remaining_of, resolve_of}
+use Rattle.view_model.proofs.ExampleViews.{view, at}
 use Rattle.view_model.specs.declared.facts.Facts.{Facts}
-use Rattle.view_model.specs.declared.class.Class.{Class}
 use Rattle.view_model.specs.declared.class.Class.TheVariants as class
 use Rattle.view_model.specs.Facts.{new_facts}
 use Rattle.view_model.specs.Forest.{Forest, Nothing, Branch}
 use Rattle.view_model.specs.FrameLayout.{second_spec}
-use Rattle.view_model.specs.Geometry.{Laid}
 use Rattle.view_model.specs.Layout.{full_layout}
 use Rattle.view_model.specs.LinearLayout.{after_share, alignment_on, claim, dim_on, extent, first_dim, first_length, greater, high_margin, high_padding, is_skipped, line_begin, low_margin, low_padding, margins_on, min_on, needed_breadth, padding_on, resolved_breadth, share, size_on, spec_on, used_before, where_even, where_weighted, whole_weight}
 use Rattle.view_model.specs.Measuring.{Measured, Specs}
@@ -94,18 +93,12 @@ sixty_in_a_range_of_thirty : offset_within (pos 30) (pos 60) ≡ pos 30
 unfolding offset_within
 sixty_in_a_range_of_thirty = refl
 
-view : ℕ → Class → Facts → PlainView
-view number class facts = record { number = number; class = class; facts = facts; text = [] }
-
 -- a scroll view as large as its parent, scrolled by 60 pixels, with a line of one view of this height in it
 scrolling : ℕ → ℕ → Forest PlainView
 scrolling offset height =
     Branch (view 1 class.ScrollView (record (new_facts match match) { offset = pos offset }))
     (Branch (view 2 class.LinearLayout (record (new_facts match wrap) { vertical = true }))
     (Branch (view 3 class.View (new_facts match (pos height))) Nothing Nothing) Nothing) Nothing
-
-at : ℕ → ℕ → ℕ → ℕ → ℕ → Laid
-at number left top right bottom = record { number = number; rect = record { left = pos left; top = pos top; right = pos right; bottom = pos bottom } }
 
 a_child_is_higher_than_its_group : full_layout (scrolling 60 100) (size 50 40) ≡ at 1 0 0 50 40 ∷ at 2 0 0 50 100 ∷ at 3 0 0 50 100 ∷ []
 unfolding match wrap size view scrolling at clamp_coordinate child_spec_of default_size_of remaining_of resolve_of second_spec is_short after_share alignment_on claim dim_on extent first_dim first_length greater high_margin high_padding is_skipped line_begin low_margin low_padding margins_on min_on needed_breadth padding_on resolved_breadth share size_on spec_on used_before where_even where_weighted whole_weight

@@ -2,11 +2,11 @@
 use Rattle.std.specs.Prelude.{◌≡◌, ℕ, ℤ, pos, negsuc, refl, List, [], ◌∷◌, codes, Some, None}
 use Rattle.geom_core.specs.Limits.{clamp_coordinate}
 use Rattle.geom_core.specs.Spec.{child_spec_of, default_size_of, remaining_of, resolve_of}
+use Rattle.view_model.proofs.ExampleViews.{at}
 use Rattle.view_model.specs.declared.class.Class.TheVariants as class
 use Rattle.view_model.specs.CellText.{cell_in, cell_of, count_of_lines, lines_for, segments_of, widest_of}
 use Rattle.view_model.specs.Facts.{new_facts}
 use Rattle.view_model.specs.Forest.{Forest, Nothing, Branch}
-use Rattle.view_model.specs.Geometry.{Laid}
 use Rattle.view_model.specs.Layout.{full_layout}
 use Rattle.view_model.specs.LinearLayout.{after_share, alignment_on, claim, dim_on, extent, first_dim, first_length, greater, high_margin, high_padding, is_skipped, line_begin, low_margin, low_padding, margins_on, min_on, needed_breadth, padding_on, resolved_breadth, share, size_on, spec_on, used_before, where_even, where_weighted, whole_weight}
 use Rattle.view_model.specs.PlainTree.{PlainView}
@@ -70,9 +70,6 @@ line number width height weight = record { number = number; class = class.Linear
 
 written : ℕ → ℤ → ℤ → ℕ → List ℕ → PlainView
 written number width height weight text = record { number = number; class = class.TextView; facts = record (new_facts width height) { weight = weight }; text = text }
-
-at : ℕ → ℕ → ℕ → ℕ → ℕ → Laid
-at number left top right bottom = record { number = number; rect = record { left = pos left; top = pos top; right = pos right; bottom = pos bottom } }
 
 beside : List ℕ → Forest PlainView
 beside text =

@@ -331,9 +331,13 @@ edge_along own room total before kid =
 abbrev pub edge_beside : Facts → Size → Measured → ℤ
 edge_beside own room kid =
     let beside = not own.vertical in
-    low_edge (alignment_on beside own.rtl (gravity_for own.gravity kid.facts.layout_gravity)) (size_on beside room)
-    (low_padding beside own) (high_padding beside own)
-    (size_on beside kid.size) (low_margin beside kid.facts) (high_margin beside kid.facts)
+    low_edge (alignment_on beside own.rtl (gravity_for own.gravity kid.facts.layout_gravity))
+    (record { size = size_on beside room; before = low_padding beside own; after = high_padding beside own })
+    (record {
+      size = size_on beside kid.size;
+      before = low_margin beside kid.facts;
+      after = high_margin beside kid.facts;
+    })
 
 -- the rectangle of a child, after those that were placed before it, in a group of the size `room` whose children take
 -- `total` pixels of its length

@@ -8,6 +8,7 @@ use Rattle.view_model.specs.declared.placing.Alignment.TheVariants.{Low, Middle,
 use Rattle.view_model.specs.declared.placing.Down.{Down}
 use Rattle.view_model.specs.declared.placing.Down.TheVariants as down
 use Rattle.view_model.specs.declared.placing.Down.TheVariants.{Top, Bottom}
+use Rattle.view_model.specs.declared.placing.Extent.{Extent}
 use Rattle.view_model.specs.declared.placing.Gravity.{Gravity}
 use Rattle.view_model.specs.Direction.{left_of_two, right_of_two}
 
@@ -42,9 +43,9 @@ started gravity = record gravity { across = or_start gravity.across }
 abbrev pub gravity_for : Gravity → Gravity → Gravity
 gravity_for group own = if own.given then own else started group
 
--- the low edge of a child of this size in a group that has `room` pixels on the axis
-abbrev pub low_edge : Alignment → ℤ → ℤ → ℤ → ℤ → ℤ → ℤ → ℤ
-low_edge Low room before after size margin_before margin_after = before +ℤ margin_before
-low_edge Middle room before after size margin_before margin_after =
-    before +ℤ int_div (room -ℤ before -ℤ after -ℤ size) (pos 2) +ℤ margin_before -ℤ margin_after
-low_edge High room before after size margin_before margin_after = room -ℤ after -ℤ size -ℤ margin_after
+-- the low edge of a child with its margins in a group with its padding
+abbrev pub low_edge : Alignment → Extent → Extent → ℤ
+low_edge Low group kid = group.before +ℤ kid.before
+low_edge Middle group kid =
+    group.before +ℤ int_div (group.size -ℤ group.before -ℤ group.after -ℤ kid.size) (pos 2) +ℤ kid.before -ℤ kid.after
+low_edge High group kid = group.size -ℤ group.after -ℤ kid.size -ℤ kid.after

@@ -317,10 +317,10 @@ sides_by (Some across) (Some down) = Some (record { left = across.0; top = down.
 abbrev pub sides_of : Edges → Option Rect
 sides_of edges = sides_by edges.across edges.down
 
--- its final sides
-abbrev pub final_span : Axis → Facts → Specs → ℤ → Facts → ℤ × ℤ → Size → ℤ × ℤ
-final_span axis own specs size kid span kid_size =
-    moved_span (group_on axis own specs) (child_on own.rtl axis kid) size span (length_on axis kid_size)
+-- its final sides, by those that it had after it was measured with this size
+abbrev pub final_span : Axis → Facts → Specs → ℤ → Spanned → Size → ℤ × ℤ
+final_span axis own specs size kid kid_size =
+    moved_span (group_on axis own specs) (child_on own.rtl axis kid.facts) size kid.span (length_on axis kid_size)
 
 -- the size of the group, whose children were taken with these sides from left to right and from top to bottom
 abbrev pub relative_size : Facts → Specs → List Spanned → List Spanned → Size
@@ -335,5 +335,5 @@ rect_between across down =
 -- the final rectangle of a child of this size that has these sides after the second phase
 abbrev pub final_rect : Facts → Specs → Size → Facts → Edges → Size → Rect
 final_rect own specs size kid edges kid_size = rect_between
-    (final_span Horizontal own specs size.w kid (span_or_none edges.across) kid_size)
-    (final_span Vertical own specs size.h kid (span_or_none edges.down) kid_size)
+    (final_span Horizontal own specs size.w (record { facts = kid; span = span_or_none edges.across }) kid_size)
+    (final_span Vertical own specs size.h (record { facts = kid; span = span_or_none edges.down }) kid_size)

@@ -1,7 +1,7 @@
 -- What is seen of a view in a window.
 use Rattle.std.specs.Prelude.{ℕ, ◌==◌, ℤ, pos, ◌+ℤ◌, ◌-ℤ◌, if◌then◌else◌, List, Option, Some, None, unwrap_or}
 use Rattle.std.specs.Option.{option_or}
-use Rattle.geom_core.specs.Rects.{meet_of}
+use Rattle.geom_core.specs.Rects.{empty_rect, meet_of}
 use Rattle.geom_core.specs.declared.geometry.Rect.{Rect}
 use Rattle.geom_core.specs.declared.geometry.Size.{Size}
 use Rattle.view_model.specs.declared.facts.Facts.{Facts}
@@ -9,9 +9,6 @@ use Rattle.view_model.specs.Forest.{Forest, Nothing, Branch}
 use Rattle.view_model.specs.Geometry.{Laid, size_of_rect}
 use Rattle.view_model.specs.Painting.{PlacedView, inner_rect, placed_by}
 use Rattle.view_model.specs.PlainTree.{PlainView}
-
-abbrev pub no_rect : Rect
-no_rect = record { left = pos 0; top = pos 0; right = pos 0; bottom = pos 0 }
 
 -- a rectangle of coordinates whose origin is this point of the window
 abbrev pub moved_rect : Rect → ℤ → ℤ → Rect
@@ -26,12 +23,12 @@ pub record Canvas : Type 0 where
 
 -- what is seen of a view that is in this rectangle of a canvas, if it has bounds
 abbrev pub seen_in : Option Rect → Canvas → Rect
-seen_in None canvas = no_rect
+seen_in None canvas = empty_rect
 seen_in (Some rect) canvas = meet_of (moved_rect rect canvas.left canvas.top) canvas.clip
 
 -- the canvas of its children
 abbrev pub canvas_below : Option Rect → Facts → Canvas → Canvas
-canvas_below None facts canvas = record canvas { clip = no_rect }
+canvas_below None facts canvas = record canvas { clip = empty_rect }
 canvas_below (Some rect) facts canvas =
     let left = rect.left +ℤ canvas.left in
     let top = rect.top +ℤ canvas.top in
@@ -61,4 +58,4 @@ whole_window window =
 -- count as seen
 abbrev pub visible_rect : Forest PlainView → List Laid → Size → ℕ → Rect
 visible_rect tree geometry window number =
-    unwrap_or (visible_in (placed_by geometry tree) (whole_window window) number) no_rect
+    unwrap_or (visible_in (placed_by geometry tree) (whole_window window) number) empty_rect

@@ -1,5 +1,6 @@
 -- Laws of forests, of keys and numbers in them, and of walks over them.
 pub mod AncestorLaws
+pub mod BackwardWalks
 pub mod Backwards
 pub mod ChangingWalks
 pub mod ChildLaws

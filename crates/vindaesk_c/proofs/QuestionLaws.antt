@@ -1,7 +1,7 @@
 -- The words of a question.
 use Rattle.std.proofs.Common.{◌≡◌, ℕ, Bool, true, false, refl, ap, sym, ◌∙◌, inl, inr, List, [], ◌∷◌, length, arith}
 use Rattle.std.specs.Prelude.{◌==◌, ◌&&◌, nat_lt, nat_le, Option, Some, None, is_some, if◌then◌else◌, Err, ◌⊎◌, ◌≢◌}
-use Rattle.std.specs.Char.{is_ascii_digit, is_ascii_graphic, is_ascii_hexdigit}
+use Rattle.std.specs.Char.{is_ascii_graphic, is_ascii_hexdigit}
 use Rattle.std.specs.List.{list_all}
 use Rattle.std.specs.Result.{result_ok}
 use Rattle.std.specs.Str.{IsUtf8}
@@ -9,6 +9,7 @@ use Rattle.std.proofs.lemmas.Bool.{cases_Bool}
 use Rattle.std.proofs.lemmas.Bool.Decides.{nat_tests}
 use Rattle.std.proofs.lemmas.Str.{IsUtf8-from_ascii}
 use Rattle.focus_finder.specs.declared.side.Side.{Side}
+use Rattle.script_lines.proofs.spelled.SpelledNumbers.{digits_graphic}
 use Rattle.script_lines.specs.words.Names.{begins_with, hex_of, id_of, known, name_of}
 use Rattle.script_lines.specs.declared.fault.LineFault.TheVariants.{Syntax}
 use Rattle.script_lines.specs.declared.words.naming.Name.{Name}
@@ -20,14 +21,6 @@ use Rattle.script_lines.proofs.spelled.SpelledNames.{all_graphic}
 use Rattle.script_lines.proofs.spelled.SpelledWords.{ascii}
 use Rattle.vindaesk_c.specs.Questions.{asked, can_ask}
 use Rattle.whole_tool.specs.Usage.{Unknown, name_from, question_usage, side_of}
-
-digit_graphic : (b : ℕ) → is_ascii_digit b ≡ true → is_ascii_graphic b ≡ true
-digit_graphic b h = grind (arith, nat_tests)
-
-digits_graphic : (ds : List ℕ) → list_all is_ascii_digit ds ≡ true → list_all is_ascii_graphic ds ≡ true
-digits_graphic [] h = refl
-digits_graphic (b ∷ bs) h =
-    rw (digit_graphic b (and-left (is_ascii_digit b) (list_all is_ascii_digit bs) h)) (digits_graphic bs (and-right (is_ascii_digit b) (list_all is_ascii_digit bs) h))
 
 natural_graphic : (word : List ℕ) → is_some (natural_of word) ≡ true → list_all is_ascii_graphic word ≡ true
 unfolding natural_of

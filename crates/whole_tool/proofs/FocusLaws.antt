@@ -109,8 +109,8 @@ answer-view world question window number some found =
 
 -- the script ended, and the answer was written
 pub asks_answered : (files : Files) (script : List ℕ) (question : Question) (left : Option (List ℕ)) (first mid : Trace) (gone : Option (List ℕ)) (refused unanswered : Bool) (answer : Result (Option ℕ) ℕ) (world : World)
-    → RunsTo (Alone empty_world) files script left first mid (Ok refused) → world ≡ world_in (after_lines files (lines_of script)).carried → answer ≡ answer_of world question → unanswered ≡ is_err answer
-    → Appends mid.gone gone (answer_text answer) → AsksTo files script question left first (record mid { gone = gone }) (Ok (refused || unanswered))
+    → RunsTo (Alone empty_world) (record { files = files; script = script }) left first mid (Ok refused) → world ≡ world_in (after_lines files (lines_of script)).carried → answer ≡ answer_of world question → unanswered ≡ is_err answer
+    → Appends mid.gone gone (answer_text answer) → AsksTo (record { files = files; script = script }) question left first (record mid { gone = gone }) (Ok (refused || unanswered))
 asks_answered files script question left first mid gone refused unanswered answer world runs same is failed sent =
     let answered : answer ≡ script_answer script files question = is ∙ ap (λ (world : World). answer_of world question) same in (
       record {
@@ -125,8 +125,8 @@ asks_answered files script question left first mid gone refused unanswered answe
 
 -- the same where the write failed
 pub asks_cut : (files : Files) (script : List ℕ) (question : Question) (left : Option (List ℕ)) (first mid : Trace) (gone : Option (List ℕ)) (refused : Bool) (answer : Result (Option ℕ) ℕ) (world : World)
-    → RunsTo (Alone empty_world) files script left first mid (Ok refused) → world ≡ world_in (after_lines files (lines_of script)).carried → answer ≡ answer_of world question
-    → AppendsPrefix mid.gone gone (answer_text answer) → AsksTo files script question left first (record mid { gone = gone }) (Err (ends.Stopped stop.Sink))
+    → RunsTo (Alone empty_world) (record { files = files; script = script }) left first mid (Ok refused) → world ≡ world_in (after_lines files (lines_of script)).carried → answer ≡ answer_of world question
+    → AppendsPrefix mid.gone gone (answer_text answer) → AsksTo (record { files = files; script = script }) question left first (record mid { gone = gone }) (Err (ends.Stopped stop.Sink))
 asks_cut files script question left first mid gone refused answer world runs same is part =
     let answered : answer ≡ script_answer script files question = is ∙ ap (λ (world : World). answer_of world question) same in
     inr (
@@ -205,7 +205,7 @@ asks_cut_off files script question left first last cuts = record {
   long = λ e. absurd (omega arith);
 }
 
-pub asks_with : (files : Files) (script : List ℕ) (question : Question) (left : Option (List ℕ)) (first last : Trace) (outcome : Result Bool End) → AsksTo files script question left first last outcome
+pub asks_with : (files : Files) (script : List ℕ) (question : Question) (left : Option (List ℕ)) (first last : Trace) (outcome : Result Bool End) → AsksTo (record { files = files; script = script }) question left first last outcome
     → AsksWith files script question left first last (status_of outcome)
 asks_with files script question left first last (Ok true) asks = asks_ended files script question left first last 1 (omega arith) asks.0 (ap (λ b. cond b 1 0) asks.1)
 asks_with files script question left first last (Ok false) asks = asks_ended files script question left first last 0 (omega arith) asks.0 (ap (λ b. cond b 1 0) asks.1)

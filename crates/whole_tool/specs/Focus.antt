@@ -18,7 +18,7 @@ use Rattle.whole_tool.specs.declared.script.End.{End}
 use Rattle.whole_tool.specs.declared.script.End.TheVariants as ends
 use Rattle.tool_replies.specs.Numbers.{last_refusal}
 use Rattle.tool_replies.specs.Refusals.{refused_text}
-use Rattle.whole_tool.specs.Script.{RunsTo, WorksTaken}
+use Rattle.whole_tool.specs.Script.{Input, RunsTo, WorksTaken}
 use Rattle.whole_tool.specs.Tally.{costs_of_script}
 use Rattle.whole_tool.specs.Tool.{Given}
 use Rattle.tool_replies.specs.Endings.{IsComplete, Writes}
@@ -100,18 +100,19 @@ pub record CutsAnswer (files : Files) (script : List ℕ) (question : Question) 
 
 -- how the run of a script with a question after it ended: with the answer, as the run alone would, or by a failed write
 -- of the answer
-abbrev pub AsksTo : Files → List ℕ → Question → Option (List ℕ) → Trace → Trace → Result Bool End → Type 0
-AsksTo files script question left first last (Ok refused) =
-    Answers files script question first last × (refused ≡ refuses_focus script files question)
-AsksTo files script question left first last (Err end) =
-    RunsTo (Alone empty_world) files script left first last (Err end) ⊎
-    ((end ≡ ends.Stopped stop.Sink) × CutsAnswer files script question first last)
+abbrev pub AsksTo : Input → Question → Option (List ℕ) → Trace → Trace → Result Bool End → Type 0
+AsksTo input question left first last (Ok refused) =
+    Answers input.files input.script question first last
+    × (refused ≡ refuses_focus input.script input.files question)
+AsksTo input question left first last (Err end) =
+    RunsTo (Alone empty_world) input left first last (Err end) ⊎
+    ((end ≡ ends.Stopped stop.Sink) × CutsAnswer input.files input.script question first last)
 
 -- the same of a source, from its first bytes to its end
 pub record AsksFrom (shelf : Option Files) (question : Question) (before after : Option (List ℕ)) (first last : Trace)
     (outcome : Result Bool End) : Type 0 where
   pub asks : (files : Files) (script : List ℕ) → shelf ≡ Some files → before ≡ Some script
-      → AsksTo files script question after first last outcome
+      → AsksTo (record { files = files; script = script }) question after first last outcome
   pub end : IfOk outcome (λ _. IsAtEnd after)
   pub taken : List ℕ
   pub consumed : Consumes before after taken

@@ -39,22 +39,27 @@ pub record WorksTaken (start : Carried) (files : Files) (script : List ℕ) (lef
   pub within : length taken ≤ max_script
   pub works : Works start files first now (cut_of taken).lines
 
+-- what a run reads: a script, and the files that its lines ask for
+pub record Input : Type 0 where
+  pub files : Files
+  pub script : List ℕ
+
 -- How the run of a script got to its end, if it went from the first moment to the last, and this is left of the script.
-abbrev pub RunsTo : Carried → Files → List ℕ → Option (List ℕ) → Trace → Trace → Result Bool End → Type 0
-RunsTo start files script left first last (Ok refused) =
-    (length script ≤ max_script) × Works start files first last (lines_of script)
-    × (refused ≡ nat_lt 0 (after_from start files (lines_of script)).refused)
-RunsTo start files script left first last (Err ends.Source) = WorksTaken start files script left first last
-RunsTo start files script left first last (Err ends.Long) =
-    (max_script < length script) × Works start files first last (carried_lines script)
-RunsTo start files script left first last (Err (ends.Stopped stop)) =
-    StopsIn start files first last (carried_lines script) stop
+abbrev pub RunsTo : Carried → Input → Option (List ℕ) → Trace → Trace → Result Bool End → Type 0
+RunsTo start input left first last (Ok refused) =
+    (length input.script ≤ max_script) × Works start input.files first last (lines_of input.script)
+    × (refused ≡ nat_lt 0 (after_from start input.files (lines_of input.script)).refused)
+RunsTo start input left first last (Err ends.Source) = WorksTaken start input.files input.script left first last
+RunsTo start input left first last (Err ends.Long) =
+    (max_script < length input.script) × Works start input.files first last (carried_lines input.script)
+RunsTo start input left first last (Err (ends.Stopped stop)) =
+    StopsIn start input.files first last (carried_lines input.script) stop
 
 -- the run of a source from its first bytes to its end
 pub record RunsFrom (start : Carried) (shelf : Option Files) (before after : Option (List ℕ)) (first last : Trace)
     (outcome : Result Bool End) : Type 0 where
   pub runs : (files : Files) (script : List ℕ) → shelf ≡ Some files → before ≡ Some script
-      → RunsTo start files script after first last outcome
+      → RunsTo start (record { files = files; script = script }) after first last outcome
   pub end : IfOk outcome (λ _. IsAtEnd after)
   pub taken : List ℕ
   pub consumed : Consumes before after taken

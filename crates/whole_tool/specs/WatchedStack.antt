@@ -6,17 +6,17 @@ use Rattle.stack_worlds.specs.PlainStack.{PlainStack, PlainWay, Given, Missed, R
 use Rattle.stack_worlds.specs.declared.stack.way.Own.{Own}
 use Rattle.stack_worlds.specs.declared.stack.way.Own.TheVariants as own
 use Rattle.tool_io.specs.Fetched.{Files}
-use Rattle.view_model.specs.Visible.{no_rect}
 use Rattle.view_world.specs.world.Marks.{no_marks}
 use Rattle.world_parts.specs.Reply.{Reply, Done, Refused}
 use Rattle.view_world.specs.world.Step.{step}
 use Rattle.view_world.specs.frames.Watched.{LineCosts, Watched, costs_of, no_costs, watched_after}
 use Rattle.world_parts.specs.World.{World, empty_world}
 use Rattle.window_stack.specs.PlainPanes.{PlainPanes, is_open}
+use Rattle.geom_core.specs.Rects.{empty_rect}
 
 -- a world of which nothing is known
 abbrev pub watched_first : World → Watched
-watched_first world = record { world = world; marks = no_marks; box = no_rect; shown = [] }
+watched_first world = record { world = world; marks = no_marks; box = empty_rect; shown = [] }
 
 pub record WatchedStack : Type 0 where
   pub panes : PlainPanes

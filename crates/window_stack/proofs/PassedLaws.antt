@@ -1,14 +1,14 @@
 -- A line that is passed over asks for nothing.
-use Rattle.std.proofs.Common.{◌≡◌, ℕ, ◌<◌, List, [], ◌∷◌, length, take, true, refl, ap, ◌∙◌, arith, inl, inr}
+use Rattle.std.proofs.Common.{◌≡◌, ℕ, ◌<◌, List, [], ◌∷◌, length, true, refl, ap, ◌∙◌, arith, inl, inr}
 use Rattle.std.proofs.lemmas.Bool.{cases_Bool}
-use Rattle.std.specs.List.{list_all, prefix_len}
+use Rattle.std.specs.List.{list_all}
 use Rattle.std.specs.Prelude.{◌==◌, ◌&&◌, nat_lt, slice_index, Err}
 use Rattle.std.specs.Str.{is_utf8}
 use Rattle.script_lines.specs.cutting.Lines.{is_passed_over, is_space}
-use Rattle.script_lines.specs.words.Words.{◌>>=◌, after_word, first_word, in_word, word_in, words}
+use Rattle.script_lines.specs.words.Words.{◌>>=◌, after_word, first_word, word_in, words}
 use Rattle.script_lines.specs.declared.fault.LineFault.TheVariants.{Syntax}
-use Rattle.script_lines.proofs.readings.CommandLaws.{and-left, and-right}
-use Rattle.script_lines.proofs.texts.WordLaws.{one_add, word_space, words_some}
+use Rattle.script_lines.proofs.readings.CommandLaws.{first_word-mark, words-spaces}
+use Rattle.script_lines.proofs.texts.WordLaws.{words_some}
 use Rattle.window_stack.specs.StackLines.{stack_line_by, stack_line_of}
 
 -- a line without words
@@ -18,15 +18,6 @@ no_words line e = elim (cases_Bool (is_utf8 line)) [
   | inl t ↦ rw (t, e) refl
   | inr f ↦ rw f refl
 ]
-
-words-spaces : (line : List ℕ) → list_all is_space line ≡ true → words line ≡ []
-unfolding words
-words-spaces [] h = refl
-words-spaces (b ∷ bs) h = word_space b bs (and-left (is_space b) (list_all is_space bs) h) ∙ words-spaces bs (and-right (is_space b) (list_all is_space bs) h)
-
-first_word-mark : (bs : List ℕ) → first_word (35 ∷ bs) ≡ 35 ∷ take (prefix_len in_word bs) bs
-unfolding first_word
-first_word-mark bs = ap (λ n. take n (35 ∷ bs)) (one_add (prefix_len in_word bs))
 
 -- no first word begins with the mark of a comment
 stack_line_by-mark : (word rest : List ℕ) → stack_line_by (35 ∷ word) rest ≡ Err Syntax

@@ -1,17 +1,11 @@
 -- The text of a line is no longer than the line.
-use Rattle.std.proofs.Common.{◌≡◌, ℕ, ◌≤◌, List, ap, length, arith, length-drop}
-use Rattle.std.specs.List.{prefix_len}
+use Rattle.std.proofs.Common.{◌≡◌, ℕ, ◌≤◌, List, ap, length, arith}
 use Rattle.std.specs.Prelude.{IfOk, Result, Ok, Err}
-use Rattle.script_lines.specs.cutting.Lines.{is_space}
-use Rattle.script_lines.specs.words.Words.{after_spaces, after_word, in_word}
+use Rattle.script_lines.proofs.readings.TextLengthLaws.{after_word-short}
+use Rattle.script_lines.specs.words.Words.{after_word}
 use Rattle.script_lines.specs.declared.fault.LineFault.{LineFault}
 use Rattle.window_stack.specs.StackLines.{plain_line, text_length_in}
 use Rattle.window_stack.specs.declared.lines.StackLine.{StackLine}
-
--- what follows a word is no longer
-pub after_word-short : (bytes : List ℕ) → length (after_word bytes) ≤ length bytes
-unfolding after_word
-after_word-short bytes = omega (arith, length-drop (prefix_len is_space bytes) bytes, length-drop (prefix_len in_word (after_spaces bytes)) (after_spaces bytes))
 
 pub short_within : (read : Result StackLine LineFault) (m n : ℕ) → m ≤ n → IfOk read (λ line. text_length_in (plain_line line) ≤ m) → IfOk read (λ line. text_length_in (plain_line line) ≤ n)
 short_within (Ok line) m n le short = omega arith

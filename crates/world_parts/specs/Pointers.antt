@@ -4,7 +4,6 @@ use Rattle.std.specs.List.{AllPairs, list_any}
 use Rattle.touch_dispatch.specs.handling.Handling.{is_nil}
 use Rattle.touch_event.specs.declared.event.Action.{Action}
 use Rattle.touch_event.specs.declared.event.Action.TheVariants.{Down, Up, PointerDown, PointerUp}
-use Rattle.touch_event.specs.declared.event.Event.{Event}
 use Rattle.touch_event.specs.declared.event.Point.{Point}
 use Rattle.touch_event.specs.Numbers.{max_pointers}
 
@@ -31,9 +30,6 @@ with_point point points = points_below point.id points ++ point ∷ points_above
 -- a pointer went up
 abbrev pub without_point : ℕ → List Point → List Point
 without_point id points = filter (λ (p : Point). not (p.id == id)) points
-
-abbrev pub event_of : Action → ℕ → List Point → Event
-event_of action pointer points = record { action = action; pointer = pointer; points = record { items = points } }
 
 -- the event of a pointer that goes down, if these are down already
 abbrev pub down_action : List Point → Action

@@ -1,9 +1,10 @@
 //! The pointers that are down, and the events that lines make of them.
 
 ghost use Rattle.std.specs.Prelude.{◌≡◌, ◌↔◌, ◌<◌, ◌≤◌, ◌+◌, ◌++◌, ℕ, [], length};
+ghost use Rattle.touch_event.specs.Events.{event_of};
 ghost use Rattle.touch_event.specs.Numbers.{max_pointers};
 ghost use Rattle.touch_event.specs.PointerSets.{has_id};
-ghost use Rattle.world_parts.specs.Pointers.{AreDown, down_action, event_of, is_pressed, points_above, points_below, up_action, with_point, without_point};
+ghost use Rattle.world_parts.specs.Pointers.{AreDown, down_action, is_pressed, points_above, points_below, up_action, with_point, without_point};
 
 use arrayvec::ArrayVec;
 use touch_event::{Action, Event, MAX_POINTERS, Point};

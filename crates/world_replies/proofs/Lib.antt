@@ -1,4 +1,4 @@
 mod HexLaws
-mod PixelLaws
+pub mod PixelLaws
 mod ResponseLaws
 mod WalkLaws

@@ -1,13 +1,12 @@
 -- What else is known of views after an edit, before the request that goes with it.
-use Rattle.std.proofs.Common.{◌≡◌, ℕ, ◌+◌, ◌<◌, ◌≤◌, ◌==◌, Bool, true, false, [], arith, eqb-true, ap, ◌∙◌, sym, refl, subst, inl, inr}
-use Rattle.std.proofs.lemmas.Bool.{cases_Bool}
+use Rattle.std.proofs.Common.{◌≡◌, ℕ, ◌+◌, ◌<◌, ◌≤◌, ◌==◌, true, false, [], arith, eqb-true, ap, ◌∙◌, sym, refl, subst, inl, inr}
+use Rattle.std.proofs.lemmas.Bool.{cases_Bool, false_from_ne_true}
 use Rattle.std.specs.Prelude.{if◌then◌else◌}
 use Rattle.view_model.specs.Forest.{Forest, Nothing, Branch}
 use Rattle.view_tree.specs.Rows.{Row, count_of_key}
-use Rattle.view_tree.proofs.forest.KeyLaws.{times_self, zero_or_more}
+use Rattle.view_tree.proofs.forest.KeyLaws.{own_more, times_self, zero_or_more}
 use Rattle.view_tree.specs.Views.{Held}
 use Rattle.kept_views.specs.Kept.{Around, Cleared, Kept, Reached, inside}
-use Rattle.kept_views.proofs.laid.Keys.{own_more}
 use Rattle.kept_views.proofs.edits.Paths.{FlagsAbove}
 use Rattle.kept_views.proofs.edits.Replaced.{Apart, replaced}
 
@@ -40,10 +39,6 @@ cleared_at held (Branch row kids siblings) c key here = elim (cases_Bool (row.ke
       ]
 ]
 
-not_true : (v : Bool) → (v ≡ true → ⊥) → v ≡ false
-not_true true h = absurd (h refl)
-not_true false h = refl
-
 no_false : {A : Type 0} → false ≡ true → A
 no_false e = absurd (cc)
 
@@ -72,8 +67,8 @@ reached_at held (Branch row kids siblings) r key here = elim (cases_Bool (row.ke
   where
     own : IsCalm (held row.key)
     own =
-        let needed = not_true (held row.key).state.layout_needed (λ n. no_false (r.0 n).1) in
-        record { needed = needed; first = not_true (held row.key).state.measure_first (λ m. no_false (sym needed ∙ r.1 m)) }
+        let needed = false_from_ne_true (held row.key).state.layout_needed (λ n. no_false (r.0 n).1) in
+        record { needed = needed; first = false_from_ne_true (held row.key).state.measure_first (λ m. no_false (sym needed ∙ r.1 m)) }
 
 pub flags_absent : (key : ℕ) (held : ℕ → Held) (up : Around) (list : Forest Row) → count_of_key key list ≡ 0 → FlagsAbove key held up list
 flags_absent key held up Nothing z = tt

@@ -3,9 +3,8 @@ use Rattle.std.proofs.Common.{◌≡◌, ℕ, ◌+◌, ◌<◌, ◌≤◌, ◌==
 use Rattle.std.specs.Prelude.{if◌then◌else◌}
 use Rattle.view_model.specs.Forest.{Forest, Nothing, Branch, or_else}
 use Rattle.view_tree.specs.Rows.{Row, children_of_first, count_of_key, first_tree, part_from}
-use Rattle.view_tree.proofs.forest.KeyLaws.{absent, or_else_live, times_self, zero_or_more}
+use Rattle.view_tree.proofs.forest.KeyLaws.{absent, or_else_live, own_more, times_self, zero_or_more}
 use Rattle.view_tree.proofs.forest.NumberLaws.{sum-first_tree, sum-or_else, sum-part_from}
-use Rattle.kept_views.proofs.laid.Keys.{own_more}
 use Rattle.view_tree.specs.Views.{Held}
 use Rattle.kept_views.proofs.edits.Replaced.{Apart, At, Becomes}
 

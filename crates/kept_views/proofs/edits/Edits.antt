@@ -1,12 +1,9 @@
 -- Each kind of edit keeps what is kept, except at and above a view.
-use Rattle.std.proofs.Common.{◌≡◌, ◌≢◌, ℕ, ◌+◌, ◌<◌, ◌≤◌, ◌==◌, Bool, true, false, Some, None, List, [], ◌∷◌, arith, eqb-true, ap, ◌∙◌, sym, refl, subst, inl, inr}
-use Rattle.std.proofs.lemmas.Bool.{cases_Bool}
+use Rattle.std.proofs.Common.{◌≡◌, ◌≢◌, ℕ, ◌+◌, ◌<◌, ◌≤◌, ◌==◌, Bool, true, false, List, ◌∷◌, arith, eqb-true, ap, ◌∙◌, sym, refl, subst, inl, inr}
+use Rattle.std.proofs.lemmas.Bool.{both_ways, cases_Bool}
 use Rattle.std.specs.Prelude.{if◌then◌else◌}
-use Rattle.geom_core.specs.declared.geometry.Size.{Size}
-use Rattle.measure_cache.specs.Entries.{found}
 use Rattle.view_model.specs.Facts.{is_shown}
 use Rattle.view_model.specs.Forest.{Forest, Nothing, Branch}
-use Rattle.view_model.specs.Measuring.{Specs}
 use Rattle.view_model.specs.PlainTree.{PlainView}
 use Rattle.view_tree.specs.Rows.{Row, changed_at_key, count_of_key, first_tree, head_view, part_from}
 use Rattle.view_tree.proofs.forest.KeyLaws.{located, times_self, zero_or_more}
@@ -14,11 +11,8 @@ use Rattle.view_tree.proofs.forest.Walks.{not_below, once_from}
 use Rattle.view_tree.specs.Views.{Held}
 use Rattle.kept_views.specs.Kept.{Around, HiddenView, Kept, hidden_in, inside}
 use Rattle.kept_views.proofs.edits.EditParts.{SameBut, apart_part, at_part}
-use Rattle.kept_views.proofs.KeptFrames.{Kept-more}
+use Rattle.kept_views.proofs.KeptFrames.{Kept-more, none_found, outer}
 use Rattle.kept_views.proofs.edits.Replaced.{Becomes, Kept-replaced, replaced}
-
-no_both : {A : Type 0} (v : Bool) → v ≡ true → v ≡ false → A
-no_both v t f = let h : true ≡ false = sym t ∙ f in absurd (cc)
 
 -- each view of a list is as one that is hidden
 abbrev pub AllHidden : (ℕ → Held) → Forest Row → Type 0
@@ -32,9 +26,9 @@ hidden_kept keys held up (Branch row kids siblings) all above = (
   λ shown. record {
     flags = λ z y. above (outer (is_shown row.view.facts) up.hidden shown);
     cache = λ z specs size y. none_found (held row.key) specs size own.cache y;
-    sized = λ z y. no_both _ own.forced y;
-    placed = λ z y. no_both _ own.forced y;
-    ranged = λ z y. no_both _ own.forced y;
+    sized = λ z y. absurd (both_ways _ y own.forced);
+    placed = λ z y. absurd (both_ways _ y own.forced);
+    ranged = λ z y. absurd (both_ways _ y own.forced);
   },
   hidden_kept keys held (inside up row (held row.key)) kids (λ key here. all key (omega arith)) (λ h. own.forced),
   hidden_kept keys held up siblings (λ key here. all key (omega arith)) above,
@@ -42,13 +36,6 @@ hidden_kept keys held up (Branch row kids siblings) all above = (
   where
     own : HiddenView (held row.key)
     own = all row.key (times_self row kids siblings)
-
-    outer : (v w : Bool) → (if v then w else true) ≡ false → w ≡ false
-    outer true w e = e
-    outer false w e = absurd (let n : true ≡ false = e in cc)
-
-    none_found : {A : Type 0} (own : Held) (specs : Specs) (size : Size) → own.cache ≡ [] → found own.cache specs ≡ Some size → A
-    none_found own specs size e y = let n : None ≡ Some size = sym (ap (λ cache. found cache specs) e) ∙ y in absurd (cc)
 
 -- what is hidden is so
 pub kept_hidden : (keys : List ℕ) (held : ℕ → Held) (up : Around) (list : Forest Row) → up.hidden ≡ true → Kept keys held up list → (key : ℕ) → 0 < count_of_key key list → HiddenView (held key)

@@ -1,12 +1,11 @@
 -- A requester and all above it are forced, so that it is no longer a requester.
 use Rattle.std.proofs.Common.{◌≡◌, ℕ, ◌+◌, ◌<◌, ◌≤◌, Bool, true, false, List, [], ◌∷◌, arith, ap, ◌∙◌, sym, refl, subst, inl, inr}
 use Rattle.std.specs.Prelude.{if◌then◌else◌, ◌==◌}
-use Rattle.std.proofs.lemmas.Bool.{cases_Bool, cases_eq, eq-eqb}
+use Rattle.std.proofs.lemmas.Bool.{both_ways, cases_Bool, cases_eq, eq-eqb}
 use Rattle.view_model.specs.Forest.{Forest, Nothing, Branch}
 use Rattle.view_tree.specs.Rows.{Row, around, count_of_key}
 use Rattle.view_tree.proofs.forest.AncestorLaws.{around_after, around_below, around_here, left}
-use Rattle.view_tree.proofs.forest.KeyLaws.{times_self}
-use Rattle.kept_views.proofs.laid.Keys.{own_more}
+use Rattle.view_tree.proofs.forest.KeyLaws.{own_more, times_self}
 use Rattle.view_tree.specs.Views.{Held}
 use Rattle.kept_views.specs.Kept.{Kept, hidden_in, loose}
 use Rattle.view_tree.specs.tree.Requests.{among, pressed}
@@ -14,9 +13,6 @@ use Rattle.kept_views.specs.Pressing.{Pressed, Touched, path_of}
 use Rattle.kept_views.proofs.edits.Paths.{Off, among_first, among_later, among_rest, more_than, reach_few}
 use Rattle.kept_views.proofs.edits.PressedKept.{forced_touched, pressed_kept}
 use Rattle.kept_views.proofs.edits.Requested.{pressed_in, pressed_out}
-
-both : {A : Type 0} (v : Bool) → v ≡ true → v ≡ false → A
-both v t f = let n : true ≡ false = sym t ∙ f in absurd (cc)
 
 -- those around a list are around each view of it, together with views only of the list
 around_keeps : (key view : ℕ) (acc : List ℕ) (list : Forest Row) → among key acc ≡ true → among key (around acc view list) ≡ true
@@ -57,7 +53,7 @@ path_off : (view : ℕ) (keys : List ℕ) (list : Forest Row) → Off keys list 
 path_off view keys Nothing off z = tt
 path_off view keys (Branch row kids siblings) off z = (
   λ out. omega arith,
-  λ in_keys. both _ in_keys (off row.key (times_self row kids siblings)),
+  λ in_keys. absurd (both_ways _ (off row.key (times_self row kids siblings)) in_keys),
   path_off view keys kids (λ key here. off key (omega arith)) (omega arith),
   path_off view keys siblings (λ key here. off key (omega arith)) (omega arith),
 )
@@ -73,7 +69,7 @@ on_path view keys acc (Branch row kids siblings) once live e off = elim (cases_e
       let out : (key : ℕ) → 0 < count_of_key key kids + count_of_key key siblings → among key keys ≡ false =
       λ key y. ap (among key) e' ∙ among_later key view acc (λ n. let m2 = own_more row kids siblings key (i ∙ n) in let o2 = once key in absurd (omega arith)) (off key (omega arith)) in
       let own : among row.key keys ≡ true = ap (among row.key) e' ∙ ap (λ key. among row.key (key ∷ acc)) (sym i) ∙ among_first row.key acc in (
-        λ no. both _ own no,
+        λ no. absurd (both_ways _ no own),
         λ in_keys. rw (eq-eqb row.key view i) (omega arith),
         path_off view keys kids (λ key y. out key (omega arith)) (omega arith),
         path_off view keys siblings (λ key y. out key (omega arith)) (omega arith),
@@ -105,7 +101,7 @@ on_path view keys acc (Branch row kids siblings) once live e off = elim (cases_e
         ∙ among_later key view _ (λ n. let y' : 0 < count_of_key view siblings = subst (λ key. 0 < count_of_key key siblings) (sym n) y in absurd (omega arith))
         (around_off key view (row.key ∷ acc) kids (let o = once key in omega arith) (acc_off key (omega arith))) in
         let own : among row.key keys ≡ true = ap (among row.key) e' ∙ among_rest row.key view _ (around_keeps row.key view (row.key ∷ acc) kids (among_first row.key acc)) in (
-          λ no. both _ own no,
+          λ no. absurd (both_ways _ no own),
           λ in_keys. omega arith,
           on_path view keys (row.key ∷ acc) kids (λ key. let o = once key in omega arith) p e' (λ key y. acc_off key (omega arith)),
           path_off view keys siblings out za,

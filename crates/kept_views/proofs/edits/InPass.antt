@@ -1,7 +1,7 @@
 -- A hook's edits in a pass, while a root that was forced still is.
 use Rattle.std.proofs.Common.{◌≡◌, ℕ, ◌<◌, ◌≤◌, Bool, true, false, List, [], ◌∷◌, arith, eqb-true, ap, ◌∙◌, sym, refl, subst, ◌⊎◌, inl, inr}
 use Rattle.std.specs.Prelude.{if◌then◌else◌, ◌==◌}
-use Rattle.std.proofs.lemmas.Bool.{cases_Bool, eq-eqb}
+use Rattle.std.proofs.lemmas.Bool.{both_ways, cases_Bool, eq-eqb}
 use Rattle.view_model.specs.Forest.{Forest, Nothing, Branch}
 use Rattle.view_tree.specs.Rows.{Row, count_of_key}
 use Rattle.view_tree.specs.Views.{Held}
@@ -12,9 +12,6 @@ use Rattle.kept_views.specs.Passes.{settled, settled_at, InPass}
 use Rattle.kept_views.proofs.edits.Paths.{Forces, Way, kept_forces, way}
 use Rattle.kept_views.proofs.edits.PressedKept.{forced_touched, pressed_kept}
 use Rattle.kept_views.proofs.edits.Requested.{Marks, pressed_in, pressed_out, reached-marks}
-
-both : {A : Type 0} (v : Bool) → v ≡ true → v ≡ false → A
-both v t f = let h : true ≡ false = sym t ∙ f in absurd (cc)
 
 -- what is pressed is still exempt
 pub pass_pressed : (view : ℕ) (more keys : List ℕ) (held old new : ℕ → Held) (at up : Around) (list : Forest Row) → Way view keys held at list
@@ -45,7 +42,7 @@ settled_forces root held hidden Nothing f = tt
 settled_forces root held hidden (Branch row kids siblings) f = (
   λ h. elim (root_or_not root row.key) [
     | inl e ↦ let no : settled_at root held row.key ≡ settled (held root) = ap (settled_at root held) e ∙ at_root root held in
-        both _ (f.0 h) (ap (λ (own : Held). own.state.forced) no)
+        absurd (both_ways _ (ap (λ (own : Held). own.state.forced) no) (f.0 h))
     | inr ne ↦ ap (λ (own : Held). own.state.forced) (sym (elsewhere root row.key held ne)) ∙ f.0 h
   ],
   settled_forces root held _ kids f.1,

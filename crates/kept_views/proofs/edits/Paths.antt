@@ -1,13 +1,12 @@
 -- The path up from a view, seen from the root down.
 use Rattle.std.proofs.Common.{◌≡◌, ℕ, zero, suc, ◌+◌, ◌<◌, ◌≤◌, Bool, true, false, List, [], ◌∷◌, ◌++◌, arith, ap, ◌∙◌, sym, refl, subst, ◌⊎◌, inl, inr}
 use Rattle.std.specs.Prelude.{if◌then◌else◌, ◌==◌}
-use Rattle.std.proofs.lemmas.Bool.{cases_Bool, cases_eq, eq-eqb, ne_eqb}
+use Rattle.std.proofs.lemmas.Bool.{both_ways, cases_Bool, cases_eq, eq-eqb, ne_eqb}
 use Rattle.view_model.specs.Facts.{is_shown}
 use Rattle.view_model.specs.Forest.{Forest, Nothing, Branch}
 use Rattle.view_tree.specs.Rows.{Row, around, count_of_key}
 use Rattle.view_tree.proofs.forest.AncestorLaws.{around_after, around_below, around_here, left}
-use Rattle.view_tree.proofs.forest.KeyLaws.{times_self}
-use Rattle.kept_views.proofs.laid.Keys.{own_more}
+use Rattle.view_tree.proofs.forest.KeyLaws.{own_more, times_self}
 use Rattle.view_tree.specs.Views.{Held}
 use Rattle.kept_views.specs.Kept.{Around, Kept, hidden_in, inside, reach}
 use Rattle.view_tree.specs.tree.Requests.{among, unforced}
@@ -128,16 +127,13 @@ not_own row kids siblings key z e = let m = own_more row kids siblings key e in 
 among_one : (key first : ℕ) → (first ≡ key → ⊥) → among key (first ∷ []) ≡ false
 among_one key first ne = rw (ne_eqb first key ne) refl
 
-both : {A : Type 0} (v : Bool) → v ≡ true → v ≡ false → A
-both v t f = let n : true ≡ false = sym t ∙ f in absurd (cc)
-
 not_hidden : (up : Around) (row : Row) → is_shown row.view.facts ≡ true → up.hidden ≡ false → hidden_in up row ≡ false
 not_hidden up row here seen = ap (λ v. if v then up.hidden else true) here ∙ seen
 
 -- a view that is not forced is not gone
 open_shown : (held : ℕ → Held) (hidden : Bool) (row : Row) → ((if is_shown row.view.facts then hidden else true) ≡ true → (held row.key).state.forced ≡ true) → (held row.key).state.forced ≡ false
     → is_shown row.view.facts ≡ true
-open_shown held hidden row forces e = elim (cases_Bool (is_shown row.view.facts)) [ inl here ↦ here | inr gone ↦ both _ (forces (rw gone refl)) e ]
+open_shown held hidden row forces e = elim (cases_Bool (is_shown row.view.facts)) [ inl here ↦ here | inr gone ↦ absurd (both_ways _ e (forces (rw gone refl))) ]
 
 stops_at : (held : ℕ → Held) (key : ℕ) (acc : List ℕ) → (held key).state.forced ≡ true → unforced held (key ∷ acc) ≡ []
 stops_at held key acc e = rw e refl
@@ -206,7 +202,7 @@ Off keys list = (key : ℕ) → 0 < count_of_key key list → among key keys ≡
 way_off : (view : ℕ) (keys : List ℕ) (held : ℕ → Held) (up : Around) (list : Forest Row) → Off keys list → count_of_key view list ≡ 0 → Way view keys held up list
 way_off view keys held up Nothing off z = tt
 way_off view keys held up (Branch row kids siblings) off z = (
-  λ in_keys. both _ in_keys (off row.key (times_self row kids siblings)),
+  λ in_keys. absurd (both_ways _ (off row.key (times_self row kids siblings)) in_keys),
   λ out s. let few = reach_few view (Branch row kids Nothing) in absurd (omega arith),
   way_off view keys held (inside up row (held row.key)) kids (λ key here. off key (omega arith)) (omega arith),
   way_off view keys held up siblings (λ key here. off key (omega arith)) (omega arith),
@@ -233,7 +229,7 @@ way view keys held up acc (Branch row kids siblings) once live forces e off = el
       λ key y. ap (among key) e' ∙ among_later key view _ (other key y) (unforced_off key held acc (off key (omega arith))) in
       let own : among row.key keys ≡ true = ap (among row.key) e' ∙ ap (λ key. among row.key (key ∷ unforced held acc)) (sym i) ∙ among_first row.key (unforced held acc) in (
         λ in_keys. rw (eq-eqb row.key view i) (omega arith),
-        λ out s flags. both _ own out,
+        λ out s flags. absurd (both_ways _ out own),
         way_off view keys held (inside up row (held row.key)) kids (λ key y. out key (omega arith)) (omega arith),
         way_off view keys held up siblings (λ key y. out key (omega arith)) (omega arith),
       )
@@ -284,18 +280,18 @@ way view keys held up acc (Branch row kids siblings) once live forces e off = el
         × (among row.key keys ≡ false → 0 < reach view (Branch row kids Nothing) → FlagsAbove view held (inside up row (held row.key)) kids → (held row.key).state.forced ≡ true)
     at_own e' (inl i) own_kids ne = elim (cases_Bool (held row.key).state.forced) [
       | inl y ↦ (
-        λ in_keys. both _ in_keys (ap (among row.key) e' ∙ among_later row.key view _ (λ n. ne (sym n))
-            (ap (among row.key) i.is ∙ among_append row.key i.inner _ (i.within row.key own_kids) (ap (among row.key) (stops_at held row.key acc y)))),
+        λ in_keys. absurd (both_ways _ (ap (among row.key) e' ∙ among_later row.key view _ (λ n. ne (sym n))
+            (ap (among row.key) i.is ∙ among_append row.key i.inner _ (i.within row.key own_kids) (ap (among row.key) (stops_at held row.key acc y)))) in_keys),
         λ out s flags. y,
       )
       | inr n ↦ (
         λ in_keys. let m = reach_more view row kids Nothing (open_shown held up.hidden row forces.0 n) in let s = i.seen in omega arith,
-        λ out. both _ (ap (among row.key) e' ∙ among_rest row.key view _ (ap (among row.key) i.is
-            ∙ among_right row.key i.inner _ (ap (among row.key) (goes_on held row.key acc n) ∙ among_first row.key (unforced held acc)))) out,
+        λ out. absurd (both_ways _ out (ap (among row.key) e' ∙ among_rest row.key view _ (ap (among row.key) i.is
+            ∙ among_right row.key i.inner _ (ap (among row.key) (goes_on held row.key acc n) ∙ among_first row.key (unforced held acc))))),
       )
     ]
     at_own e' (inr j) own_kids ne = (
-      λ in_keys. both _ in_keys (ap (among row.key) e' ∙ among_later row.key view _ (λ n. ne (sym n)) (j.within row.key own_kids)),
+      λ in_keys. absurd (both_ways _ (ap (among row.key) e' ∙ among_later row.key view _ (λ n. ne (sym n)) (j.within row.key own_kids)) in_keys),
       λ out s flags. elim (cases_Bool (hidden_in up row)) [
         | inl h ↦ forces.0 h
         | inr h ↦ j.above flags (reach_shown view row kids Nothing ne refl s).1 h

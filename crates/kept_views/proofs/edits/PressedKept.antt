@@ -1,18 +1,14 @@
 -- Forcing keeps what is kept, with requesters left or added.
-use Rattle.std.proofs.Common.{◌≡◌, ℕ, Bool, true, false, Some, None, List, [], ap, ◌∙◌, sym, refl, subst, ◌⊎◌, inl, inr}
-use Rattle.geom_core.specs.declared.geometry.Size.{Size}
-use Rattle.measure_cache.specs.Entries.{found}
+use Rattle.std.proofs.Common.{◌≡◌, ℕ, Bool, true, false, Some, List, ap, ◌∙◌, sym, refl, subst, ◌⊎◌, inl, inr}
+use Rattle.std.proofs.lemmas.Bool.{both_ways}
 use Rattle.view_model.specs.Forest.{Forest, Nothing, Branch}
-use Rattle.view_model.specs.Measuring.{Specs}
 use Rattle.view_model.specs.Offsets.{brought, range_by}
 use Rattle.view_tree.specs.Rows.{Row}
 use Rattle.view_tree.specs.Views.{Held, specs_of}
+use Rattle.kept_views.proofs.KeptFrames.{none_found}
 use Rattle.kept_views.specs.Kept.{Around, HiddenView, Kept, ShownView, asked, first_place, hidden_in, last_edges, last_places, last_specs}
 use Rattle.view_tree.specs.tree.Requests.{forced_one}
 use Rattle.kept_views.specs.Pressing.{IsPressed, Pressed, Touched}
-
-no_both : {A : Type 0} (v : Bool) → v ≡ true → v ≡ false → A
-no_both v t f = let h : true ≡ false = sym t ∙ f in absurd (cc)
 
 pub forced_touched : (own : Held) → Touched own (forced_one own)
 forced_touched own = record { specs = refl; bounds = refl; edges = refl; forced = λ e. refl; hidden = λ h. record { forced = refl; bounds = h.bounds; cache = refl } }
@@ -73,13 +69,10 @@ module _ (keys more : List ℕ) (old new : ℕ → Held) where
   shown_one h f f' row kids up q mono shown (inr p) v = record {
     flags = λ z y. (p.1 shown z).above;
     cache = λ z specs size y. none_found (new row.key) specs size (p.1 shown z).cache y;
-    sized = λ z y. no_both _ (p.1 shown z).forced y;
-    placed = λ z y. no_both _ (p.1 shown z).forced y;
-    ranged = λ z y. no_both _ (p.1 shown z).forced y;
+    sized = λ z y. absurd (both_ways _ y (p.1 shown z).forced);
+    placed = λ z y. absurd (both_ways _ y (p.1 shown z).forced);
+    ranged = λ z y. absurd (both_ways _ y (p.1 shown z).forced);
   }
-    where
-      none_found : {A : Type 0} (own : Held) (specs : Specs) (size : Size) → own.cache ≡ [] → found own.cache specs ≡ Some size → A
-      none_found own specs size e y = let n : None ≡ Some size = sym (ap (λ cache. found cache specs) e) ∙ y in absurd (cc)
 
   pub pressed_kept : (h f f' : Bool) (list : Forest Row) → Pressed keys more old new (record { hidden = h; forced = f' }) list → (f ≡ true → f' ≡ true)
       → Kept keys old (record { hidden = h; forced = f }) list → Kept more new (record { hidden = h; forced = f' }) list

@@ -1,6 +1,6 @@
 -- An edit that layout does not see keeps what is kept, without a request.
 use Rattle.std.proofs.Common.{◌≡◌, ℕ, ◌+◌, ◌==◌, true, false, Option, Some, List, [], ◌∷◌, ap, ◌∙◌, sym, refl, subst, inl, inr}
-use Rattle.std.proofs.lemmas.Bool.{cases_Bool}
+use Rattle.std.proofs.lemmas.Bool.{both_ways, cases_Bool}
 use Rattle.std.specs.Prelude.{ℤ, if◌then◌else◌, map}
 use Rattle.geom_core.specs.declared.geometry.Rect.{Rect}
 use Rattle.geom_core.specs.declared.geometry.Size.{Size}
@@ -16,7 +16,6 @@ use Rattle.view_model.specs.RelativeLayout.{sides_of}
 use Rattle.view_tree.specs.Rows.{Row, changed_at_key, views_of}
 use Rattle.view_tree.specs.Views.{Held, specs_of}
 use Rattle.kept_views.specs.Kept.{Around, Kept, ShownView, asked, first_place, hidden_in, inside, last_edges, last_places, last_specs, reach}
-use Rattle.kept_views.proofs.laid.LaidCalm.{not_both}
 
 -- layout sees no difference between two views
 pub record IsUnseen (old new : PlainView) : Type 0 where
@@ -143,7 +142,7 @@ module _ (key : ℕ) (change : PlainView → PlainView) where
           let view = change row.view in
           let hidden : hidden_in up (record row { view = view }) ≡ hidden_in up row = ap (λ v. if v then up.hidden else true) own.shown in
           let asks : asked keys (Branch (record row { view = view }) kids Nothing) ≡ asked keys (Branch row kids Nothing) =
-          ap (asked keys) (sym (put_here row kids Nothing e)) ∙ asked_same keys (Branch row kids Nothing) (u.0, λ ne. not_both _ e ne) in
+          ap (asked keys) (sym (put_here row kids Nothing e)) ∙ asked_same keys (Branch row kids Nothing) (u.0, λ ne. absurd (both_ways _ ne e)) in
           rw (put_here row kids siblings e) (
             λ h. k.0 (sym hidden ∙ h),
             λ h. shown_same keys up (held row.key) row view kids kids own asks refl refl refl refl refl (k.1 (sym hidden ∙ h)),
@@ -153,7 +152,7 @@ module _ (key : ℕ) (change : PlainView → PlainView) where
       | inr e ↦
           let below = (u.1 e).0 in
           let asks : asked keys (Branch row (changed_at_key key change kids) Nothing) ≡ asked keys (Branch row kids Nothing) =
-          ap (asked keys) (sym (put_on row kids Nothing e)) ∙ asked_same keys (Branch row kids Nothing) (λ t. not_both _ t e, λ ne. (below, tt)) in
+          ap (asked keys) (sym (put_on row kids Nothing e)) ∙ asked_same keys (Branch row kids Nothing) (λ t. absurd (both_ways _ e t), λ ne. (below, tt)) in
           rw (put_on row kids siblings e) (
             k.0,
             λ h. shown_same keys up (held row.key) row row.view kids (changed_at_key key change kids) unseen_self asks (children_same kids below) (specs_put kids below) (edges_put kids below) (places_put kids below) (first_put kids) (k.1 h),

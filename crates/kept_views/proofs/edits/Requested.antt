@@ -1,13 +1,12 @@
 -- A request at a view removes it from the requesters.
-use Rattle.std.proofs.Common.{◌≡◌, ℕ, ◌<◌, ◌≤◌, Bool, true, false, Some, None, List, [], ◌∷◌, arith, ap, ◌∙◌, sym, refl, subst, inl, inr}
+use Rattle.std.proofs.Common.{◌≡◌, ℕ, ◌<◌, ◌≤◌, Bool, true, false, List, [], ◌∷◌, arith, ap, ◌∙◌, sym, refl, subst, inl, inr}
 use Rattle.std.specs.Prelude.{if◌then◌else◌}
-use Rattle.std.proofs.lemmas.Bool.{cases_Bool, cases_eq}
-use Rattle.geom_core.specs.declared.geometry.Size.{Size}
-use Rattle.measure_cache.specs.Entries.{found}
+use Rattle.std.proofs.lemmas.Bool.{both_ways, cases_Bool, cases_eq}
 use Rattle.view_model.specs.Forest.{Forest, Nothing, Branch}
 use Rattle.view_model.specs.Measuring.{Specs}
 use Rattle.view_tree.specs.Rows.{Row, count_of_key}
 use Rattle.view_tree.specs.Views.{Held}
+use Rattle.kept_views.proofs.KeptFrames.{none_found, outer}
 use Rattle.kept_views.specs.Kept.{Around, Cleared, HiddenView, Kept, Reached, ShownView, hidden_in, inside, loose, reach}
 use Rattle.view_tree.specs.tree.Requests.{among, asking, forced_one, pressed}
 use Rattle.kept_views.specs.Pressing.{IsPressed, Pressed, Touched}
@@ -36,10 +35,6 @@ Done view held up (Branch row kids siblings) =
     (hidden_in up row ≡ false → 0 < reach view (Branch row kids Nothing) → IsPressed up (held row.key))
     × Done view held (inside up row (held row.key)) kids
     × Done view held up siblings
-
-outer : (v w : Bool) → (if v then w else true) ≡ false → w ≡ false
-outer true w e = e
-outer false w e = absurd (let n : true ≡ false = e in cc)
 
 open_row : (v w : Bool) → (if v then w else true) ≡ false → v ≡ true
 open_row true w e = refl
@@ -149,17 +144,11 @@ done_kept view more held up (Branch row kids siblings) d k = (
   done_kept view more held up siblings d.2 k.3,
 )
   where
-    no_both : {A : Type 0} (v : Bool) → v ≡ true → v ≡ false → A
-    no_both v t f = let h : true ≡ false = sym t ∙ f in absurd (cc)
-
-    none_found : {A : Type 0} (own : Held) (specs : Specs) (size : Size) → own.cache ≡ [] → found own.cache specs ≡ Some size → A
-    none_found own specs size e y = let n : None ≡ Some size = sym (ap (λ cache. found cache specs) e) ∙ y in absurd (cc)
-
     emptied : (keys : List ℕ) (held : ℕ → Held) (up : Around) (own : Held) (row : Row) (kids : Forest Row) → IsPressed up own → ShownView keys held up own row kids
     emptied keys held up own row kids p = record {
       flags = λ z y. p.above;
       cache = λ z specs size y. none_found own specs size p.cache y;
-      sized = λ z y. no_both _ p.forced y;
-      placed = λ z y. no_both _ p.forced y;
-      ranged = λ z y. no_both _ p.forced y;
+      sized = λ z y. absurd (both_ways _ y p.forced);
+      placed = λ z y. absurd (both_ways _ y p.forced);
+      ranged = λ z y. absurd (both_ways _ y p.forced);
     }

@@ -10,14 +10,13 @@ use Rattle.view_tree.specs.Rows.{Row, ancestors, count_of_key, first_key, grown_
 use Rattle.view_tree.specs.Views.{IsLive, IsTree, Views, held_of}
 use Rattle.view_tree.proofs.forest.DepthLaws.{ancestors-grown}
 use Rattle.view_tree.proofs.forest.GrownParts.{count_of_key-grown_more}
-use Rattle.view_tree.proofs.forest.KeyLaws.{times_self, zero_or_more}
+use Rattle.view_tree.proofs.forest.KeyLaws.{own_more, times_self, zero_or_more}
 use Rattle.view_tree.proofs.forest.NumberLaws.{sum-grown}
 use Rattle.kept_views.specs.Kept.{IsConsistent, IsKept}
 use Rattle.kept_views.specs.Pressing.{path_of}
 use Rattle.kept_views.proofs.edits.Edits.{AllHidden}
 use Rattle.kept_views.proofs.grown.Fresh.{AllCalm, came_calm, came_hidden, new_tree}
 use Rattle.kept_views.proofs.KeptFrames.{Same}
-use Rattle.kept_views.proofs.laid.Keys.{own_more}
 use Rattle.kept_views.proofs.edits.Lines.{grow_kept}
 use Rattle.kept_views.proofs.edits.Paths.{unforced_off}
 use Rattle.kept_views.proofs.edits.Requested.{pressed_out}

@@ -10,7 +10,7 @@ use Rattle.view_tree.specs.Views.{Held}
 use Rattle.kept_views.specs.Kept.{Around, HiddenView, Kept, asked, inside, reach}
 use Rattle.kept_views.proofs.edits.EditParts.{apart_part, at_part}
 use Rattle.kept_views.proofs.edits.Edits.{AllHidden, hidden_kept}
-use Rattle.kept_views.proofs.KeptFrames.{Kept-more, Kept-weak, Same}
+use Rattle.kept_views.proofs.KeptFrames.{Kept-more, Kept-weak, outer, Same}
 use Rattle.kept_views.proofs.edits.Paths.{reach_few}
 use Rattle.kept_views.proofs.edits.Replaced.{Becomes, Kept-replaced}
 use Rattle.kept_views.proofs.edits.Requested.{Done}
@@ -129,7 +129,3 @@ module _ (parent : ℕ) (new_row : Row) (below : Forest Row) where
           done_added held up siblings (omega arith) zb own d.2,
         )
   ]
-    where
-      outer : (v w : Bool) → (if v then w else true) ≡ false → w ≡ false
-      outer true w e = e
-      outer false w e = absurd (let n : true ≡ false = e in cc)

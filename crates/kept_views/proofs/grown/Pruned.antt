@@ -2,6 +2,7 @@
 use Rattle.std.proofs.Common.{◌≡◌, ℕ, ◌<◌, ◌≤◌, ◌==◌, ◌⊎◌, true, false, List, [], ◌∷◌, arith, eqb-true, ap, ◌∙◌, sym, refl, subst, inl, inr}
 use Rattle.std.proofs.lemmas.Bool.{cases_eq, eq-eqb, ne_eqb}
 use Rattle.view_model.specs.Forest.{Forest, Nothing, Branch}
+use Rattle.view_tree.proofs.forest.KeyLaws.{own_more}
 use Rattle.view_tree.specs.Rows.{Row, around, count_of_key, first_tree, later_siblings, part_from, pruned_at_key}
 use Rattle.view_tree.proofs.forest.AncestorLaws.{around_after, around_below, around_here, left}
 use Rattle.view_tree.proofs.forest.NumberLaws.{count_of_key-pruned_at_key, cut_absent}
@@ -9,7 +10,6 @@ use Rattle.view_tree.specs.Views.{Held}
 use Rattle.kept_views.specs.Kept.{Around, Kept}
 use Rattle.kept_views.proofs.edits.EditParts.{at_absent}
 use Rattle.kept_views.proofs.KeptFrames.{Kept-along, Kept-weak, Same}
-use Rattle.kept_views.proofs.laid.Keys.{own_more}
 use Rattle.kept_views.proofs.edits.Paths.{more_than}
 use Rattle.kept_views.proofs.edits.Replaced.{Apart, At, Kept-replaced, replaced}
 

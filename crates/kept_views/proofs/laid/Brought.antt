@@ -1,11 +1,9 @@
 -- Offsets that are in range.
 use Rattle.std.proofs.Common.{◌≡◌, ℕ, ◌<◌, ℤ, Bool, true, false, inl, inr, Option, Some, None, List, [], refl, sym, ◌∙◌, ap, subst, arith}
 use Rattle.std.proofs.lemmas.Int.{ints}
-use Rattle.std.proofs.lemmas.Bool.{cases_Bool}
+use Rattle.std.proofs.lemmas.Bool.{cases_Bool, false_from_ne_true}
 use Rattle.std.specs.Prelude.{if◌then◌else◌}
 use Rattle.geom_core.specs.declared.geometry.Rect.{Rect}
-use Rattle.view_model.specs.declared.facts.Facts.{Facts}
-use Rattle.view_model.specs.declared.class.Class.{Class}
 use Rattle.view_model.proofs.ClassLaws.{range_nowhere}
 use Rattle.view_model.specs.Facts.{is_shown}
 use Rattle.view_model.specs.Forest.{Forest, Nothing, Branch}
@@ -17,7 +15,7 @@ use Rattle.view_tree.specs.Views.{Held}
 use Rattle.kept_views.specs.Kept.{Around, Kept, Reached, firm, first_place, hidden_in, inside}
 use Rattle.kept_views.specs.Laying.{Brought}
 use Rattle.kept_views.proofs.KeptFrames.{Same, first-along, same_kids, same_self, same_siblings}
-use Rattle.kept_views.proofs.laid.LaidCalm.{false_unless, shown_in, to_firm, unforced_in}
+use Rattle.kept_views.proofs.laid.LaidCalm.{shown_in, to_firm, unforced_in}
 
 -- an offset in range stays
 pub brought_again : (range : Option ℤ) (offset : ℤ) → brought range (brought range offset) ≡ brought range offset
@@ -79,7 +77,7 @@ brought_calm held (Branch row kids siblings) k r = elim (cases_Bool (is_shown ro
   | inl here ↦
       let v = k.1 (shown_in row here) in
       let f = unforced_in (held row.key).state.forced false refl (v.flags refl) in
-      let n = false_unless (held row.key).state.layout_needed (λ e. let no : false ≡ true = (r.0 e).1 in absurd (cc)) in (
+      let n = false_from_ne_true (held row.key).state.layout_needed (λ e. let no : false ≡ true = (r.0 e).1 in absurd (cc)) in (
         own_brought held row kids (λ rect lies. v.ranged refl f n rect lies),
         brought_calm held kids (to_firm [] held _ _ kids (shown_in row here) f k.2) (subst (λ b. Reached held b kids) n r.2),
         brought_calm held siblings k.3 r.3,

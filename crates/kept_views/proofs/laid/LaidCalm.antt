@@ -1,6 +1,6 @@
 -- If no view is forced and none needs layout, all have the bounds that a layout would give them.
 use Rattle.std.proofs.Common.{◌≡◌, ℕ, Bool, true, false, inl, inr, Option, Some, None, List, [], ◌∷◌, ◌++◌, append_assoc, refl, sym, ◌∙◌, ap, subst}
-use Rattle.std.proofs.lemmas.Bool.{cases_Bool}
+use Rattle.std.proofs.lemmas.Bool.{both_ways, cases_Bool, false_from_ne_true}
 use Rattle.std.specs.Prelude.{if◌then◌else◌}
 use Rattle.geom_core.specs.declared.geometry.Rect.{Rect}
 use Rattle.view_model.specs.Facts.{is_shown}
@@ -14,15 +14,8 @@ use Rattle.kept_views.specs.Kept.{Around, HiddenView, Kept, Reached, firm, hidde
 use Rattle.kept_views.specs.Laying.{group_all, group_kids, group_kids_back, group_places, kid_place, kid_sizes, places_all, places_back, sizes_back, some_all}
 use Rattle.kept_views.proofs.laid.PlacedKids.{cons_head, cons_tail, laid_gone, laid_group, places_group}
 
-pub not_both : {A : Type 0} (v : Bool) → v ≡ true → v ≡ false → A
-not_both v t f = let h : true ≡ false = sym t ∙ f in absurd (cc)
-
-pub false_unless : (v : Bool) → (v ≡ true → ⊥) → v ≡ false
-false_unless true h = absurd (h refl)
-false_unless false h = refl
-
 pub unforced_in : (v up : Bool) → up ≡ false → (v ≡ true → up ≡ true) → v ≡ false
-unforced_in v up none h = false_unless v (λ e. let g : false ≡ true = sym none ∙ h e in absurd (cc))
+unforced_in v up none h = false_from_ne_true v (λ e. let g : false ≡ true = sym none ∙ h e in absurd (cc))
 
 pub to_firm : (keys : List ℕ) (held : ℕ → Held) (hidden forced : Bool) (list : Forest Row) → hidden ≡ false → forced ≡ false
     → Kept keys held (record { hidden = hidden; forced = forced }) list → Kept keys held firm list
@@ -56,10 +49,10 @@ gone_nowhere keys held up row kids gone own k =
 
 open_true : (v : Bool) (a : Option Rect) (c : Rect) (b : List (Option Rect)) (d : List Rect) → v ≡ true → (if v then a ∷ b else b) ≡ some_all (if v then c ∷ d else d) → a ∷ b ≡ Some c ∷ some_all d
 open_true true a c b d t e = e
-open_true false a c b d t e = not_both false t refl
+open_true false a c b d t e = absurd (both_ways false refl t)
 
 open_false : (v : Bool) (a : Option Rect) (c : Rect) (b : List (Option Rect)) (d : List Rect) → v ≡ false → (if v then a ∷ b else b) ≡ some_all (if v then c ∷ d else d) → b ≡ some_all d
-open_false true a c b d f e = not_both true refl f
+open_false true a c b d f e = absurd (both_ways true f refl)
 open_false false a c b d f e = e
 
 -- views of a list lie as a layout would put them, if those that take part in layout lie where a group puts them, in either
@@ -85,8 +78,8 @@ shown_lies held row kids siblings rect here k r calm lies =
     let specs = specs_of own.state in
     let v = k.1 (shown_in row here) in
     let f = unforced_in own.state.forced false refl (v.flags refl) in
-    let n = false_unless own.state.layout_needed (λ e. let no : false ≡ true = (r.0 e).1 in absurd (cc)) in
-    let m = false_unless own.state.measure_first (λ e. not_both _ (r.1 e) n) in
+    let n = false_from_ne_true own.state.layout_needed (λ e. let no : false ≡ true = (r.0 e).1 in absurd (cc)) in
+    let m = false_from_ne_true own.state.measure_first (λ e. both_ways _ n (r.1 e)) in
     let s = v.sized refl f in
     let spot : Spot = record { view = for_layout row.view; specs = specs; room = size_of_rect rect; total = total_size row.view (views_of kids) specs } in
     let places : last_places held kids ≡ some_all (places_all spot held kids) =

@@ -2,7 +2,7 @@
 use Rattle.std.proofs.Common.{◌≡◌, ◌≢◌, ℕ, ◌<◌, ◌≤◌, Bool, true, false, Option, List, [], ◌∷◌, ◌++◌, Some, None, refl, sym, ◌∙◌, ap, subst, arith, inl, inr}
 use Rattle.std.specs.Prelude.{ℤ, if◌then◌else◌}
 use Rattle.std.specs.Ordering.{int_eq}
-use Rattle.std.proofs.lemmas.Bool.{cases_Bool}
+use Rattle.std.proofs.lemmas.Bool.{both_ways, cases_Bool, false_from_ne_true}
 use Rattle.std.proofs.lemmas.Bool.Decides.{Decides-int_eq}
 use Rattle.std.proofs.lemmas.List.{append-nil}
 use Rattle.geom_core.specs.declared.geometry.Rect.{Rect}
@@ -14,15 +14,15 @@ use Rattle.view_model.specs.Layout.{Spot, final_edges, final_specs, laid_views, 
 use Rattle.view_model.specs.Measuring.{Measured, Specs}
 use Rattle.view_model.specs.Offsets.{brought, range_by}
 use Rattle.view_model.specs.RelativeLayout.{sides_of}
+use Rattle.view_tree.proofs.forest.KeyLaws.{own_more}
 use Rattle.view_tree.specs.Rows.{Row, count_of_key, views_of}
 use Rattle.view_tree.specs.Views.{Held, laid_at, laid_rows, specs_of}
 use Rattle.kept_views.specs.Kept.{InRange, Kept, Reached, ShownView, firm, first_place, hidden_in, inside, last_edges, last_places, last_specs, loose}
 use Rattle.kept_views.specs.Laying.{Fit, IsPut, IsQuietAll, Wrote, group_all, group_kids, group_kids_back, kid_place, kid_sizes, kid_under, moved_to, ranged_own, same_place, sizes_back, some_all, spot_of}
 use Rattle.kept_views.specs.Passes.{settled}
 use Rattle.kept_views.proofs.laid.Brought.{brought-along, brought-start, brought_again, brought_calm}
-use Rattle.kept_views.proofs.laid.Keys.{own_more}
 use Rattle.kept_views.proofs.KeptFrames.{Kept-along, Same, edges-along, first-along, places-along, specs-along}
-use Rattle.kept_views.proofs.laid.LaidCalm.{all_calm, false_unless, laid_calm, not_both, to_firm}
+use Rattle.kept_views.proofs.laid.LaidCalm.{all_calm, laid_calm, to_firm}
 use Rattle.kept_views.proofs.laid.LaidFrames.{Reached-along, laid_rows-along, places_all-along}
 use Rattle.kept_views.proofs.laid.PlacedKids.{cons_head, cons_tail, laid_gone, laid_group, places_group}
 
@@ -62,15 +62,15 @@ calm_row old held row kids siblings rect here fit f d bounds same edges offsets 
     let k = fit.ready.kept in
     let r = fit.ready.reached in
     let v = k.1 (shown_loose row here) in
-    let m : own.state.measure_first ≡ false = false_unless own.state.measure_first (λ e. not_both own.state.layout_needed (r.1 e) d) in
+    let m : own.state.measure_first ≡ false = false_from_ne_true own.state.measure_first (λ e. both_ways own.state.layout_needed d (r.1 e)) in
     let s = v.sized refl f in
     let below : Kept [] held firm kids = to_firm [] held _ _ kids (shown_loose row here) f k.2 in
     let quiet : Reached held false kids = subst (λ b. Reached held b kids) d r.2 in
     let spot = spot_for row kids specs rect in
     let spots = v.placed refl f d rect bounds ∙ ap some_all (places_group held row kids specs (size_of_rect rect) spot (s.finals m) (s.edges m) refl) in
     record {
-      kept = (k.0, λ h. record { flags = λ none e. not_both own.state.forced e f; cache = v.cache; sized = v.sized; placed = v.placed; ranged = v.ranged }, k.2, tt);
-      reached = (λ e. not_both own.state.layout_needed e d, r.1, r.2, tt);
+      kept = (k.0, λ h. record { flags = λ none e. absurd (both_ways own.state.forced f e); cache = v.cache; sized = v.sized; placed = v.placed; ranged = v.ranged }, k.2, tt);
+      reached = (λ e. absurd (both_ways own.state.layout_needed d e), r.1, r.2, tt);
       bounds = bounds;
       specs = same;
       edges = edges;
@@ -259,14 +259,14 @@ put_row old fit_held moved laid new row kids siblings rect here once fit m same 
     let moved_offset : (key : ℕ) → 0 < count_of_key key kids → (moved key).offset ≡ (old key).offset = λ key here. ap (λ (own : Held). own.offset) (s1 key here) ∙ offsets key in
     record {
       kept = (
-        λ h. not_both (hidden_in firm row) h hidden,
+        λ h. absurd (both_ways (hidden_in firm row) hidden h),
         λ h. subst (λ own. ShownView [] new firm own row kids) (sym at) shown,
         subst (λ own. Kept [] new (inside firm row own) kids) (sym at) below,
         tt,
       );
       reached = (
         subst (λ (own : Held). own.state.layout_needed ≡ true → (is_shown row.view.facts ≡ true) × (false ≡ true)) (sym at) (λ e. no_false e),
-        subst (λ (own : Held). own.state.measure_first ≡ true → own.state.layout_needed ≡ true) (sym at) (λ e. not_both (fit_held row.key).state.measure_first e m),
+        subst (λ (own : Held). own.state.measure_first ≡ true → own.state.layout_needed ≡ true) (sym at) (λ e. absurd (both_ways (fit_held row.key).state.measure_first m e)),
         subst (λ (own : Held). Reached new own.state.layout_needed kids) (sym at) reached,
         tt,
       );

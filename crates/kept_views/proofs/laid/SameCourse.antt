@@ -2,18 +2,13 @@
 use Rattle.std.proofs.Common.{◌≡◌, List, ap, ◌∙◌}
 use Rattle.std.specs.Prelude.{ℤ, map}
 use Rattle.geom_core.specs.declared.geometry.Size.{Size}
-use Rattle.view_model.proofs.Alike.{CourseAlike, KidsAlike, course_alike, shown_alike}
-use Rattle.view_model.proofs.ChildAlike.{child_alike}
-use Rattle.view_model.proofs.RelativeAlike.{relative_alike}
+use Rattle.view_model.proofs.Alike.{CourseAlike, KidsAlike, shown_alike}
+use Rattle.view_model.proofs.ChildAlike.{child_alike, manner_alike}
 use Rattle.view_model.specs.Course.{Child, Requested, last_of}
 use Rattle.view_model.specs.Forest.{Forest}
-use Rattle.view_model.specs.Layout.{Final, Placed, Spot, children_of, course_by, course_in, final_by, final_edges, final_specs, manner_of, measured_size, placed_in, placement, requested_by, total_by, total_size, for_layout}
-use Rattle.view_model.specs.Measuring.{Manner, ByRule, BySiblings, Specs}
+use Rattle.view_model.specs.Layout.{Final, Placed, Spot, children_of, course_by, final_by, final_edges, final_specs, manner_of, measured_size, placed_in, placement, requested_by, total_by, total_size, for_layout}
+use Rattle.view_model.specs.Measuring.{Specs}
 use Rattle.view_model.specs.PlainTree.{PlainView}
-
-manner_alike : (manner : Manner) (view : PlainView) (specs : Specs) (some more : List Child) → KidsAlike some more → CourseAlike (course_in manner view some specs) (course_in manner view more specs)
-manner_alike (ByRule rule) view specs some more h = course_alike rule some more h
-manner_alike BySiblings view specs some more h = relative_alike view.facts specs some more h
 
 -- two lists of trees as the children of one view
 module _ (view : PlainView) (some more : Forest PlainView) (alike : KidsAlike (children_of some) (children_of more)) where

@@ -1,5 +1,6 @@
 -- Below a view that is not forced all is sized.
 use Rattle.std.proofs.Common.{◌≡◌, ℕ, Bool, true, false, [], ap, ◌∙◌, sym, refl, subst}
+use Rattle.std.proofs.lemmas.Bool.{false_from_ne_true}
 use Rattle.std.specs.Prelude.{if◌then◌else◌}
 use Rattle.kept_views.specs.Kept.{Around, Kept, Reached, Ready, Sized, firm, hidden_in, inside, loose}
 use Rattle.measure_pass.specs.Measured.{Keeps}
@@ -8,15 +9,8 @@ use Rattle.view_model.specs.Forest.{Forest, Nothing, Branch}
 use Rattle.view_tree.specs.Rows.{Row, first_tree, children_of_first, head_view}
 use Rattle.view_tree.specs.Views.{Held}
 
-pub not_both : {A : Type 0} (v : Bool) → v ≡ true → v ≡ false → A
-not_both v t f = let h : true ≡ false = sym t ∙ f in absurd (cc)
-
-pub false_unless : (v : Bool) → (v ≡ true → ⊥) → v ≡ false
-false_unless true h = absurd (h refl)
-false_unless false h = refl
-
 pub unforced : (v : Bool) → (v ≡ true → false ≡ true) → v ≡ false
-unforced v h = false_unless v (λ e. let g : false ≡ true = h e in absurd (cc))
+unforced v h = false_from_ne_true v (λ e. let g : false ≡ true = h e in absurd (cc))
 
 -- a list of views in one that is shown
 abbrev pub below_shown : Bool → Around

@@ -1,5 +1,5 @@
 -- What holds of kept views depends only on what is kept with them, and holds of the first one and of the others.
-use Rattle.std.proofs.Common.{◌≡◌, ℕ, ◌+◌, Bool, true, List, [], arith, ◌∙◌, sym, refl, subst}
+use Rattle.std.proofs.Common.{◌≡◌, ℕ, Bool, true, List, [], ◌∙◌, sym, refl, subst}
 use Rattle.kept_views.specs.Kept.{Around, HiddenView, Kept, Reached, Ready, ShownView, inside, last_places, loose, owed}
 use Rattle.kept_views.proofs.KeptFrames.{in_range-along}
 use Rattle.measure_pass.proofs.held.Parts.{IsSized-along}
@@ -73,7 +73,3 @@ Ready-join held (Branch row kids siblings) one more = record {
   kept = (one.kept.0, one.kept.1, one.kept.2, more.kept);
   reached = (one.reached.0, one.reached.1, one.reached.2, more.reached);
 }
-
-pub owed_parts : (held : ℕ → Held) (list : Forest Row) → owed held list ≡ owed held (first_tree list) + owed held (later_siblings list)
-owed_parts held Nothing = omega arith
-owed_parts held (Branch row kids siblings) = omega arith

@@ -1,7 +1,7 @@
 -- A view that is measured: it stays, its size is taken from its cache, or what is below it is measured.
 use Rattle.std.proofs.Common.{◌≡◌, ℤ, ℕ, ◌+◌, ◌*◌, ◌<◌, ◌≤◌, Bool, true, false, Some, None, List, [], ◌∷◌, arith, ap, ◌∙◌, sym, refl, subst, inl, inr}
 use Rattle.std.specs.Prelude.{if◌then◌else◌}
-use Rattle.std.proofs.lemmas.Bool.{cases_eq}
+use Rattle.std.proofs.lemmas.Bool.{both_ways, cases_eq}
 use Rattle.geom_core.specs.Limits.{IsSide}
 use Rattle.geom_core.specs.declared.geometry.Size.{Size}
 use Rattle.measure_cache.specs.declared.cache.Entry.{Entry}
@@ -11,7 +11,7 @@ use Rattle.measure_pass.specs.Caches.{AskedAt, AskedBy, course_under}
 use Rattle.measure_pass.specs.Courses.{IsMeasuredBelow}
 use Rattle.kept_views.specs.Kept.{IsSized, Kept, Reached, Ready, ShownView, Sized, debt, hidden_in, inside, last_specs, loose, owed}
 use Rattle.measure_pass.specs.Measured.{Costs, IsMeasured, Keeps, calls_under, current, done_with, entry_for, hit_with, made_up, size_under}
-use Rattle.measure_pass.proofs.held.Calm.{Kept-firm, Reached-loose, Sized-calm, kept_firm, kept_kids, kids_kept, not_both, shown_in}
+use Rattle.measure_pass.proofs.held.Calm.{Kept-firm, Reached-loose, Sized-calm, kept_firm, kept_kids, kids_kept, shown_in}
 use Rattle.measure_pass.proofs.held.Frames.{Kept-along, Reached-along, owed-along}
 use Rattle.measure_pass.proofs.held.Grows.{Grew-refl, Grown-along, Grown-mono, Grown-same}
 use Rattle.measure_pass.proofs.rules.Laws.{measured_sides}
@@ -138,7 +138,7 @@ hit_row held new row kids siblings specs size count here once ready in_cache w c
       kept_size = rw w.at right;
       sized = (λ shown. rw w.at (is, λ whole. no_false whole), tt);
       ready = record {
-        kept = (λ h. not_both (hidden_in loose row) h (shown_in loose row here refl), λ h. rw w.at shown, rw w.at below, tt);
+        kept = (λ h. absurd (both_ways (hidden_in loose row) (shown_in loose row here refl) h), λ h. rw w.at shown, rw w.at below, tt);
         reached = (λ n. (here, refl), rw w.at (λ m. refl), rw w.at reached, tt);
       };
       keeps = keeps_by held new row.key own w refl refl refl;
@@ -220,7 +220,7 @@ new_row held mid new row kids siblings specs size total old between count here o
       kept_size = rw at m.size;
       sized = (λ shown. rw at (is, λ whole. sized), tt);
       ready = record {
-        kept = (λ h. not_both (hidden_in loose row) h (shown_in loose row here refl), λ h. rw at shown, rw at below, tt);
+        kept = (λ h. absurd (both_ways (hidden_in loose row) (shown_in loose row here refl) h), λ h. rw at shown, rw at below, tt);
         reached = (λ n. (here, refl), rw at (λ x. refl), rw at reached, tt);
       };
       keeps = keeps_trans held mid new keeps (keeps_by mid new row.key _ w refl refl refl);
@@ -338,8 +338,8 @@ make_row held mid new row kids siblings size total old between count here once r
       flags = λ none f. refl;
       cache = v.cache;
       sized = λ none f. is;
-      placed = λ none f n. not_both (held row.key).state.layout_needed need n;
-      ranged = λ none f n. not_both (held row.key).state.layout_needed need n;
+      placed = λ none f n. absurd (both_ways (held row.key).state.layout_needed n need);
+      ranged = λ none f n. absurd (both_ways (held row.key).state.layout_needed n need);
     } in
     let o1 = owed_shown new row kids here in
     let o2 = owed_shown held row kids here in
@@ -375,7 +375,7 @@ make_row held mid new row kids siblings size total old between count here once r
         kept_size = rw at had.size;
         sized = (λ shown. rw at (is, λ whole. sized), tt);
         ready = record {
-          kept = (λ h. not_both (hidden_in loose row) h (shown_in loose row here refl), λ h. rw at shown, rw at below, tt);
+          kept = (λ h. absurd (both_ways (hidden_in loose row) (shown_in loose row here refl) h), λ h. rw at shown, rw at below, tt);
           reached = (λ n. (here, refl), rw at (λ x. need), rw at reached, tt);
         };
         keeps = keeps_trans held mid new keeps (keeps_by mid new row.key _ w refl refl refl);

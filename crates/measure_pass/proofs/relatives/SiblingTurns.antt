@@ -300,7 +300,7 @@ module _ (axis : Axis) (own : Facts) (specs : Specs) (past : List (List Spanned)
       → pair_of asked ≡ pair_of (phase_specs own specs past facts edges anchors)
       → size ≡ measured_size row.view (views_of below) asked
       → Sized mid (Branch row below Nothing) → specs_of (mid row.key).state ≡ asked
-      → sides ≡ edges_as own specs past facts edges anchors size
+      → sides ≡ edges_as past (spanned_as own specs past facts anchors size) edges
       → RepresentsRelative plan own specs past (taken ++ spanned_as own specs past facts anchors size ∷ [])
       → Wrote mid held row.key (record (mid row.key) { state = record (mid row.key).state { edges = sides } })
       → count_of_key row.key (Branch row below Nothing) ≤ 1

@@ -1,9 +1,10 @@
 -- One child of a group was measured, at any place of the list: for a group with an order of its own.
 use Rattle.std.proofs.Common.{◌≡◌, ℕ, zero, suc, ◌+◌, ◌≤◌, arith}
 use Rattle.measure_pass.specs.Caches.{Grown}
+use Rattle.kept_views.proofs.laid.LaidFrames.{owed_parts}
 use Rattle.kept_views.specs.Kept.{Ready, owed}
 use Rattle.measure_pass.specs.Measured.{Costs}
-use Rattle.measure_pass.proofs.held.Frames.{Ready-after, Ready-alone, Ready-along, Ready-join, owed-along, owed_parts}
+use Rattle.measure_pass.proofs.held.Frames.{Ready-after, Ready-alone, Ready-along, Ready-join, owed-along}
 use Rattle.measure_pass.proofs.held.Grows.{Grown-same, Grown-trans}
 use Rattle.measure_pass.proofs.walks.Places.{in_list}
 use Rattle.measure_pass.proofs.Shares.{SharesOut-trans, Shared-same, once_at}

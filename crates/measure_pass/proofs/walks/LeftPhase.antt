@@ -48,8 +48,8 @@ left_phase plan group past kids held list count leaves represents course =
     }
 
 pub all_left : (old mid new : GroupPlan) (before after : Views) (list : Forest Row) (left : ℕ) (size : Size) (total : ℤ) (answer : Bool) (start last : Work) → (left ≡ 0 → ⊥)
-    → answer ≡ true → MeasuresPhase old mid before after list start last → Turns mid new answer → HasIdlePhase new → Ends new size total
-    → MeasuresAll left old before after list size total start last
+    → answer ≡ true → MeasuresPhase old mid list (record { views = before; work = start }) (record { views = after; work = last }) → Turns mid new answer → HasIdlePhase new → Ends new size total
+    → MeasuresAll left old list (record { size = size; total = total }) (record { views = before; work = start }) (record { views = after; work = last })
 all_left old mid new before after list left size total answer start last some again phase turns leaves ends = λ group past kids represents course ready.
     let rule = rule_in group in
     let progress : MeasuringProgress = record { past = past; kids = kids } in

@@ -19,14 +19,14 @@ use Rattle.view_tree.specs.Views.{IsLive, SameTree, Views, held_of, state_of}
 use Rattle.view_tree.proofs.forest.Walks.{count_one}
 
 pub next_gone : (plan : GroupPlan) (views : Views) (kid : ℕ) (work : Work) → IsLive views kid → is_shown (facts_in (part_from kid views.tree)) ≡ false
-    → MeasuresNext plan plan views views (tree_from kid views.tree) work work
+    → MeasuresNext plan plan (tree_from kid views.tree) (record { views = views; work = work }) (record { views = views; work = work })
 next_gone plan views kid work live gone = λ group past taken kids represents few course can.
     gone_kid plan group past taken views.tree kid kids (held_of views) work.measured live gone represents course
 
 pub next_left : (plan new : GroupPlan) (views : Views) (kid : ℕ) (facts : Facts) (present : Size) (answer : Option (Spec × Spec)) (work : Work) → IsLive views kid
     → is_shown (facts_in (part_from kid views.tree)) ≡ true → facts ≡ facts_in (part_from kid views.tree) → present ≡ (state_of views kid).measured → answer ≡ None
     → Asks plan facts present answer → Takes plan new facts present
-    → MeasuresNext plan new views views (tree_from kid views.tree) work work
+    → MeasuresNext plan new (tree_from kid views.tree) (record { views = views; work = work }) (record { views = views; work = work })
 next_left plan new views kid facts present answer work live shown own here none asks takes = λ group past taken kids represents few course can.
     let one = count_one views.tree kid live in
     skipped_kid new group past taken views.tree kid kids (held_of views) present work.measured live shown here
@@ -38,7 +38,7 @@ pub next_measured : (plan new : GroupPlan) (before after : Views) (kid : ℕ) (f
     → SameTree before after → size ≡ size_under (part_from kid before.tree) specs → IsMeasured after kid specs
     → Costs (tree_from kid before.tree) (held_of before) (held_of after) start.measured (calls_under (part_from kid before.tree) specs) last.measured
     → MeasuringTrace (λ place other. other ≡ specs) (λ place. 1) (held_of before) (held_of after) (tree_from kid before.tree) start.measured last.measured
-    → MeasuresNext plan new before after (tree_from kid before.tree) start last
+    → MeasuresNext plan new (tree_from kid before.tree) (record { views = before; work = start }) (record { views = after; work = last })
 next_measured plan new before after kid facts still present size specs answer start last live shown own own_then here asked asks takes same got measured costs trace = λ group past taken kids represents few course can.
     let one = count_one before.tree kid live in
     let sized : Sized (held_of after) (tree_from kid before.tree) = subst (λ (tree : Forest Row). Sized (held_of after) (tree_from kid tree)) same.tree measured.sized in

@@ -68,7 +68,7 @@ plan_falls first plan begin old new kids kid at next start count is walk same pa
 
 pub plan_on : (first before plan : GroupPlan) (begin old new : Views) (kids : Forest Row) (kid : ℕ) (at next : Option ℕ) (start count last : Work) → at ≡ Some kid
     → PlanWalk first before begin old kids at start count
-    → MeasuresNext before plan old new (tree_from kid old.tree) count last → KeepsRest old new (tree_from kid old.tree) count last
+    → MeasuresNext before plan (tree_from kid old.tree) (record { views = old; work = count }) (record { views = new; work = last }) → KeepsRest old new (tree_from kid old.tree) count last
     → rest_from next new.tree ≡ later_siblings (part_from kid new.tree) → IfSome next (λ kid. IsLive new kid)
     → PlanWalk first plan begin new kids next start last
 plan_on first before plan begin old new kids kid at next start count last is walk measures rest part live =
@@ -100,7 +100,7 @@ plan_on first before plan begin old new kids kid at next start count last is wal
 
 -- no child is left
 pub plan_phase : (first plan : GroupPlan) (begin now : Views) (kids : Forest Row) (at : Option ℕ) (start count : Work) → at ≡ None → PlanWalk first plan begin now kids at start count
-    → MeasuresPhase first plan begin now kids start count
+    → MeasuresPhase first plan kids (record { views = begin; work = start }) (record { views = now; work = count })
 plan_phase first plan begin now kids at start count is walk = λ group past asked started course can.
     phase_end plan group past asked kids (held_of begin) (held_of now) start.measured count.measured ((rw is at walk).phase group past asked started course can)
 

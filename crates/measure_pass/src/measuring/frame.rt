@@ -52,8 +52,9 @@ fn measure_phases(
     requires left { ArePhasesLeft left }
     requires ready { Ready (held_of tree.old) (kids_from view tree.old.tree) }
     ensures is_tree { IsTree tree.old }
-    ensures phases { MeasuresAll left (Frame plan.old) tree.old tree.new (kids_from view tree.old.tree)
-        result (pos 0) work.old work.new }
+    ensures phases { MeasuresAll left (Frame plan.old) (kids_from view tree.old.tree)
+        (record { size = result; total = pos 0 })
+        (record { views = tree.old; work = work.old }) (record { views = tree.new; work = work.new }) }
     ensures rest { KeepsRest tree.old tree.new (kids_from view tree.old.tree) work.old work.new }
 {
     measure_kids(tree, view, plan, work);
@@ -80,8 +81,9 @@ fn measure_more(
     requires left { ArePhasesLeft left }
     requires ready { Ready (held_of tree.old) (kids_from view tree.old.tree) }
     ensures is_tree { IsTree tree.old }
-    ensures phases { MeasuresAll left (Frame plan.old) tree.old tree.new (kids_from view tree.old.tree)
-        result (pos 0) work.old work.new }
+    ensures phases { MeasuresAll left (Frame plan.old) (kids_from view tree.old.tree)
+        (record { size = result; total = pos 0 })
+        (record { views = tree.old; work = work.old }) (record { views = tree.new; work = work.new }) }
     ensures rest { KeepsRest tree.old tree.new (kids_from view tree.old.tree) work.old work.new }
 {
     measure_phases(tree, view, plan, left, work)
@@ -94,8 +96,8 @@ fn measure_kids(tree: &mut ViewTree, view: Key, plan: &mut FramePlan, work: &mut
     requires live { IsLive tree.old view }
     requires ready { Ready (held_of tree.old) (kids_from view tree.old.tree) }
     ensures is_tree { IsTree tree.old }
-    ensures phase { MeasuresPhase (Frame plan.old) (Frame plan.new) tree.old tree.new
-        (kids_from view tree.old.tree) work.old work.new }
+    ensures phase { MeasuresPhase (Frame plan.old) (Frame plan.new) (kids_from view tree.old.tree)
+        (record { views = tree.old; work = work.old }) (record { views = tree.new; work = work.new }) }
     ensures rest { KeepsRest tree.old tree.new (kids_from view tree.old.tree) work.old work.new }
 {
     let mut next = tree.first(view);
@@ -111,8 +113,8 @@ fn measure_kids(tree: &mut ViewTree, view: Key, plan: &mut FramePlan, work: &mut
 fn measure_kid(tree: &mut ViewTree, kid: Key, plan: &mut FramePlan, work: &mut Work)
     requires live { IsLive tree.old kid }
     requires ready { Ready (held_of tree.old) (tree_from kid tree.old.tree) }
-    ensures next { MeasuresNext (Frame plan.old) (Frame plan.new) tree.old tree.new
-        (tree_from kid tree.old.tree) work.old work.new }
+    ensures next { MeasuresNext (Frame plan.old) (Frame plan.new) (tree_from kid tree.old.tree)
+        (record { views = tree.old; work = work.old }) (record { views = tree.new; work = work.new }) }
     ensures rest { KeepsRest tree.old tree.new (tree_from kid tree.old.tree) work.old work.new }
 {
     let facts = tree.facts(kid);

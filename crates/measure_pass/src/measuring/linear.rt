@@ -55,8 +55,8 @@ fn measure_phases(
     requires left { ArePhasesLeft left }
     requires ready { Ready (held_of tree.old) (kids_from view tree.old.tree) }
     ensures is_tree { IsTree tree.old }
-    ensures phases { MeasuresAll left (Linear plan.old) tree.old tree.new (kids_from view tree.old.tree)
-        result.size result.total work.old work.new }
+    ensures phases { MeasuresAll left (Linear plan.old) (kids_from view tree.old.tree) result
+        (record { views = tree.old; work = work.old }) (record { views = tree.new; work = work.new }) }
     ensures rest { KeepsRest tree.old tree.new (kids_from view tree.old.tree) work.old work.new }
 {
     measure_kids(tree, view, plan, work);
@@ -86,8 +86,8 @@ fn measure_more(
     requires left { ArePhasesLeft left }
     requires ready { Ready (held_of tree.old) (kids_from view tree.old.tree) }
     ensures is_tree { IsTree tree.old }
-    ensures phases { MeasuresAll left (Linear plan.old) tree.old tree.new (kids_from view tree.old.tree)
-        result.size result.total work.old work.new }
+    ensures phases { MeasuresAll left (Linear plan.old) (kids_from view tree.old.tree) result
+        (record { views = tree.old; work = work.old }) (record { views = tree.new; work = work.new }) }
     ensures rest { KeepsRest tree.old tree.new (kids_from view tree.old.tree) work.old work.new }
 {
     measure_phases(tree, view, plan, left, work)
@@ -100,8 +100,8 @@ fn measure_kids(tree: &mut ViewTree, view: Key, plan: &mut LinearPlan, work: &mu
     requires live { IsLive tree.old view }
     requires ready { Ready (held_of tree.old) (kids_from view tree.old.tree) }
     ensures is_tree { IsTree tree.old }
-    ensures phase { MeasuresPhase (Linear plan.old) (Linear plan.new) tree.old tree.new
-        (kids_from view tree.old.tree) work.old work.new }
+    ensures phase { MeasuresPhase (Linear plan.old) (Linear plan.new) (kids_from view tree.old.tree)
+        (record { views = tree.old; work = work.old }) (record { views = tree.new; work = work.new }) }
     ensures rest { KeepsRest tree.old tree.new (kids_from view tree.old.tree) work.old work.new }
 {
     let mut next = tree.first(view);
@@ -117,8 +117,8 @@ fn measure_kids(tree: &mut ViewTree, view: Key, plan: &mut LinearPlan, work: &mu
 fn measure_kid(tree: &mut ViewTree, kid: Key, plan: &mut LinearPlan, work: &mut Work)
     requires live { IsLive tree.old kid }
     requires ready { Ready (held_of tree.old) (tree_from kid tree.old.tree) }
-    ensures next { MeasuresNext (Linear plan.old) (Linear plan.new) tree.old tree.new
-        (tree_from kid tree.old.tree) work.old work.new }
+    ensures next { MeasuresNext (Linear plan.old) (Linear plan.new) (tree_from kid tree.old.tree)
+        (record { views = tree.old; work = work.old }) (record { views = tree.new; work = work.new }) }
     ensures rest { KeepsRest tree.old tree.new (tree_from kid tree.old.tree) work.old work.new }
 {
     let facts = tree.facts(kid);

@@ -57,8 +57,9 @@ fn measure_phases(
     requires left { ArePhasesLeft left }
     requires ready { Ready (held_of tree.old) (kids_from view tree.old.tree) }
     ensures is_tree { IsTree tree.old }
-    ensures phases { MeasuresAll left (Scroll plan.old) tree.old tree.new (kids_from view tree.old.tree)
-        result (pos 0) work.old work.new }
+    ensures phases { MeasuresAll left (Scroll plan.old) (kids_from view tree.old.tree)
+        (record { size = result; total = pos 0 })
+        (record { views = tree.old; work = work.old }) (record { views = tree.new; work = work.new }) }
     ensures rest { KeepsRest tree.old tree.new (kids_from view tree.old.tree) work.old work.new }
 {
     measure_kids(tree, view, plan, work);
@@ -85,8 +86,9 @@ fn measure_more(
     requires left { ArePhasesLeft left }
     requires ready { Ready (held_of tree.old) (kids_from view tree.old.tree) }
     ensures is_tree { IsTree tree.old }
-    ensures phases { MeasuresAll left (Scroll plan.old) tree.old tree.new (kids_from view tree.old.tree)
-        result (pos 0) work.old work.new }
+    ensures phases { MeasuresAll left (Scroll plan.old) (kids_from view tree.old.tree)
+        (record { size = result; total = pos 0 })
+        (record { views = tree.old; work = work.old }) (record { views = tree.new; work = work.new }) }
     ensures rest { KeepsRest tree.old tree.new (kids_from view tree.old.tree) work.old work.new }
 {
     measure_phases(tree, view, plan, left, work)
@@ -99,8 +101,8 @@ fn measure_kids(tree: &mut ViewTree, view: Key, plan: &mut ScrollPlan, work: &mu
     requires live { IsLive tree.old view }
     requires ready { Ready (held_of tree.old) (kids_from view tree.old.tree) }
     ensures is_tree { IsTree tree.old }
-    ensures phase { MeasuresPhase (Scroll plan.old) (Scroll plan.new) tree.old tree.new
-        (kids_from view tree.old.tree) work.old work.new }
+    ensures phase { MeasuresPhase (Scroll plan.old) (Scroll plan.new) (kids_from view tree.old.tree)
+        (record { views = tree.old; work = work.old }) (record { views = tree.new; work = work.new }) }
     ensures rest { KeepsRest tree.old tree.new (kids_from view tree.old.tree) work.old work.new }
 {
     let mut next = tree.first(view);
@@ -116,8 +118,8 @@ fn measure_kids(tree: &mut ViewTree, view: Key, plan: &mut ScrollPlan, work: &mu
 fn measure_kid(tree: &mut ViewTree, kid: Key, plan: &mut ScrollPlan, work: &mut Work)
     requires live { IsLive tree.old kid }
     requires ready { Ready (held_of tree.old) (tree_from kid tree.old.tree) }
-    ensures next { MeasuresNext (Scroll plan.old) (Scroll plan.new) tree.old tree.new
-        (tree_from kid tree.old.tree) work.old work.new }
+    ensures next { MeasuresNext (Scroll plan.old) (Scroll plan.new) (tree_from kid tree.old.tree)
+        (record { views = tree.old; work = work.old }) (record { views = tree.new; work = work.new }) }
     ensures rest { KeepsRest tree.old tree.new (tree_from kid tree.old.tree) work.old work.new }
 {
     let facts = tree.facts(kid);

@@ -1,7 +1,7 @@
 -- Counts of places below a number, and children that are left.
 use Rattle.std.proofs.Common.{◌≡◌, ◌≢◌, ◌⊎◌, ℕ, zero, suc, ◌+◌, ◌-◌, ◌<◌, ◌≤◌, Bool, true, false, cond, ◌&&◌, not, List, length, get_or, get_or-set_same, get_or-set_other, set, Option, Some, None, refl, sym, ap, subst, ◌∙◌, add-one, arith, inl, inr}
 use Rattle.std.specs.Prelude.{◌==◌, nat_lt}
-use Rattle.std.proofs.lemmas.Bool.{cases_lt, cases_Bool}
+use Rattle.std.proofs.lemmas.Bool.{cases_lt, cases_Bool, and_parts, not-true}
 use Rattle.std.proofs.lemmas.Bool.Decides.{nat_tests}
 use Rattle.std.proofs.lemmas.Grind.{common_steps}
 use Rattle.std.proofs.Math.ListN.{length-set}
@@ -42,15 +42,6 @@ count_below-zero f (suc n) k h l = elim (cases_Bool (f n)) [
     | inr le ↦ let same : k ≡ n = omega arith in rw same t
   ]
 ]
-
-both : (x y : Bool) → (x && y) ≡ true → (x ≡ true) × (y ≡ true)
-both true true h = (refl, refl)
-both true false h = absurd (cc)
-both false y h = absurd (cc)
-
-not_true : (x : Bool) → not x ≡ true → x ≡ false
-not_true true h = absurd (cc)
-not_true false h = refl
 
 at_most_one : (b : Bool) → cond b 1 0 ≤ 1
 at_most_one true = omega arith
@@ -116,13 +107,13 @@ another : (f : ℕ → Bool) (n k most : ℕ) → k < n → cond (f k) 1 0 ≤ m
 another f n k most small one more =
     let some : 0 < count_below (apart f k) n = omega (arith, count_below-apart f n k small) in
     let b = count_below-some (apart f k) n some in
-    let parts : (f b.0 ≡ true) × (not (b.0 == k) ≡ true) = both (f b.0) (not (b.0 == k)) b.2 in
+    let parts : (f b.0 ≡ true) × (not (b.0 == k) ≡ true) = and_parts (f b.0) (not (b.0 == k)) b.2 in
     (b.0, (λ same. let t = parts.1 in grind (arith, nat_tests)), b.1, parts.0)
 
 left_parts : (kids : List Link) (taken : List Bool) (id k : ℕ) → is_left kids taken id k ≡ true → (is_marked taken k ≡ false) × (id_at kids k ≡ id)
 left_parts kids taken id k h =
-    let w = both (not (is_marked taken k)) (id_at kids k == id) h in
-    (let t = w.0 in not_true (is_marked taken k) t, let t = w.1 in grind (arith, nat_tests))
+    let w = and_parts (not (is_marked taken k)) (id_at kids k == id) h in
+    (let t = w.0 in not-true (is_marked taken k) t, let t = w.1 in grind (arith, nat_tests))
 
 left_whole : (kids : List Link) (taken : List Bool) (id k : ℕ) → is_marked taken k ≡ false → id_at kids k ≡ id → is_left kids taken id k ≡ true
 left_whole kids taken id k fresh same = rw fresh (grind (arith, nat_tests))
@@ -142,7 +133,7 @@ pub waits_true : (kids : List Link) (taken : List Bool) (place id : ℕ) → pla
     → (b : ℕ) × (b ≢ place) × (b < length kids) × (is_marked taken b ≡ false) × (id_at kids b ≡ id)
 unfolding waits_for
 waits_true kids taken place id small fresh h =
-    let w = both (not (id == 0)) (nat_lt (cond (id == id_at kids place) 1 0) (left_with kids taken id)) h in
+    let w = and_parts (not (id == 0)) (nat_lt (cond (id == id_at kids place) 1 0) (left_with kids taken id)) h in
     let more : cond (id == id_at kids place) 1 0 < left_with kids taken id = (let t = w.1 in grind (arith, nat_tests)) in
     let own : cond (is_left kids taken id place) 1 0 ≤ cond (id == id_at kids place) 1 0 = omega (arith, left_own kids taken id place fresh) in
     let b = another (is_left kids taken id) (length kids) place (cond (id == id_at kids place) 1 0) small own more in
@@ -152,7 +143,7 @@ waits_true kids taken place id small fresh h =
 pub waits_some_id : (kids : List Link) (taken : List Bool) (own id : ℕ) → waits_for kids taken own id ≡ true → id ≢ 0
 unfolding waits_for
 waits_some_id kids taken own id h = λ zero.
-    let w = both (not (id == 0)) (nat_lt (cond (id == own) 1 0) (left_with kids taken id)) h in
+    let w = and_parts (not (id == 0)) (nat_lt (cond (id == own) 1 0) (left_with kids taken id)) h in
     let t = w.0 in grind (arith, nat_tests)
 
 pub waits_false : (kids : List Link) (taken : List Bool) (place id b : ℕ) → place < length kids → is_marked taken place ≡ false → waits_for kids taken (id_at kids place) id ≡ false

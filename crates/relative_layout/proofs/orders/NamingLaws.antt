@@ -3,7 +3,7 @@ use Rattle.std.proofs.Common.{◌≡◌, ◌≢◌, ◌⊎◌, ℕ, zero, suc, �
 use Rattle.std.proofs.Math.ListN.{length-set}
 use Rattle.std.specs.Prelude.{IfSome, replicate, Vec}
 use Rattle.std.specs.declared.alloc.Global.{Global}
-use Rattle.std.proofs.lemmas.Bool.{cases_lt}
+use Rattle.std.proofs.lemmas.Bool.{and_parts, cases_lt}
 use Rattle.std.proofs.lemmas.List.{get_or_push, get_or_append_left, get_or-replicate, get_or_past, length-replicate, get_or-map, length-map, map-append, map-set, replicate_more}
 use Rattle.std.specs.Prelude.{◌==◌, if◌then◌else◌}
 use Rattle.std.specs.List.{list_any}
@@ -215,15 +215,10 @@ pub leads_whole : (axis : Axis) (kids : List Link) (a b : ℕ) → a ≢ b → n
 unfolding leads
 leads_whole axis kids a b ne named = rw named (grind (arith, nat_tests))
 
-leads_both : (x y : Bool) → (x && y) ≡ true → (x ≡ true) × (y ≡ true)
-leads_both true true h = (refl, refl)
-leads_both true false h = absurd (cc)
-leads_both false y h = absurd (cc)
-
 pub leads_parts : (axis : Axis) (kids : List Link) (a b : ℕ) → leads axis kids a b ≡ true → (a ≢ b) × (names axis (link_at kids a).rules (id_at kids b) ≡ true)
 unfolding leads
 leads_parts axis kids a b h =
-    let w = leads_both (not (a == b)) (names axis (link_at kids a).rules (id_at kids b)) h in
+    let w = and_parts (not (a == b)) (names axis (link_at kids a).rules (id_at kids b)) h in
     (λ same. let t = w.0 in grind (arith, nat_tests), w.1)
 
 pub named_some : (axis : Axis) (rules : Rules) (id : ℕ) → names axis rules id ≡ true → id ≢ 0

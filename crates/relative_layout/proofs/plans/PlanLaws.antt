@@ -74,5 +74,5 @@ take-down plan down own specs (first ∷ second ∷ more) taken kid anchors size
 pub final_span-of_extent : (extent : AxisExtent) (axis : Axis) (own : Facts) (specs : Specs) (kids : List Spanned) (kid : Facts) (span : Option (ℤ × ℤ)) (size : Size)
     → IsExtent extent axis own specs kids
     → moved_span extent.group (child_on own.rtl axis kid) (resolve_of (int_max extent.group.min (extent.most +ℤ extent.group.padding_far)) extent.group.spec) (span_or_none span) (length_on axis size)
-    ≡ final_span axis own specs (own_length axis own specs kids) kid (span_or_none span) size
+    ≡ final_span axis own specs (own_length axis own specs kids) (record { facts = kid; span = span_or_none span }) size
 final_span-of_extent extent axis own specs kids kid span size is = rw (is.of_band, is.of_most) refl

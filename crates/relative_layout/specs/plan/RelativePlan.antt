@@ -39,10 +39,9 @@ abbrev pub spanned_as : Facts → Specs → List (List Spanned) → Facts → An
 spanned_as own specs past kid anchors size =
     record { facts = kid; span = span_on (phase_axis past) own specs kid anchors size }
 
--- what is known then of its sides
-abbrev pub edges_as : Facts → Specs → List (List Spanned) → Facts → Edges → Anchors → Size → Edges
-edges_as own specs past kid edges anchors size =
-    edges_with (phase_axis past) (span_on (phase_axis past) own specs kid anchors size) edges
+-- what is known of the sides of a child that was taken after these phases
+abbrev pub edges_as : List (List Spanned) → Spanned → Edges → Edges
+edges_as past kid edges = edges_with (phase_axis past) kid.span edges
 
 abbrev pub is_first : List (List Spanned) → Bool
 is_first [] = true

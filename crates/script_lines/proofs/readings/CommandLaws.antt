@@ -32,12 +32,12 @@ or-right : (a b : Bool) → a ≡ false → (a || b) ≡ true → b ≡ true
 or-right true b e h = absurd (cc)
 or-right false b e h = h
 
-words-spaces : (line : List ℕ) → list_all is_space line ≡ true → words line ≡ []
+pub words-spaces : (line : List ℕ) → list_all is_space line ≡ true → words line ≡ []
 unfolding words
 words-spaces [] h = refl
 words-spaces (b ∷ bs) h = word_space b bs (and-left (is_space b) (list_all is_space bs) h) ∙ words-spaces bs (and-right (is_space b) (list_all is_space bs) h)
 
-first_word-mark : (bs : List ℕ) → first_word (35 ∷ bs) ≡ 35 ∷ take (prefix_len in_word bs) bs
+pub first_word-mark : (bs : List ℕ) → first_word (35 ∷ bs) ≡ 35 ∷ take (prefix_len in_word bs) bs
 unfolding first_word
 first_word-mark bs = ap (λ n. take n (35 ∷ bs)) (one_add (prefix_len in_word bs))
 

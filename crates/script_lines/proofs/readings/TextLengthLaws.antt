@@ -32,7 +32,8 @@ use Rattle.script_lines.specs.declared.verbs.Verb.TheVariants as verb
 use Rattle.script_lines.proofs.readings.OkLaws.{if_either, if_map, if_map_with, if_ok_more, if_then, if_then_with}
 use Rattle.script_lines.proofs.texts.WordLaws.{words_none, words_some}
 
-after_word-short : (bytes : List ℕ) → length (after_word bytes) ≤ length bytes
+-- what follows a word is no longer
+pub after_word-short : (bytes : List ℕ) → length (after_word bytes) ≤ length bytes
 unfolding after_word
 after_word-short bytes =
     omega (arith, length-drop (prefix_len is_space bytes) bytes, length-drop (prefix_len in_word (after_spaces bytes)) (after_spaces bytes))

@@ -22,7 +22,7 @@ own = numerals_by_fold _ (search rules) digits_from (search rules)
 digit_graphic : (b : ℕ) → is_ascii_digit b ≡ true → is_ascii_graphic b ≡ true
 digit_graphic b h = grind (arith, nat_tests)
 
-digits_graphic : (ds : List ℕ) → list_all is_ascii_digit ds ≡ true → list_all is_ascii_graphic ds ≡ true
+pub digits_graphic : (ds : List ℕ) → list_all is_ascii_digit ds ≡ true → list_all is_ascii_graphic ds ≡ true
 digits_graphic [] h = refl
 digits_graphic (b ∷ bs) h =
     rw (digit_graphic b (and-left (is_ascii_digit b) (list_all is_ascii_digit bs) h)) (digits_graphic bs (and-right (is_ascii_digit b) (list_all is_ascii_digit bs) h))

@@ -20,18 +20,11 @@ utf8_of_ascii bytes h =
 ascii_by_one : (xs : List ℕ) (i : ℕ) → i < length xs → list_all is_ascii (drop i xs) ≡ (is_ascii (get_or xs i 0) && list_all is_ascii (drop (i + 1) xs))
 ascii_by_one xs i within = at_drop_more (list_all is_ascii) xs i 0 within
 
--- the next four bytes, and what comes after them
-ascii_by_four : (xs : List ℕ) (i : ℕ) → i + 4 ≤ length xs → list_all is_ascii (drop i xs) ≡ (((is_ascii (get_or xs i 0) && is_ascii (get_or xs (i + 1) 0)) && (is_ascii (get_or xs (i + 2) 0) && is_ascii (get_or xs (i + 3) 0))) && list_all is_ascii (drop (i + 4) xs))
-ascii_by_four xs i within =
-    let first = ascii_by_one xs i (omega arith) in
-    let second = ascii_by_one xs (i + 1) (omega arith) in
-    let third = ascii_by_one xs (i + 2) (omega arith) in
-    let fourth = ascii_by_one xs (i + 3) (omega arith) in
-    grind arith
-
--- the next eight bytes, and what comes after them
-pub ascii_by_eight : (xs : List ℕ) (i : ℕ) → i + 8 ≤ length xs → list_all is_ascii (drop i xs) ≡ ((((is_ascii (get_or xs i 0) && is_ascii (get_or xs (i + 1) 0)) && (is_ascii (get_or xs (i + 2) 0) && is_ascii (get_or xs (i + 3) 0))) && ((is_ascii (get_or xs (i + 4) 0) && is_ascii (get_or xs (i + 5) 0)) && (is_ascii (get_or xs (i + 6) 0) && is_ascii (get_or xs (i + 7) 0)))) && list_all is_ascii (drop (i + 8) xs))
-ascii_by_eight xs i within =
-    let front = ascii_by_four xs i (omega arith) in
-    let back = ascii_by_four xs (i + 4) (omega arith) in
+-- the first four bytes, and what comes after them
+pub ascii_of_four : (xs : List ℕ) → 4 ≤ length xs → list_all is_ascii xs ≡ (((is_ascii (get_or xs 0 0) && is_ascii (get_or xs 1 0)) && (is_ascii (get_or xs 2 0) && is_ascii (get_or xs 3 0))) && list_all is_ascii (drop 4 xs))
+ascii_of_four xs within =
+    let first = ascii_by_one xs 0 (omega arith) in
+    let second = ascii_by_one xs 1 (omega arith) in
+    let third = ascii_by_one xs 2 (omega arith) in
+    let fourth = ascii_by_one xs 3 (omega arith) in
     grind arith

@@ -28,8 +28,10 @@ fn hex_digit(b: u8) -> Option<u8>
     ensures value { result ≡ if is_ascii_hexdigit b then Some (hex_digit_of b) else None }
     ensures below { IfSome result (λ digit. digit < 16) }
 {
+    if b.is_ascii_digit() {
+        return Some(b - b'0');
+    }
     match b {
-        b'0'..=b'9' => Some(b - b'0'),
         b'a'..=b'f' => Some(b - b'a' + 10),
         b'A'..=b'F' => Some(b - b'A' + 10),
         _ => None,

@@ -14,6 +14,7 @@ use Rattle.view_model.specs.Forest.{Branch, Forest, Nothing}
 use Rattle.view_model.specs.PlainTree.{PlainView}
 use Rattle.touch_dispatch.proofs.gestures.CaughtLaws.{asked_targets, handled_targets}
 use Rattle.touch_dispatch.proofs.gestures.DistinctLaws.{more_ids}
+use Rattle.touch_dispatch.proofs.steps.GroupEvents.{group_event}
 use Rattle.touch_dispatch.specs.Dispatch.{EventChild, Scene, begun, child_of, hand_out, hand_part, hand_to, is_sent, part_for}
 use Rattle.touch_dispatch.specs.handling.Drags.{pulled}
 use Rattle.touch_dispatch.specs.gesture.Gestures.{PlainGesture, set_drag, set_pressed, set_targets}
@@ -248,10 +249,10 @@ bound_part child (Some part) p progress all = bound_child child part p progress 
 -- all targets together cost no more than theirs
 pub bound_out : {tally : Entry → ℕ} {kids : List EventChild} (scene : Scene) (own : PlainView) (event : Event) (intercepted : Bool) (taker : Taker) (targets : List Target) (said : Bool) (p : Priced tally kids) (progress : Progress)
     → AllDistinct progress.gesture.targets
-    → Step tally progress (hand_out scene own kids event intercepted taker targets said progress).progress (price_kept taker targets p)
+    → Step tally progress (hand_out (group_event scene own kids event intercepted taker) targets said progress).progress (price_kept taker targets p)
 bound_out {tally = tally} scene own event intercepted taker [] said p progress all = no_step tally progress 0 all
 bound_out {tally = tally} {kids = kids} scene own event intercepted taker (t ∷ targets) said p progress all =
-    let reached = hand_to scene own kids event intercepted taker t progress in
+    let reached = hand_to (group_event scene own kids event intercepted taker) t progress in
     let one : Step tally progress reached.progress (if is_sent taker t.child then 0 else price_of t.child p) =
     elim (cases_Bool (is_sent taker t.child)) [
       | inl e ↦ rw e (no_step tally progress 0 all)

@@ -13,6 +13,7 @@ use Rattle.view_model.specs.Classes.{is_group}
 use Rattle.view_model.specs.PlainTree.{PlainView}
 use Rattle.touch_dispatch.proofs.gestures.DistinctLaws.{child_same, drop_distinct, more_ids, put_distinct}
 use Rattle.touch_dispatch.proofs.counts.OnceLaws.{Bounded, Fees, Free, Priced, Priced_more, Step, allowed, asked_step, begun_step, bound_out, distinct_cleared, distinct_set, kept_less, no_step, own_step, price_all, price_kept, price_list, price_of, price_others, price_parts, price_targets_list, put_fresh, put_old}
+use Rattle.touch_dispatch.proofs.steps.GroupEvents.{group_event}
 use Rattle.touch_dispatch.proofs.steps.StayLaws.{AllStay, Stays, children_stay, occurs}
 use Rattle.touch_dispatch.proofs.steps.TargetLaws.{oldest_there}
 use Rattle.touch_dispatch.specs.Dispatch.{EventChild, Scene, Tried, answered, begun, ended, ended_by, event_children, given, group_reached, is_offered, offered, oldest, only, reach, reached_by, receiver, settled, taken_by, tried_event, tried_ids, try_child, try_children, unless_taken}
@@ -178,7 +179,7 @@ Unique (Branch view below after) = (occurs view.number below ≡ 0) × Unique be
 
 module _ {tally : Entry → ℕ} {asking touching moving : ℕ → ℕ} (fees : Fees tally asking touching moving) where
   answered_step : {kids : List EventChild} (scene : Scene) (own : PlainView) (event : Event) (intercepted : Bool) (taker : Taker) (p : Priced tally kids) (progress : Progress) → AllDistinct progress.gesture.targets
-      → Step tally progress (answered scene own kids event intercepted taker progress).progress (touching own.number + moving own.number + price_kept taker (targets_at progress own.number) p)
+      → Step tally progress (answered (group_event scene own kids event intercepted taker) progress).progress (touching own.number + moving own.number + price_kept taker (targets_at progress own.number) p)
   answered_step {kids = kids} scene own event intercepted taker p progress all =
       elim (cases_Bool (is_nil (targets_at progress own.number))) [
         | inl e ↦
@@ -197,7 +198,7 @@ module _ {tally : Entry → ℕ} {asking touching moving : ℕ → ℕ} (fees : 
       let zero_ = begun own.number event.action progress in
       let first = asked (receiver scene own kids) event zero_ in
       let second = offered scene own kids event first.yes first.progress in
-      let third = answered scene own kids event first.yes second.taker second.progress in
+      let third = answered (group_event scene own kids event first.yes second.taker) second.progress in
       let s0 = begun_step tally own.number event.action progress all in
       let s1 = asked_step fees (receiver scene own kids) event zero_ s0.distinct in
       let s2 = offered_step scene own event first.yes p first.progress stays s1.distinct in

@@ -1,5 +1,6 @@
 -- There is room for the marks of each open view that has none, whatever views are opened, closed and marked.
 use Rattle.std.proofs.Common.{◌≡◌, ◌≢◌, ◌∙◌, ℕ, ◌+◌, ◌≤◌, arith, Bool, true, false, List, [], ◌∷◌, Option, Some, None, is_some, length, map, refl, sym, ap, subst, eqb-true, true≢false, inl, inr}
+use Rattle.std.proofs.Math.Bool.{and-false, and-true}
 use Rattle.std.specs.Prelude.{◌==◌, ◌&&◌, ◌||◌, not, if◌then◌else◌, nat_eq, Result, Ok, Err, OnOk, OnErr}
 use Rattle.std.proofs.lemmas.List.{length-map}
 use Rattle.std.proofs.lemmas.Bool.{cases_Bool, cases_eq, eq-eqb, ne_eqb}
@@ -83,19 +84,11 @@ room_closed old new was now room more view has opened forgot less = record {
   fits = omega (arith, less);
 }
   where
-    and_true : (b : Bool) → (b && true) ≡ b
-    and_true true = refl
-    and_true false = refl
-
-    and_false : (b : Bool) → (b && false) ≡ false
-    and_false true = refl
-    and_false false = refl
-
     others : (other : ℕ) → view ≢ other → new other ≡ old other
-    others other ne = opened other ∙ ap (λ b. old other && not b) (ne_eqb other view (λ e. ne (sym e))) ∙ and_true (old other)
+    others other ne = opened other ∙ ap (λ b. old other && not b) (ne_eqb other view (λ e. ne (sym e))) ∙ and-true (old other)
 
     itself : (other : ℕ) → view ≡ other → new other ≡ false
-    itself other e = opened other ∙ ap (λ b. old other && not b) (eq-eqb other view (sym e)) ∙ and_false (old other)
+    itself other e = opened other ∙ ap (λ b. old other && not b) (eq-eqb other view (sym e)) ∙ and-false (old other)
 
 without : ℕ → List ℕ → List ℕ
 without view [] = []

@@ -5,6 +5,7 @@ use Rattle.view_tree.specs.Rows.{Later, part_from, count_of_key, views_of, child
 use Rattle.view_tree.specs.Views.{Views}
 use Rattle.touch_dispatch.specs.declared.reaching.taker.Taker.{Taker}
 use Rattle.touch_dispatch.proofs.steps.GrowLaws.{AllGrow, children_grow, out_fits}
+use Rattle.touch_dispatch.proofs.steps.GroupEvents.{group_event}
 use Rattle.touch_dispatch.proofs.steps.ReachSteps.{hand_to_same}
 use Rattle.touch_dispatch.proofs.steps.TargetLaws.{headed}
 use Rattle.touch_dispatch.specs.Dispatch.{hand_out, hand_to}
@@ -25,13 +26,13 @@ kids_grow views slop view = children_grow (scene_of views slop) (views_of (child
 
 pub out_fits_at : (old views : Views) (slop : ℤ) (view : ℕ) (event : Event) (intercepted : Bool) (taker : Taker) (child : ℕ) (targets code_targets : List Target) (said : Bool) (progress : Progress) → OnlyScrolls old views
     → code_targets ≡ targets → is_target child targets ≡ true
-    → many (hand_to (scene_of views slop) (own_of views view) (kids_of views slop view) event intercepted taker (target_of child code_targets) progress).progress
-    ≤ many (hand_out (scene_of old slop) (own_of old view) (kids_of old slop view) event intercepted taker (from_child child targets) said progress).progress
+    → many (hand_to (group_event (scene_of views slop) (own_of views view) (kids_of views slop view) event intercepted taker) (target_of child code_targets) progress).progress
+    ≤ many (hand_out (group_event (scene_of old slop) (own_of old view) (kids_of old slop view) event intercepted taker) (from_child child targets) said progress).progress
 out_fits_at old views slop view event intercepted taker child targets code_targets said progress s same there =
     let h = headed child targets there in
     let head : target_of child code_targets ≡ record { child = child; ids = h.ids } = ap (target_of child) same ∙ ap (λ ts. let t : Target = record { child = child; ids = first_ids ts } in t) h.is in
     let fits = out_fits (scene_of old slop) (own_of old view) (kids_of old slop view) event intercepted taker child h.ids targets h.rest said progress (kids_grow old slop view) h.is in
     let k = ap (λ (r : Reached). many r.progress)
     (hand_to_same old views slop view event intercepted taker (record { child = child; ids = h.ids }) progress s
-    ∙ ap (λ t. hand_to (scene_of views slop) (own_of views view) (kids_of views slop view) event intercepted taker t progress) (sym head)) in
+    ∙ ap (λ t. hand_to (group_event (scene_of views slop) (own_of views view) (kids_of views slop view) event intercepted taker) t progress) (sym head)) in
     omega (arith, fits, k)

@@ -4,6 +4,7 @@ use Rattle.std.proofs.lemmas.Bool.{cases_Bool, eq-eqb}
 use Rattle.std.proofs.lemmas.Int.{ints}
 use Rattle.std.specs.Prelude.{if◌then◌else◌, ◌==◌, ◌||◌, ◌&&◌, not, is_some, pos}
 use Rattle.touch_dispatch.proofs.counts.OnceLaws.{total_more}
+use Rattle.touch_dispatch.proofs.steps.GroupEvents.{group_event}
 use Rattle.touch_dispatch.specs.Once.{total, touches}
 use Rattle.touch_dispatch.specs.Dispatch.{EventChild, Scene, Tried, answered, begun, child_of, dispatched, ended, ended_by, event_children, group_reached, hand_out, hand_part, hand_to, intercepted_cleared, is_sent, is_offered, offered, reach, reached_by, receiver, taken_by, tried_event, try_child, try_children, unless_taken}
 use Rattle.touch_dispatch.specs.gesture.Gestures.{at_number, set_drag, set_pressed}
@@ -302,7 +303,7 @@ part_logs child None kids progress logs = still progress
 part_logs child (Some part) kids progress logs = child_logs child part kids progress logs
 
 hand_to_logs : (scene : Scene) (own : PlainView) (kids : List EventChild) (event : Event) (intercepted : Bool) (taker : Taker) (target : Target) (progress : Progress) → AllLog kids
-    → LogsScrolls progress (hand_to scene own kids event intercepted taker target progress).progress
+    → LogsScrolls progress (hand_to (group_event scene own kids event intercepted taker) target progress).progress
 hand_to_logs scene own kids event intercepted taker target progress logs =
     elim (cases_Bool (is_sent taker target.child)) [
       | inl e ↦ rw e (still progress)
@@ -310,15 +311,15 @@ hand_to_logs scene own kids event intercepted taker target progress logs =
     ]
 
 hand_out_logs : (scene : Scene) (own : PlainView) (kids : List EventChild) (event : Event) (intercepted : Bool) (taker : Taker) (targets : List Target) (said : Bool) (progress : Progress) → AllLog kids
-    → LogsScrolls progress (hand_out scene own kids event intercepted taker targets said progress).progress
+    → LogsScrolls progress (hand_out (group_event scene own kids event intercepted taker) targets said progress).progress
 hand_out_logs scene own kids event intercepted taker [] said progress logs = still progress
 hand_out_logs scene own kids event intercepted taker (t ∷ targets) said progress logs =
-    let reached = hand_to scene own kids event intercepted taker t progress in
+    let reached = hand_to (group_event scene own kids event intercepted taker) t progress in
     onward (hand_to_logs scene own kids event intercepted taker t progress logs)
     (hand_out_logs scene own kids event intercepted taker targets (said || reached.yes) reached.progress logs)
 
 answered_group_logs : (scene : Scene) (own : PlainView) (kids : List EventChild) (event : Event) (intercepted : Bool) (taker : Taker) (progress : Progress) → AllLog kids
-    → LogsScrolls progress (answered scene own kids event intercepted taker progress).progress
+    → LogsScrolls progress (answered (group_event scene own kids event intercepted taker) progress).progress
 answered_group_logs scene own kids event intercepted taker progress logs =
     elim (cases_Bool (is_nil (targets_at progress own.number))) [
       | inl e ↦ rw e (handled_logs (receiver scene own kids) event progress)
@@ -350,7 +351,7 @@ group_logs scene own kids event progress logs =
     let zero_ = begun own.number event.action progress in
     let first = asked (receiver scene own kids) event zero_ in
     let second = offered scene own kids event first.yes first.progress in
-    let third = answered scene own kids event first.yes second.taker second.progress in
+    let third = answered (group_event scene own kids event first.yes second.taker) second.progress in
     onward (begun_logs own.number event.action progress)
     (onward (asked_logs (receiver scene own kids) event zero_)
     (onward (offered_logs scene own kids event first.yes first.progress logs)

@@ -10,6 +10,7 @@ use Rattle.view_model.specs.declared.answer.Answer.TheVariants.{Off, Yes, Click 
 use Rattle.view_model.specs.Classes.{is_group}
 use Rattle.view_model.specs.Forest.{Forest, Nothing, Branch}
 use Rattle.view_model.specs.PlainTree.{PlainView}
+use Rattle.touch_dispatch.proofs.steps.GroupEvents.{group_event}
 use Rattle.touch_dispatch.specs.declared.log.Entry.{Entry}
 use Rattle.view_tree.specs.Rows.{At_first, Later, Later_on, Row, views_of}
 use Rattle.touch_dispatch.specs.declared.log.Kind.{Kind}
@@ -167,23 +168,23 @@ grow_part child None kids progress grow = omega arith
 grow_part child (Some part) kids progress grow = grow_child child part kids progress grow
 
 pub grow_hand_to : (scene : Scene) (own : PlainView) (kids : List EventChild) (event : Event) (intercepted : Bool) (taker : Taker) (child : ℕ) (ids : ℕ → Bool) (progress : Progress) → AllGrow kids
-    → many progress ≤ many (hand_to scene own kids event intercepted taker (record { child = child; ids = ids }) progress).progress
+    → many progress ≤ many (hand_to (group_event scene own kids event intercepted taker) (record { child = child; ids = ids }) progress).progress
 grow_hand_to scene own kids event intercepted taker child ids progress grow = elim (cases_Bool (is_sent taker child)) [
   | inl e ↦ rw e (omega arith)
   | inr e ↦ rw e (grow_part child (part_for (scene.rects child) (progress.offsets own.number) event intercepted ids) kids progress grow)
 ]
 
 pub grow_hand_out : (scene : Scene) (own : PlainView) (kids : List EventChild) (event : Event) (intercepted : Bool) (taker : Taker) (targets : List Target) (said : Bool) (progress : Progress) → AllGrow kids
-    → many progress ≤ many (hand_out scene own kids event intercepted taker targets said progress).progress
+    → many progress ≤ many (hand_out (group_event scene own kids event intercepted taker) targets said progress).progress
 grow_hand_out scene own kids event intercepted taker [] said progress grow = omega arith
 grow_hand_out scene own kids event intercepted taker (t ∷ targets) said progress grow =
-    let reached = hand_to scene own kids event intercepted taker t progress in
+    let reached = hand_to (group_event scene own kids event intercepted taker) t progress in
     let a = grow_hand_to scene own kids event intercepted taker t.child t.ids progress grow in
     let b = grow_hand_out scene own kids event intercepted taker targets (said || reached.yes) reached.progress grow in
     omega arith
 
 pub grow_answered : (scene : Scene) (own : PlainView) (kids : List EventChild) (event : Event) (intercepted : Bool) (taker : Taker) (progress : Progress) → AllGrow kids
-    → many progress ≤ many (answered scene own kids event intercepted taker progress).progress
+    → many progress ≤ many (answered (group_event scene own kids event intercepted taker) progress).progress
 grow_answered scene own kids event intercepted taker progress grow =
     elim (cases_Bool (is_nil (targets_at progress own.number))) [
       | inl e ↦ rw e (grow_handled (receiver scene own kids) event progress)
@@ -221,7 +222,7 @@ grow_group scene own kids event progress grow =
     let zero_ = begun own.number event.action progress in
     let first = asked (receiver scene own kids) event zero_ in
     let second = offered scene own kids event first.yes first.progress in
-    let third = answered scene own kids event first.yes second.taker second.progress in
+    let third = answered (group_event scene own kids event first.yes second.taker) second.progress in
     let a = grow_begun own.number event.action progress in
     let b = grow_asked (receiver scene own kids) event zero_ in
     let c = grow_offered scene own kids event first.yes first.progress grow in
@@ -278,7 +279,7 @@ pub ask_fits : (scene : Scene) (own : PlainView) (kids : List EventChild) (event
 ask_fits scene own kids event progress grow =
     let first = asked (receiver scene own kids) event (begun own.number event.action progress) in
     let second = offered scene own kids event first.yes first.progress in
-    let third = answered scene own kids event first.yes second.taker second.progress in
+    let third = answered (group_event scene own kids event first.yes second.taker) second.progress in
     let c = grow_offered scene own kids event first.yes first.progress grow in
     let d = grow_answered scene own kids event first.yes second.taker second.progress grow in
     let e = many-ended own.number own.facts.split event first.yes third.progress in
@@ -291,7 +292,7 @@ offer_fits scene own kids event progress first grow is =
     subst (λ (first : Reached). many (offered scene own kids event first.yes first.progress).progress ≤ many (group_reached scene own kids event progress).progress) is (
     let first = asked (receiver scene own kids) event (begun own.number event.action progress) in
     let second = offered scene own kids event first.yes first.progress in
-    let third = answered scene own kids event first.yes second.taker second.progress in
+    let third = answered (group_event scene own kids event first.yes second.taker) second.progress in
     let d = grow_answered scene own kids event first.yes second.taker second.progress grow in
     let e = many-ended own.number own.facts.split event first.yes third.progress in
     omega arith
@@ -300,14 +301,14 @@ offer_fits scene own kids event progress first grow is =
 pub answer_fits : (scene : Scene) (own : PlainView) (kids : List EventChild) (event : Event) (progress : Progress) (first : Reached) (second : Tried) → AllGrow kids
     → asked (receiver scene own kids) event (begun own.number event.action progress) ≡ first
     → offered scene own kids event first.yes first.progress ≡ second
-    → many (answered scene own kids event first.yes second.taker second.progress).progress ≤ many (group_reached scene own kids event progress).progress
+    → many (answered (group_event scene own kids event first.yes second.taker) second.progress).progress ≤ many (group_reached scene own kids event progress).progress
 answer_fits scene own kids event progress first second grow is then_ =
-    subst (λ (second : Tried). many (answered scene own kids event first.yes second.taker second.progress).progress ≤ many (group_reached scene own kids event progress).progress) then_
+    subst (λ (second : Tried). many (answered (group_event scene own kids event first.yes second.taker) second.progress).progress ≤ many (group_reached scene own kids event progress).progress) then_
     (subst (λ (first : Reached). let second = offered scene own kids event first.yes first.progress in
-    many (answered scene own kids event first.yes second.taker second.progress).progress ≤ many (group_reached scene own kids event progress).progress) is (
+    many (answered (group_event scene own kids event first.yes second.taker) second.progress).progress ≤ many (group_reached scene own kids event progress).progress) is (
     let first = asked (receiver scene own kids) event (begun own.number event.action progress) in
     let second = offered scene own kids event first.yes first.progress in
-    let third = answered scene own kids event first.yes second.taker second.progress in
+    let third = answered (group_event scene own kids event first.yes second.taker) second.progress in
     let e = many-ended own.number own.facts.split event first.yes third.progress in
     omega arith
     ))
@@ -334,9 +335,9 @@ later_fits scene own event start (Later_on {row = row} {kids = kids} {siblings =
 
 pub out_fits : (scene : Scene) (own : PlainView) (kids : List EventChild) (event : Event) (intercepted : Bool) (taker : Taker) (child : ℕ) (ids : ℕ → Bool) (targets rest : List Target) (said : Bool) (progress : Progress) → AllGrow kids
     → from_child child targets ≡ record { child = child; ids = ids } ∷ rest
-    → many (hand_to scene own kids event intercepted taker (record { child = child; ids = ids }) progress).progress
-    ≤ many (hand_out scene own kids event intercepted taker (from_child child targets) said progress).progress
+    → many (hand_to (group_event scene own kids event intercepted taker) (record { child = child; ids = ids }) progress).progress
+    ≤ many (hand_out (group_event scene own kids event intercepted taker) (from_child child targets) said progress).progress
 out_fits scene own kids event intercepted taker child ids targets rest said progress grow is =
-    let reached = hand_to scene own kids event intercepted taker (record { child = child; ids = ids }) progress in
+    let reached = hand_to (group_event scene own kids event intercepted taker) (record { child = child; ids = ids }) progress in
     let g = grow_hand_out scene own kids event intercepted taker rest (said || reached.yes) reached.progress grow in
     rw is g

@@ -6,6 +6,7 @@ use Rattle.std.specs.Option.{is_some}
 use Rattle.touch_event.specs.declared.event.Event.{Event}
 use Rattle.view_model.specs.Forest.{Forest, Nothing, Branch, count_of}
 use Rattle.view_model.specs.PlainTree.{PlainView}
+use Rattle.view_tree.proofs.forest.BackwardWalks.{before}
 use Rattle.view_tree.specs.Rows.{At_first, Later, Later_on, Row, part_from, last_key, previous_key, count_of_key, count_of_number, views_of, children_of_first, later_siblings, head_view}
 use Rattle.view_tree.specs.Views.{IsLive, IsTree, Views, facts_of, number_of, state_of}
 use Rattle.view_tree.specs.declared.node.state.State.{State}
@@ -17,10 +18,11 @@ use Rattle.touch_dispatch.specs.declared.reaching.taker.Taker.TheVariants.{NoChi
 use Rattle.touch_dispatch.specs.declared.log.Entry.{Entry}
 use Rattle.view_tree.proofs.forest.Backwards.{count-later, count_of_key-later, from_later, kids-within, last_is, last_none, later-within, previous_in, previous_within, within_within}
 use Rattle.touch_dispatch.proofs.gestures.CaughtLaws.{caught_put}
+use Rattle.touch_dispatch.proofs.steps.GroupEvents.{group_event}
 use Rattle.touch_dispatch.proofs.steps.SceneLaws.{kid_root, kids_part, offset_live, rect_live, same_child, same_kids, same_own, same_scene}
 use Rattle.touch_dispatch.proofs.steps.StayLaws.{AllStay, children_stay, occurs, stays_hand_to}
 use Rattle.touch_dispatch.proofs.steps.TargetLaws.{headed}
-use Rattle.touch_dispatch.proofs.steps.TryWalk.{GetsPart, TryWalk, before}
+use Rattle.touch_dispatch.proofs.steps.TryWalk.{GetsPart, TryWalk}
 use Rattle.touch_dispatch.specs.Dispatch.{EventChild, Scene, Tried, answered, begun, child_of, ended, event_children, group_reached, hand_out, hand_to, is_sent, is_taken, offered, only, part_for, reached_by, receiver, taken_by, tried_ids, try_child, try_children, unless_taken}
 use Rattle.touch_dispatch.specs.gesture.Gestures.{PlainGesture, set_targets}
 use Rattle.touch_dispatch.specs.handling.Handling.{Progress, Reached, asked, handled, is_nil, targets_at, with_gesture}
@@ -35,7 +37,7 @@ none_by o b (t ∷ targets) some e is = absurd (let s = rw (is, e) at some in cc
 pub answered_own : (scene : Scene) (own : PlainView) (kids : List EventChild) (event : Event) (intercepted : Bool) (taker : Taker) (progress : Progress) (reached : Reached)
     → is_nil (targets_at progress own.number) ≡ true
     → handled (receiver scene own kids) event progress ≡ reached
-    → answered scene own kids event intercepted taker progress ≡ reached
+    → answered (group_event scene own kids event intercepted taker) progress ≡ reached
 answered_own scene own kids event intercepted taker progress reached none is = rw none is
 
 pub some_by : (o : Option ℕ) (b : Bool) (targets : List Target) → is_some o ≡ not b → b ≡ false → o ≡ first_child targets → is_nil targets ≡ false
@@ -44,8 +46,8 @@ some_by o b (t ∷ targets) some e is = refl
 
 pub answered_targets : (scene : Scene) (own : PlainView) (kids : List EventChild) (event : Event) (intercepted : Bool) (taker : Taker) (progress : Progress) (reached : Reached)
     → is_nil (targets_at progress own.number) ≡ false
-    → hand_out scene own kids event intercepted taker (targets_at progress own.number) false progress ≡ reached
-    → answered scene own kids event intercepted taker progress ≡ reached
+    → hand_out (group_event scene own kids event intercepted taker) (targets_at progress own.number) false progress ≡ reached
+    → answered (group_event scene own kids event intercepted taker) progress ≡ reached
 answered_targets scene own kids event intercepted taker progress reached some is = rw some is
 
 -- a group is asked once the gesture has begun, by what the code reads of it
@@ -58,7 +60,7 @@ asked_begun scene own kids event start began read first e1 e2 e3 =
 pub group_chain : (scene : Scene) (own : PlainView) (kids : List EventChild) (event : Event) (start : Progress) (first : Reached) (second : Tried) (third : Reached) (last : Progress)
     → asked (receiver scene own kids) event (begun own.number event.action start) ≡ first
     → offered scene own kids event first.yes first.progress ≡ second
-    → answered scene own kids event first.yes second.taker second.progress ≡ third
+    → answered (group_event scene own kids event first.yes second.taker) second.progress ≡ third
     → last ≡ ended own.number own.facts.split event first.yes third.progress
     → group_reached scene own kids event start ≡ record { yes = third.yes; progress = last }
 group_chain scene own kids event start first second third last e1 e2 e3 e4 = rw (e4, ← e3, ← e2, ← e1) refl
@@ -67,7 +69,7 @@ pub hand_to_kid : (scene : Scene) (own : PlainView) (kids : List EventChild) (ev
     (reached : Reached) → is_sent taker target.child ≡ false
     → part_for (scene.rects target.child) (progress.offsets own.number) event intercepted target.ids ≡ Some part
     → child_of target.child kids ≡ Some kid → kid.reach part progress ≡ reached
-    → hand_to scene own kids event intercepted taker target progress ≡ reached
+    → hand_to (group_event scene own kids event intercepted taker) target progress ≡ reached
 hand_to_kid scene own kids event intercepted taker target progress part kid reached e1 e2 e3 e4 = rw (e1, e2, e3) e4
 
 if_is : (b : Bool) (x y : Tried) → b ≡ true → (if b then x else y) ≡ x
@@ -129,9 +131,9 @@ kids_stay views slop view is live =
 pub out_on : (scene : Scene) (own : PlainView) (kids : List EventChild) (event : Event) (intercepted : Bool) (taker : Taker) (child : ℕ) (ids : ℕ → Bool) (targets rest : List Target) (said : Bool)
     (progress : Progress) (reached : Reached)
     → from_child child targets ≡ record { child = child; ids = ids } ∷ rest
-    → hand_to scene own kids event intercepted taker (record { child = child; ids = ids }) progress ≡ reached
-    → hand_out scene own kids event intercepted taker (older (from_child child targets)) (said || reached.yes) reached.progress
-    ≡ hand_out scene own kids event intercepted taker (from_child child targets) said progress
+    → hand_to (group_event scene own kids event intercepted taker) (record { child = child; ids = ids }) progress ≡ reached
+    → hand_out (group_event scene own kids event intercepted taker) (older (from_child child targets)) (said || reached.yes) reached.progress
+    ≡ hand_out (group_event scene own kids event intercepted taker) (from_child child targets) said progress
 out_on scene own kids event intercepted taker child ids targets rest said progress reached is e = rw (is, ← e) refl
 
 -- the walk over the children
@@ -256,7 +258,7 @@ walk_on views slop view kid event start old new next is live walk e previous =
 
 -- a target's part leaves the targets of the group
 pub hand_to_stays : (views : Views) (slop : ℤ) (view : ℕ) (event : Event) (intercepted : Bool) (taker : Taker) (target : Target) (progress : Progress) (reached : Reached) → IsTree views → IsLive views view
-    → hand_to (scene_of views slop) (own_of views view) (kids_of views slop view) event intercepted taker target progress ≡ reached
+    → hand_to (group_event (scene_of views slop) (own_of views view) (kids_of views slop view) event intercepted taker) target progress ≡ reached
     → targets_at reached.progress (own_of views view).number ≡ targets_at progress (own_of views view).number
 hand_to_stays views slop view event intercepted taker target progress reached is live e =
     ap (λ (r : Reached). targets_at r.progress (own_of views view).number) (sym e)
@@ -264,12 +266,12 @@ hand_to_stays views slop view event intercepted taker target progress reached is
 
 -- the same in a tree that has scrolled
 pub hand_to_same : (old new : Views) (slop : ℤ) (view : ℕ) (event : Event) (intercepted : Bool) (taker : Taker) (target : Target) (progress : Progress) → OnlyScrolls old new
-    → hand_to (scene_of old slop) (own_of old view) (kids_of old slop view) event intercepted taker target progress
-    ≡ hand_to (scene_of new slop) (own_of new view) (kids_of new slop view) event intercepted taker target progress
+    → hand_to (group_event (scene_of old slop) (own_of old view) (kids_of old slop view) event intercepted taker) target progress
+    ≡ hand_to (group_event (scene_of new slop) (own_of new view) (kids_of new slop view) event intercepted taker) target progress
 hand_to_same old new slop view event intercepted taker target progress s =
-    ap (λ p. hand_to p (own_of old view) (kids_of old slop view) event intercepted taker target progress) (sym (same_scene old new slop s))
-    ∙ ap (λ v. hand_to (scene_of new slop) v (kids_of old slop view) event intercepted taker target progress) (sym (same_own old new view s))
-    ∙ ap (λ kids. hand_to (scene_of new slop) (own_of new view) kids event intercepted taker target progress) (sym (same_kids old new slop view s))
+    ap (λ p. hand_to (group_event p (own_of old view) (kids_of old slop view) event intercepted taker) target progress) (sym (same_scene old new slop s))
+    ∙ ap (λ v. hand_to (group_event (scene_of new slop) v (kids_of old slop view) event intercepted taker) target progress) (sym (same_own old new view s))
+    ∙ ap (λ kids. hand_to (group_event (scene_of new slop) (own_of new view) kids event intercepted taker) target progress) (sym (same_kids old new slop view s))
 
 pub try_child_same : (old new : Views) (slop : ℤ) (view kid : ℕ) (event : Event) (progress : Progress) → OnlyScrolls old new
     → try_child (scene_of old slop) (own_of old view) event (child_at old slop kid) progress ≡ try_child (scene_of new slop) (own_of new view) event (child_at new slop kid) progress
@@ -279,12 +281,12 @@ try_child_same old new slop view kid event progress s =
     ∙ ap (λ k. try_child (scene_of new slop) (own_of new view) event k progress) (sym (same_child old new slop kid s))
 
 pub answered_same : (old new : Views) (slop : ℤ) (view : ℕ) (event : Event) (intercepted : Bool) (taker : Taker) (progress : Progress) → OnlyScrolls old new
-    → answered (scene_of old slop) (own_of old view) (kids_of old slop view) event intercepted taker progress
-    ≡ answered (scene_of new slop) (own_of new view) (kids_of new slop view) event intercepted taker progress
+    → answered (group_event (scene_of old slop) (own_of old view) (kids_of old slop view) event intercepted taker) progress
+    ≡ answered (group_event (scene_of new slop) (own_of new view) (kids_of new slop view) event intercepted taker) progress
 answered_same old new slop view event intercepted taker progress s =
-    ap (λ p. answered p (own_of old view) (kids_of old slop view) event intercepted taker progress) (sym (same_scene old new slop s))
-    ∙ ap (λ v. answered (scene_of new slop) v (kids_of old slop view) event intercepted taker progress) (sym (same_own old new view s))
-    ∙ ap (λ kids. answered (scene_of new slop) (own_of new view) kids event intercepted taker progress) (sym (same_kids old new slop view s))
+    ap (λ p. answered (group_event p (own_of old view) (kids_of old slop view) event intercepted taker) progress) (sym (same_scene old new slop s))
+    ∙ ap (λ v. answered (group_event (scene_of new slop) v (kids_of old slop view) event intercepted taker) progress) (sym (same_own old new view s))
+    ∙ ap (λ kids. answered (group_event (scene_of new slop) (own_of new view) kids event intercepted taker) progress) (sym (same_kids old new slop view s))
 
 pub part_for_same : (views : Views) (slop : ℤ) (view kid child : ℕ) (ids code_ids : ℕ → Bool) (event : Event) (intercepted : Bool) (own_facts : Facts) (state : State) → IsTree views → IsLive views view → IsLive views kid
     → own_facts ≡ facts_of views view → state ≡ state_of views kid → number_of views kid ≡ child → code_ids ≡ ids
@@ -320,7 +322,7 @@ caught_put_at views g new view kid ids is live at caught e =
 
 -- a target's part leaves the targets of the group, as they were named before it
 pub out_same : (old views : Views) (slop : ℤ) (view : ℕ) (event : Event) (intercepted : Bool) (taker : Taker) (target : Target) (progress : Progress) (reached : Reached) → IsTree old → IsLive old view → OnlyScrolls old views
-    → hand_to (scene_of views slop) (own_of views view) (kids_of views slop view) event intercepted taker target progress ≡ reached
+    → hand_to (group_event (scene_of views slop) (own_of views view) (kids_of views slop view) event intercepted taker) target progress ≡ reached
     → targets_at reached.progress (own_of old view).number ≡ targets_at progress (own_of old view).number
 out_same old views slop view event intercepted taker target progress reached is live s e =
     hand_to_stays old slop view event intercepted taker target progress reached is live (hand_to_same old views slop view event intercepted taker target progress s ∙ e)
@@ -328,14 +330,14 @@ out_same old views slop view event intercepted taker target progress reached is 
 pub out_step : (old views : Views) (slop : ℤ) (view : ℕ) (event : Event) (intercepted : Bool) (taker : Taker) (child : ℕ) (targets code_targets : List Target) (said said_now : Bool) (progress new : Progress) (answer : Bool)
     (next : Option ℕ) → OnlyScrolls old views → code_targets ≡ targets → is_target child targets ≡ true
     → targets_from next targets ≡ older (from_child child targets) → said_now ≡ (said || answer)
-    → hand_to (scene_of views slop) (own_of views view) (kids_of views slop view) event intercepted taker (target_of child code_targets) progress ≡ record { yes = answer; progress = new }
-    → hand_out (scene_of old slop) (own_of old view) (kids_of old slop view) event intercepted taker (targets_from next targets) said_now new
-    ≡ hand_out (scene_of old slop) (own_of old view) (kids_of old slop view) event intercepted taker (from_child child targets) said progress
+    → hand_to (group_event (scene_of views slop) (own_of views view) (kids_of views slop view) event intercepted taker) (target_of child code_targets) progress ≡ record { yes = answer; progress = new }
+    → hand_out (group_event (scene_of old slop) (own_of old view) (kids_of old slop view) event intercepted taker) (targets_from next targets) said_now new
+    ≡ hand_out (group_event (scene_of old slop) (own_of old view) (kids_of old slop view) event intercepted taker) (from_child child targets) said progress
 out_step old views slop view event intercepted taker child targets code_targets said said_now progress new answer next s same there part now e =
     let h = headed child targets there in
     let head : target_of child code_targets ≡ record { child = child; ids = h.ids } = ap (target_of child) same ∙ ap (λ ts. let t : Target = record { child = child; ids = first_ids ts } in t) h.is in
-    ap (λ ts. hand_out (scene_of old slop) (own_of old view) (kids_of old slop view) event intercepted taker ts said_now new) part
-    ∙ ap (λ b. hand_out (scene_of old slop) (own_of old view) (kids_of old slop view) event intercepted taker (older (from_child child targets)) b new) now
+    ap (λ ts. hand_out (group_event (scene_of old slop) (own_of old view) (kids_of old slop view) event intercepted taker) ts said_now new) part
+    ∙ ap (λ b. hand_out (group_event (scene_of old slop) (own_of old view) (kids_of old slop view) event intercepted taker) (older (from_child child targets)) b new) now
     ∙ out_on (scene_of old slop) (own_of old view) (kids_of old slop view) event intercepted taker child h.ids targets h.rest said progress (record { yes = answer; progress = new }) h.is
     (hand_to_same old views slop view event intercepted taker (record { child = child; ids = h.ids }) progress s
-    ∙ ap (λ t. hand_to (scene_of views slop) (own_of views view) (kids_of views slop view) event intercepted taker t progress) (sym head) ∙ e)
+    ∙ ap (λ t. hand_to (group_event (scene_of views slop) (own_of views view) (kids_of views slop view) event intercepted taker) t progress) (sym head) ∙ e)

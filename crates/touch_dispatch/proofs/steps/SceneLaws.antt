@@ -10,7 +10,7 @@ use Rattle.view_model.specs.PlainTree.{PlainView, part_of}
 use Rattle.view_tree.specs.Rows.{At_first, Later, Later_on, Row, first_tree, part_from, head_view, key_where, views_of, children_of_first}
 use Rattle.view_tree.specs.Views.{Held, IsLive, IsTree, Views, class_of, held_of, number_of, offset_of, state_of}
 use Rattle.view_tree.proofs.forest.KeyLaws.{Agree, located, times_self, count_of_key-within}
-use Rattle.view_tree.proofs.forest.PlainLaws.{agree_live, key_where_number}
+use Rattle.view_tree.proofs.forest.PlainLaws.{agree_live, first_tree-or_else, key_where_number}
 use Rattle.touch_event.specs.declared.event.Event.{Event}
 use Rattle.view_tree.proofs.forest.Backwards.{count-later, from_later, kids-within, later-within, within_within}
 use Rattle.touch_dispatch.specs.Dispatch.{EventChild, Scene, child_of, event_children, group_reached, reach, reached_by}
@@ -114,10 +114,6 @@ or_else_views : (first second : Forest Row) → views_of (or_else first second) 
 or_else_views Nothing second = refl
 or_else_views (Branch row kids siblings) second = refl
 
-alone_or_else : (first second : Forest Row) → first_tree (or_else first second) ≡ or_else (first_tree first) (first_tree second)
-alone_or_else Nothing second = refl
-alone_or_else (Branch row kids siblings) second = refl
-
 pub views_part : (key number : ℕ) (tree : Forest Row) → Agree key number tree → part_of number (views_of tree) ≡ views_of (first_tree (part_from key tree))
 views_part key number Nothing agree = refl
 views_part key number (Branch row kids siblings) agree =
@@ -128,7 +124,7 @@ views_part key number (Branch row kids siblings) agree =
         e,
         views_part key number kids agree.1,
         views_part key number siblings agree.2,
-        alone_or_else (part_from key kids) (part_from key siblings),
+        first_tree-or_else (part_from key kids) (part_from key siblings),
         or_else_views (first_tree (part_from key kids)) (first_tree (part_from key siblings)),
       ) refl
     ]

@@ -11,6 +11,7 @@ use Rattle.view_model.specs.PlainTree.{PlainView}
 use Rattle.touch_dispatch.specs.declared.reaching.taker.Taker.{Taker}
 use Rattle.touch_dispatch.specs.declared.reaching.taker.Taker.TheVariants.{NoChild, Earlier, Sent}
 use Rattle.touch_dispatch.proofs.gestures.CaughtLaws.{asked_targets, handled_targets}
+use Rattle.touch_dispatch.proofs.steps.GroupEvents.{group_event}
 use Rattle.touch_dispatch.specs.Dispatch.{EventChild, Scene, Tried, answered, begun, child_of, ended, ended_by, event_children, given, group_reached, hand_out, hand_part, hand_to, intercepted_cleared, is_sent, is_offered, offered, oldest, reached_by, receiver, taken_by, tried_event, try_child, try_children, unless_taken}
 use Rattle.touch_dispatch.specs.gesture.Gestures.{PlainGesture, set_targets}
 use Rattle.touch_dispatch.specs.handling.Handling.{Progress, Reached, asked, is_down, is_nil, targets_at}
@@ -101,7 +102,7 @@ stays_part n child None kids progress stays = refl
 stays_part n child (Some part) kids progress stays = stays_child n child part kids progress stays
 
 pub stays_hand_to : (n : ℕ) (scene : Scene) (own : PlainView) (kids : List EventChild) (event : Event) (intercepted : Bool) (taker : Taker) (target : Target) (progress : Progress)
-    → AllStay n kids → targets_at (hand_to scene own kids event intercepted taker target progress).progress n ≡ targets_at progress n
+    → AllStay n kids → targets_at (hand_to (group_event scene own kids event intercepted taker) target progress).progress n ≡ targets_at progress n
 stays_hand_to n scene own kids event intercepted taker target progress stays =
     elim (cases_Bool (is_sent taker target.child)) [
       | inl e ↦ rw e refl
@@ -109,15 +110,15 @@ stays_hand_to n scene own kids event intercepted taker target progress stays =
     ]
 
 stays_hand_out : (n : ℕ) (scene : Scene) (own : PlainView) (kids : List EventChild) (event : Event) (intercepted : Bool) (taker : Taker) (targets : List Target) (said : Bool) (progress : Progress)
-    → AllStay n kids → targets_at (hand_out scene own kids event intercepted taker targets said progress).progress n ≡ targets_at progress n
+    → AllStay n kids → targets_at (hand_out (group_event scene own kids event intercepted taker) targets said progress).progress n ≡ targets_at progress n
 stays_hand_out n scene own kids event intercepted taker [] said progress stays = refl
 stays_hand_out n scene own kids event intercepted taker (t ∷ targets) said progress stays =
-    let reached = hand_to scene own kids event intercepted taker t progress in
+    let reached = hand_to (group_event scene own kids event intercepted taker) t progress in
     stays_hand_out n scene own kids event intercepted taker targets (said || reached.yes) reached.progress stays
     ∙ stays_hand_to n scene own kids event intercepted taker t progress stays
 
 stays_answered : (n : ℕ) (scene : Scene) (own : PlainView) (kids : List EventChild) (event : Event) (intercepted : Bool) (taker : Taker) (progress : Progress)
-    → AllStay n kids → targets_at (answered scene own kids event intercepted taker progress).progress n ≡ targets_at progress n
+    → AllStay n kids → targets_at (answered (group_event scene own kids event intercepted taker) progress).progress n ≡ targets_at progress n
 stays_answered n scene own kids event intercepted taker progress stays =
     elim (cases_Bool (is_nil (targets_at progress own.number))) [
       | inl e ↦ rw e (ap (λ (t : ℕ → List Target). t n) (handled_targets (receiver scene own kids) event progress))
@@ -152,7 +153,7 @@ stays_group n scene own kids event progress ne stays =
     let zero_ = begun own.number event.action progress in
     let first = asked (receiver scene own kids) event zero_ in
     let second = offered scene own kids event first.yes first.progress in
-    let third = answered scene own kids event first.yes second.taker second.progress in
+    let third = answered (group_event scene own kids event first.yes second.taker) second.progress in
     stays_ended n own.number own.facts.split event first.yes third.progress ne
     ∙ stays_answered n scene own kids event first.yes second.taker second.progress stays
     ∙ stays_offered n scene own kids event first.yes first.progress ne stays

@@ -5,6 +5,7 @@ use Rattle.geom_core.specs.declared.geometry.Rect.{Rect}
 use Rattle.touch_dispatch.proofs.scrolls.FitLaws.{kid_moved}
 use Rattle.touch_dispatch.proofs.steps.KeepLaws.{kept_by, may_still}
 use Rattle.touch_dispatch.proofs.gestures.ParentLaws.{may_kid}
+use Rattle.touch_dispatch.proofs.steps.GroupEvents.{group_event}
 use Rattle.touch_dispatch.proofs.steps.ReachSteps.{caught_put_at, hand_to_kid, part_for_same, put_is}
 use Rattle.touch_dispatch.proofs.steps.SceneLaws.{kid_named, offset_live, reach_at, rect_live, same_own}
 use Rattle.touch_dispatch.proofs.steps.TryWalk.{GetsPart}
@@ -98,7 +99,7 @@ gets_part {views = views} {view = view} {kid = kid} slop entries part reads trie
 -- a target of a view gets its part of an event
 pub record SendsTo (views : Views) (slop : ℤ) (view kid : ℕ) (event : Event) (intercepted : Bool) (taker : Taker) (target : Target) (part : Event) (progress : Progress) : Type 0 where
   pub there : IsKidAt views view kid
-  pub is : hand_to (scene_of views slop) (own_of views view) (kids_of views slop view) event intercepted taker target progress
+  pub is : hand_to (group_event (scene_of views slop) (own_of views view) (kids_of views slop view) event intercepted taker) target progress
       ≡ reach (scene_of views slop) (views_of (first_tree (part_from kid views.tree))) part progress
 
 pub sends_to : {views : Views} {kept : Kept} {view child kid : ℕ} {event part : Event} {intercepted : Bool} {taker : Taker} {own_facts : Facts} {state : State} {ids : ℕ → Bool} (slop : ℤ) (entries : List Entry)

@@ -1,27 +1,17 @@
 -- A walk over the children of a view, from the last to the first.
-use Rattle.std.proofs.Common.{◌≡◌, ℕ, ℤ, ◌+◌, ◌-◌, true, false, Option, Some, None}
+use Rattle.std.proofs.Common.{◌≡◌, ℕ, ℤ, true, false, Option}
 use Rattle.std.specs.Prelude.{IfSome}
 use Rattle.touch_event.specs.declared.event.Event.{Event}
 use Rattle.touch_dispatch.specs.declared.reaching.taker.Taker.TheVariants.{NoChild}
 use Rattle.touch_targets.specs.Captures.{is_target}
-use Rattle.view_model.specs.Forest.{Forest, count_of}
 use Rattle.view_model.specs.PlainTree.{PlainView}
-use Rattle.view_tree.specs.Rows.{Row, part_from, views_of, children_of_first, later_siblings}
+use Rattle.view_tree.proofs.forest.BackwardWalks.{following}
+use Rattle.view_tree.specs.Rows.{part_from, views_of, children_of_first}
 use Rattle.view_tree.specs.Views.{Views}
 use Rattle.touch_dispatch.specs.Dispatch.{EventChild, Scene, event_children, tried_event, try_children}
 use Rattle.touch_dispatch.specs.handling.Handling.{Progress, targets_at}
 use Rattle.touch_dispatch.specs.reaching.Points.{is_tried, local_event}
 use Rattle.touch_dispatch.specs.reaching.TreeEvents.{IsKidAt, own_of, scene_of}
-
--- the children after the next one
-abbrev pub following : Option ℕ → Forest Row → Forest Row → Forest Row
-following None list tree = list
-following (Some kid) list tree = later_siblings (part_from kid tree)
-
--- how many views there are up to the next child
-abbrev pub before : Option ℕ → Forest Row → Forest Row → ℕ
-before None list tree = 0
-before (Some kid) list tree = 1 + count_of list - count_of (part_from kid tree)
 
 -- no child after the next one took the pointer
 pub record TryWalk (views : Views) (slop : ℤ) (view : ℕ) (event : Event) (next : Option ℕ) (start now : Progress) : Type 0 where

@@ -1,8 +1,8 @@
 -- What becomes of an event on its way: at the view that gets it, at the children of that and at its targets.
 use Rattle.std.specs.Prelude.{◌≡◌, ℕ, Bool, List}
 use Rattle.geom_core.specs.Limits.{IsSide}
-use Rattle.touch_dispatch.specs.Dispatch.{Tried, answered, group_reached, hand_out, hand_to, offered, reach, try_child}
-use Rattle.touch_dispatch.specs.Dispatch.{try_children}
+use Rattle.touch_dispatch.specs.Dispatch.{GroupEvent, Tried, answered, group_reached, hand_out, hand_to, offered, reach}
+use Rattle.touch_dispatch.specs.Dispatch.{try_child, try_children}
 use Rattle.touch_dispatch.specs.handling.Handling.{Progress, Reached}
 use Rattle.touch_dispatch.specs.gesture.Kept.{Kept, gesture_of}
 use Rattle.touch_dispatch.specs.reaching.TreeEvents.{child_at, handled_at, kids_of, own_of, own_range, part_at}
@@ -56,23 +56,25 @@ tried_kid views d kid progress =
 abbrev pub own_targets : Views → Kept → ℕ → List Target
 own_targets views kept key = (gesture_of kept).targets (own_of views key).number
 
--- the answer of a group whose children were tried
+-- the event of a group whose children were tried
+abbrev pub group_event_of : Views → Shared → GroupEvent
+group_event_of views s = record {
+  scene = scene_of views s.delivery.now.limits.now.slop;
+  own = own_of views s.delivery.now.view;
+  kids = kids_of views s.delivery.now.limits.now.slop s.delivery.now.view;
+  event = s.delivery.now.event.now;
+  intercepted = s.intercepted;
+  taker = s.taker;
+}
+
+-- the answer of the group
 abbrev pub answered_group : Views → Shared → Progress → Reached
-answered_group views s progress =
-    answered (scene_of views s.delivery.now.limits.now.slop) (own_of views s.delivery.now.view)
-    (kids_of views s.delivery.now.limits.now.slop s.delivery.now.view) s.delivery.now.event.now s.intercepted s.taker
-    progress
+answered_group views s progress = answered (group_event_of views s) progress
 
 -- each of these targets of a group gets its part; yes if one of them, or one before, says so
 abbrev pub delivered_targets : Views → Shared → List Target → Bool → Progress → Reached
-delivered_targets views s targets said progress =
-    hand_out (scene_of views s.delivery.now.limits.now.slop) (own_of views s.delivery.now.view)
-    (kids_of views s.delivery.now.limits.now.slop s.delivery.now.view) s.delivery.now.event.now s.intercepted s.taker
-    targets said progress
+delivered_targets views s targets said progress = hand_out (group_event_of views s) targets said progress
 
 -- the target of a child, among these, gets its part
 abbrev pub delivered_target : Views → Shared → ℕ → List Target → Progress → Reached
-delivered_target views s child targets progress =
-    hand_to (scene_of views s.delivery.now.limits.now.slop) (own_of views s.delivery.now.view)
-    (kids_of views s.delivery.now.limits.now.slop s.delivery.now.view) s.delivery.now.event.now s.intercepted s.taker
-    (target_of child targets) progress
+delivered_target views s child targets progress = hand_to (group_event_of views s) (target_of child targets) progress

@@ -1,5 +1,6 @@
 -- What a pool represents once a view is open, and once it is closed.
 use Rattle.std.proofs.Common.{◌≡◌, ◌≢◌, ◌+◌, ◌≤◌, ℕ, arith, true, false, Bool, List, [], ◌∷◌, ◌++◌, Option, Some, None, is_some, count_by, length, map, refl, sym, ◌∙◌, ap, subst, inl, inr, length-append}
+use Rattle.std.proofs.Math.Bool.{and-false, and-true}
 use Rattle.std.specs.Prelude.{◌==◌, ◌||◌, ◌&&◌, not, if◌then◌else◌, nat_eq}
 use Rattle.std.specs.Map.{lookup}
 use Rattle.std.specs.Option.{option_flatten}
@@ -136,17 +137,9 @@ module _
   closed_view other =
       open_is b (seats_in b.nodes b.slots) refl other
       ∙ elim (cases_eq other view) [
-        | inl e ↦ ap is_some (ap (get_key nat_eq b.slots) e ∙ no_entry) ∙ rw (eq-eqb other view e) (sym (and_false (is_open seats other)))
-        | inr ne ↦ ap is_some (kept_entry other ne) ∙ sym (open_is a seats is other) ∙ rw (ne_eqb other view ne) (sym (and_true (is_open seats other)))
+        | inl e ↦ ap is_some (ap (get_key nat_eq b.slots) e ∙ no_entry) ∙ rw (eq-eqb other view e) (sym (and-false (is_open seats other)))
+        | inr ne ↦ ap is_some (kept_entry other ne) ∙ sym (open_is a seats is other) ∙ rw (ne_eqb other view ne) (sym (and-true (is_open seats other)))
       ]
-    where
-      and_true : (x : Bool) → (x && true) ≡ x
-      and_true true = refl
-      and_true false = refl
-
-      and_false : (x : Bool) → (x && false) ≡ false
-      and_false true = refl
-      and_false false = refl
 
   pub closed_targets : ((x : ℕ) → caught_by b.nodes x ≡ caught_by a.nodes x) → targets_of seats view ≡ [] → (group : ℕ) → targets_of (seats_in b.nodes b.slots) group ≡ targets_of seats group
   closed_targets caught none group =

@@ -13,6 +13,7 @@ use Rattle.view_model.specs.Facts.{is_shown, layout_facts}
 use Rattle.view_model.specs.Forest.{Forest, Nothing, Branch, count_of}
 use Rattle.view_model.specs.Layout.{Spot, places_backwards}
 use Rattle.view_model.specs.RelativeLayout.{sides_of}
+use Rattle.view_tree.proofs.forest.BackwardWalks.{IsChildOf, before, following}
 use Rattle.view_tree.specs.Rows.{At_first, Later, Later_on, Row, children_of_first, count_of_key, first_tree, head_view, last_key, later_siblings, part_from, previous_key}
 use Rattle.view_tree.specs.Views.{Held, KeepsInside, held_of, specs_of}
 use Rattle.view_tree.proofs.forest.Backwards.{count-later, count_of_key-later, from_later, kids-within, last_is, last_none, later-within, previous_in, previous_within, within_within}
@@ -26,23 +27,9 @@ use Rattle.traversal.specs.Laying.{HasLaid, LayingStage}
 use Rattle.traversal.proofs.laid.LaidStages.{as_begun, laid_joined, laid_none, unlaid_yet}
 use Rattle.traversal.proofs.laid.LaidWalk.{narrow_for, sides_at}
 
--- the children after the next one
-abbrev pub following : Option ℕ → Forest Row → Forest Row → Forest Row
-following None list tree = list
-following (Some kid) list tree = later_siblings (part_from kid tree)
-
--- how many views there are up to the next child
-abbrev pub before : Option ℕ → Forest Row → Forest Row → ℕ
-before None list tree = 0
-before (Some kid) list tree = 1 + count_of list - count_of (part_from kid tree)
-
-pub record IsKid (tree list : Forest Row) (kid : ℕ) : Type 0 where
-  pub live : 0 < count_of_key kid tree
-  pub within : Later (part_from kid tree) list
-
 -- so far, the children after `next` were laid, and nothing else was done
 pub record BackWalk (tree list : Forest Row) (placer : Placer) (spot : Spot) (canvas : Option Canvas) (start : LayingStage) (next : Option ℕ) (now : LayingStage) : Type 0 where
-  pub kid : IfSome next (IsKid tree list)
+  pub kid : IfSome next (IsChildOf tree list)
   pub places : PlacesAs placer spot (sizes_back (held_of start.views) (following next list tree))
   pub quiet : IsQuietBack (held_of now.views) spot (held_of start.views) (following next list tree)
   pub done : HasLaid canvas start now (following next list tree)
@@ -110,7 +97,7 @@ pub back_on : (tree : Forest Row) (view : ℕ) (placer next_placer : Placer) (sp
     → next ≡ previous_key None kid tree
     → WalkTo tree view next_placer spot canvas start mid kid next
 back_on tree view placer next_placer spot canvas start kid old mid next keys live walk step own previous =
-    let k : IsKid tree (children_of_first (part_from view tree)) kid = walk.kid in
+    let k : IsChildOf tree (children_of_first (part_from view tree)) kid = walk.kid in
     let list = children_of_first (part_from view tree) in
     let f = located kid tree k.live in
     let v = located view tree live in
@@ -165,7 +152,7 @@ AreNarrow-back held (Later_on l) narrow = AreNarrow-back held l narrow.1
 
 module _ (tree list : Forest Row) (placer : Placer) (spot : Spot) (canvas : Option Canvas) (start : LayingStage) (kid : ℕ) (now : LayingStage)
     (keys : (key : ℕ) → count_of_key key tree ≤ 1) (walk : BackWalk tree list placer spot canvas start (Some kid) now) where
-  at : IsKid tree list kid
+  at : IsChildOf tree list kid
   at = walk.kid
 
   still : KeepsInside (held_of start.views) (held_of now.views) (first_tree (part_from kid tree))
@@ -193,7 +180,7 @@ module _ (tree list : Forest Row) (placer : Placer) (spot : Spot) (canvas : Opti
       let later = count-later at.within in
       omega arith
 
-pub fewer_back : (tree : Forest Row) (view kid : ℕ) → 0 < count_of_key view tree → IsKid tree (children_of_first (part_from view tree)) kid
+pub fewer_back : (tree : Forest Row) (view kid : ℕ) → 0 < count_of_key view tree → IsChildOf tree (children_of_first (part_from view tree)) kid
     → count_of (first_tree (part_from kid tree)) < count_of (first_tree (part_from view tree))
 fewer_back tree view kid live at =
     let alone = count_alone (part_from kid tree) in

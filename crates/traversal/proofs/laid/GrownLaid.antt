@@ -10,9 +10,8 @@ use Rattle.view_model.specs.Forest.{Forest, Nothing, Branch}
 use Rattle.view_model.specs.Measuring.{Specs}
 use Rattle.view_tree.specs.Rows.{Row, children_of_first, count_of_key, first_tree, head_view, later_siblings, part_from}
 use Rattle.view_tree.specs.Views.{Held, KeepsInside, KeepsOutside, specs_of}
-use Rattle.view_tree.proofs.forest.KeyLaws.{located, times_self}
+use Rattle.view_tree.proofs.forest.KeyLaws.{located, own_more, times_self}
 use Rattle.view_tree.proofs.forest.Walks.{KeepsInside-siblings, once_from}
-use Rattle.kept_views.proofs.laid.Keys.{own_more}
 use Rattle.traversal.specs.Growing.{LastAt}
 
 -- the same of other states with the same caches

@@ -1,7 +1,7 @@
 -- A view of a tree that is laid, with all below it.
 use Rattle.std.proofs.Common.{◌≡◌, ◌≢◌, ℕ, ◌+◌, ◌<◌, ◌≤◌, Bool, true, false, List, [], ◌∷◌, ◌++◌, Option, Some, None, refl, sym, ◌∙◌, ap, subst, arith, inl, inr}
 use Rattle.std.proofs.lemmas.List.{append-nil}
-use Rattle.std.proofs.lemmas.Bool.{cases_eq, eq-eqb, ne_eqb}
+use Rattle.std.proofs.lemmas.Bool.{both_ways, cases_eq, eq-eqb, ne_eqb}
 use Rattle.std.specs.Prelude.{if◌then◌else◌}
 use mathlib.Core.Path.{fun_ext}
 use Rattle.geom_core.specs.Limits.{IsSide}
@@ -12,7 +12,7 @@ use Rattle.kept_views.specs.Laying.{Brought, Fit, IsPut, IsQuietAll, Wrote, diff
 use Rattle.kept_views.specs.Passes.{settled, settled_at}
 use Rattle.kept_views.proofs.laid.Brought.{brought_hidden}
 use Rattle.view_model.proofs.ClassLaws.{range_nowhere}
-use Rattle.kept_views.proofs.laid.LaidCalm.{gone_nowhere, not_both}
+use Rattle.kept_views.proofs.laid.LaidCalm.{gone_nowhere}
 use Rattle.kept_views.proofs.laid.LaidFrames.{Fit-along, Fit-below, differ-along, owed-along, owed_below}
 use Rattle.kept_views.proofs.laid.LaidRows.{calm_row, not_own, put_row, wrote_below}
 use Rattle.measure_pass.proofs.rules.Laws.{measured_sides}
@@ -27,12 +27,11 @@ use Rattle.view_model.specs.Offsets.{brought, range_by}
 use Rattle.view_model.specs.RelativeLayout.{sides_of}
 use Rattle.view_tree.specs.Rows.{Row, first_tree, children_of_first, part_from, head_view, count_of_key, views_of}
 use Rattle.view_tree.specs.Views.{Held, KeepsOutside, specs_of}
-use Rattle.view_tree.proofs.forest.KeyLaws.{located}
+use Rattle.view_tree.proofs.forest.KeyLaws.{located, own_more}
 use Rattle.view_tree.proofs.forest.Walks.{once_from}
 use Rattle.traversal.specs.declared.laying.placer.Placer.{Placer}
 use Rattle.traversal.specs.Narrow.{AreNarrow}
 use Rattle.traversal.specs.Placing.{LaidKids, PlacesAs}
-use Rattle.kept_views.proofs.laid.Keys.{own_more}
 use Rattle.traversal.proofs.laid.LaidWalk.{AreNarrow-along}
 use Rattle.traversal.proofs.laid.NarrowSides.{group_narrow}
 
@@ -260,8 +259,8 @@ kid_gone tree kid placer spot before held live gone fit places =
     let own = k.0 hidden in
     let here : LaidKids placer spot before held held list = record {
       quiet = record {
-        kept = (k.0, λ h. not_both (hidden_in firm f.row) hidden h, k.2, tt);
-        reached = (λ n. not_both (is_shown f.row.view.facts) (r.0 n).0 gone, r.1, r.2, tt);
+        kept = (k.0, λ h. absurd (both_ways (hidden_in firm f.row) h hidden), k.2, tt);
+        reached = (λ n. absurd (both_ways (is_shown f.row.view.facts) gone (r.0 n).0), r.1, r.2, tt);
         specs = refl;
         edges = refl;
         lies = gone_nowhere [] held firm f.row f.kids gone k.0 k.2 ∙ sym nothing;

@@ -1,13 +1,13 @@
 -- The layout of a whole tree.
 use Rattle.std.proofs.Common.{◌≡◌, ℕ, ℤ, pos, true, false, Some, refl, sym, ◌∙◌, ap, arith}
 use Rattle.std.proofs.lemmas.Int.{ints}
-use Rattle.std.proofs.lemmas.Bool.{eq-eqb}
+use Rattle.std.proofs.lemmas.Bool.{both_ways, eq-eqb, false_from_ne_true}
 use Rattle.geom_core.specs.Limits.{IsSide}
 use Rattle.geom_core.specs.declared.geometry.Rect.{Rect}
 use Rattle.geom_core.specs.declared.geometry.Size.{Size}
 use Rattle.kept_views.specs.Kept.{Kept, Reached, Ready, debt, firm, loose, owed}
 use Rattle.kept_views.specs.Laying.{layout_of}
-use Rattle.kept_views.proofs.laid.LaidCalm.{false_unless, gone_nowhere, not_both, shown_in}
+use Rattle.kept_views.proofs.laid.LaidCalm.{gone_nowhere, shown_in}
 use Rattle.kept_views.proofs.laid.LaidFrames.{Reached-loose}
 use Rattle.kept_views.proofs.laid.PlacedKids.{laid_gone}
 use Rattle.measure_pass.specs.Measured.{calls_under, size_under}
@@ -55,7 +55,7 @@ root_sized Nothing root held first shown k = absurd (cc)
 root_sized (Branch row kids siblings) root held first shown k =
     let key : row.key ≡ root = cc in
     let v = k.1 (shown_in row shown) in
-    let unforced = false_unless (held row.key).state.forced (λ f. let no : false ≡ true = v.flags refl f in absurd (cc)) in
+    let unforced = false_from_ne_true (held row.key).state.forced (λ f. let no : false ≡ true = v.flags refl f in absurd (cc)) in
     subst (λ key. (held key).state.measured ≡ measured_size row.view (views_of kids) (specs_of (held key).state)) key (v.sized refl unforced).size
 
 -- and if no view needs layout, it is not marked
@@ -63,15 +63,15 @@ pub root_unmarked : (tree : Forest Row) (root : ℕ) (held : ℕ → Held) → f
 root_unmarked Nothing root held first r = absurd (cc)
 root_unmarked (Branch row kids siblings) root held first r =
     let key : row.key ≡ root = cc in
-    let needed = false_unless (held row.key).state.layout_needed (λ e. let no : false ≡ true = (r.0 e).1 in absurd (cc)) in
-    subst (λ key. (held key).state.measure_first ≡ false) key (false_unless (held row.key).state.measure_first (λ e. not_both (held row.key).state.layout_needed (r.1 e) needed))
+    let needed = false_from_ne_true (held row.key).state.layout_needed (λ e. let no : false ≡ true = (r.0 e).1 in absurd (cc)) in
+    subst (λ key. (held key).state.measure_first ≡ false) key (false_from_ne_true (held row.key).state.measure_first (λ e. both_ways (held row.key).state.layout_needed needed (r.1 e)))
 
 -- the layout of a tree whose root is gone, or that has none
 pub gone_whole : (tree : Forest Row) (held : ℕ → Held) (window : Size) → later_siblings tree ≡ Nothing → (is_shown (head_view tree).facts ≡ true → tree ≡ Nothing) → Kept [] held loose tree
     → (laid_rows held tree ≡ []) × (full_layout (plain_rows held tree) window ≡ [])
 gone_whole Nothing held window none gone k = (refl, refl)
 gone_whole (Branch row kids siblings) held window none gone k =
-    let hidden : is_shown row.view.facts ≡ false = false_unless _ (λ here. let no : Branch row kids siblings ≡ Nothing = gone here in absurd (cc)) in
+    let hidden : is_shown row.view.facts ≡ false = false_from_ne_true _ (λ here. let no : Branch row kids siblings ≡ Nothing = gone here in absurd (cc)) in
     rw none (
       gone_nowhere [] held loose row kids hidden k.0 k.2,
       full_layout_scrolled held (Branch row kids Nothing) window ∙ laid_gone row kids _ _ hidden,
@@ -94,8 +94,8 @@ pub owed_none : (held : ℕ → Held) (list : Forest Row) → Reached held false
 owed_none held Nothing r = refl
 owed_none held (Branch row kids siblings) r =
     let own = held row.key in
-    let d : own.state.layout_needed ≡ false = false_unless own.state.layout_needed (λ e. let no : false ≡ true = (r.0 e).1 in absurd (cc)) in
-    let m : own.state.measure_first ≡ false = false_unless own.state.measure_first (λ e. not_both own.state.layout_needed (r.1 e) d) in
+    let d : own.state.layout_needed ≡ false = false_from_ne_true own.state.layout_needed (λ e. let no : false ≡ true = (r.0 e).1 in absurd (cc)) in
+    let m : own.state.measure_first ≡ false = false_from_ne_true own.state.measure_first (λ e. both_ways own.state.layout_needed d (r.1 e)) in
     let below = owed_none held kids (subst (λ b. Reached held b kids) d r.2) in
     let rest = owed_none held siblings r.3 in
     let free : debt row kids own ≡ 0 = rw m refl in

@@ -1,12 +1,10 @@
 -- The plain tree once each view that has bounds has its offset in range.
-use Rattle.std.proofs.Common.{◌≡◌, ℕ, ◌<◌, ℤ, Bool, true, false, Option, Some, None, [], refl, sym, ◌∙◌, ap, arith, inl, inr}
-use Rattle.std.proofs.lemmas.Bool.{cases_Bool}
-use Rattle.std.specs.Prelude.{if◌then◌else◌}
+use Rattle.std.proofs.Common.{◌≡◌, ℕ, ◌<◌, ℤ, true, false, Option, None, [], refl, sym, ◌∙◌, ap, arith, inl, inr}
+use Rattle.std.proofs.lemmas.Bool.{cases_Bool, false_from_ne_true}
 use Rattle.geom_core.specs.declared.geometry.Rect.{Rect}
+use Rattle.kept_views.proofs.KeptFrames.{outer}
 use Rattle.kept_views.specs.Kept.{Around, Cleared, Kept, first_place, hidden_in, inside}
 use Rattle.kept_views.specs.Laying.{Brought}
-use Rattle.view_model.specs.declared.facts.Facts.{Facts}
-use Rattle.view_model.specs.declared.class.Class.{Class}
 use Rattle.view_model.proofs.ClassLaws.{range_nowhere, range_unscrolled}
 use Rattle.view_model.specs.Facts.{is_shown}
 use Rattle.view_model.specs.Forest.{Forest, Nothing, Branch}
@@ -69,18 +67,10 @@ cleared_firm held up (Branch row kids siblings) c k = (
     | inl h ↦ (k.0 h).cache
     | inr h ↦ none_forced h f
   ],
-  cleared_firm held (inside up row (held row.key)) kids (λ h. false_unless _ (λ f. none_forced h f)) k.2,
+  cleared_firm held (inside up row (held row.key)) kids (λ h. false_from_ne_true _ (λ f. none_forced h f)) k.2,
   cleared_firm held up siblings c k.3,
 )
   where
-    outer : (v w : Bool) → (if v then w else true) ≡ false → w ≡ false
-    outer true w e = e
-    outer false w e = absurd (let n : true ≡ false = e in cc)
-
-    false_unless : (v : Bool) → (v ≡ true → ⊥) → v ≡ false
-    false_unless true h = absurd (h refl)
-    false_unless false h = refl
-
     none_forced : {A : Type 0} → hidden_in up row ≡ false → (held row.key).state.forced ≡ true → A
     none_forced h f = absurd (let n : true ≡ false = sym ((k.1 h).flags refl f) ∙ c (outer (is_shown row.view.facts) up.hidden h) in cc)
 

@@ -1,10 +1,10 @@
 -- Boxes around what is seen of the views that are shifted, while they are laid one after the other.
-use Rattle.std.proofs.Common.{◌≡◌, ◌≢◌, inl, inr, ℕ, ◌+◌, ◌<◌, ◌≤◌, ℤ, Bool, true, false, Option, Some, None, refl, sym, ap, ◌∙◌, subst, arith}
+use Rattle.std.proofs.Common.{◌≡◌, inl, inr, ℕ, ◌+◌, ◌<◌, ◌≤◌, ℤ, Bool, true, false, Option, Some, None, refl, sym, ap, ◌∙◌, subst, arith}
 use Rattle.std.specs.Prelude.{◌+ℤ◌, if◌then◌else◌}
 use Rattle.std.specs.Ordering.{int_eq}
 use Rattle.std.proofs.lemmas.Bool.{cases_Bool, eq-eqb, ne_eqb}
 use Rattle.std.proofs.lemmas.Bool.Decides.{Decides-int_eq}
-use Rattle.damage_rect.proofs.RectLaws.{both, meet_holds}
+use Rattle.damage_rect.proofs.RectLaws.{meet_within_second}
 use Rattle.damage_rect.specs.Within.{LiesIn}
 use Rattle.geom_core.specs.Rects.{holds, meet_of}
 use Rattle.geom_core.specs.declared.geometry.Rect.{Rect}
@@ -17,9 +17,8 @@ use Rattle.view_model.specs.Painting.{inner_rect}
 use Rattle.view_model.specs.Visible.{Canvas, canvas_below, moved_rect, seen_in}
 use Rattle.view_tree.specs.Rows.{Row, count_of_key, first_tree, later_siblings, part_from, rest_from}
 use Rattle.view_tree.specs.Views.{Held, KeepsInside, KeepsOutside, scrolled}
-use Rattle.view_tree.proofs.forest.KeyLaws.{times_self}
+use Rattle.view_tree.proofs.forest.KeyLaws.{other_key, times_self}
 use Rattle.view_tree.proofs.forest.Walks.{KeepingWalk, KeepsInside-first, KeepsOutside-parts, once_from, still_first}
-use Rattle.kept_views.proofs.laid.Keys.{own_more}
 use Rattle.traversal.specs.Covering.{Covered, IsShifted}
 
 -- each view of a list has the bounds and the offset that it had
@@ -100,12 +99,9 @@ pub cover_end : (canvas : Canvas) (less damage : Rect) (tree kids : Forest Row) 
 cover_end canvas less damage tree kids start now cover box lies covered = (cover box now (λ key none. refl) covered lies).1
 
 -- what is seen in a canvas lies in its clip
-meet_second : (a b : Rect) → LiesIn (meet_of a b) b
-meet_second a b x y h = (both (holds a x y) (holds b x y) (sym (meet_holds a b x y) ∙ h)).1
-
 seen_clipped : (bounds : Option Rect) (canvas : Canvas) → LiesIn (seen_in bounds canvas) canvas.clip
 seen_clipped None canvas x y h = absurd (let no : true ≡ false = sym h ∙ nowhere_unseen canvas x y in cc)
-seen_clipped (Some rect) canvas x y h = meet_second (moved_rect rect canvas.left canvas.top) canvas.clip x y h
+seen_clipped (Some rect) canvas x y h = meet_within_second (moved_rect rect canvas.left canvas.top) canvas.clip x y h
 
 -- and so do the clips of children in what is seen of their group
 clip_inside : (bounds : Option Rect) (facts : Facts) (canvas : Canvas) → LiesIn (canvas_below bounds facts canvas).clip (seen_in bounds canvas)
@@ -119,7 +115,7 @@ clip_inside (Some rect) facts canvas x y h = by facts.clip h
     inner = moved_rect (inner_rect facts (size_of_rect rect)) (rect.left +ℤ canvas.left) (rect.top +ℤ canvas.top)
 
     by : (clip : Bool) → holds (if clip then meet_of inner own else own) x y ≡ true → holds own x y ≡ true
-    by true h = meet_second inner own x y h
+    by true h = meet_within_second inner own x y h
     by false h = h
 
 -- a box around a whole canvas covers all that is seen in it
@@ -144,22 +140,19 @@ covered_by canvas box old new (Branch row kids siblings) once around = (
   covered_by canvas box old new siblings (λ key. let o = once key in omega arith) later,
 )
   where
-    other : (key : ℕ) → 0 < count_of_key key kids + count_of_key key siblings → row.key ≢ key
-    other key some e = let o = once key in let more = own_more row kids siblings key e in absurd (omega arith)
-
     own : IsShifted (old row.key) (new row.key) → LiesIn (seen_in (old row.key).state.bounds canvas) box × LiesIn (seen_in (new row.key).state.bounds canvas) box
     own shifted = rw (eq-eqb row.key row.key refl) at (around row.key (times_self row kids siblings) shifted)
 
     later : (key : ℕ) → 0 < count_of_key key siblings → IsShifted (old key) (new key) → LiesIn (seen_at old canvas key siblings) box × LiesIn (seen_at new canvas key siblings) box
     later key live shifted =
-        let ne = other key (omega arith) in
+        let ne = other_key key row kids siblings (once key) (omega arith) in
         let z : count_of_key key kids ≡ 0 = let o = once key in omega arith in
         rw (ne_eqb row.key key ne, eq-eqb (count_of_key key kids) 0 z) at (around key (omega arith) shifted)
 
     inside : (new row.key).state.bounds ≡ (old row.key).state.bounds → (new row.key).offset ≡ (old row.key).offset → (key : ℕ) → 0 < count_of_key key kids → IsShifted (old key) (new key)
         → LiesIn (seen_at old (canvas_below (old row.key).state.bounds (scrolled old row).facts canvas) key kids) box × LiesIn (seen_at new (canvas_below (old row.key).state.bounds (scrolled old row).facts canvas) key kids) box
     inside bounds offset key live shifted =
-        let ne = other key (omega arith) in
+        let ne = other_key key row kids siblings (once key) (omega arith) in
         let nz : count_of_key key kids ≡ 0 → ⊥ = λ z. absurd (omega arith) in
         let seen = rw (ne_eqb row.key key ne, ne_eqb (count_of_key key kids) 0 nz) at (around key (omega arith) shifted) in
         (seen.0, subst (λ (c : Canvas). LiesIn (seen_at new c key kids) box) (below_same row old new canvas bounds offset) seen.1)

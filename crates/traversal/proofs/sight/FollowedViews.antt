@@ -1,7 +1,8 @@
 -- What is seen of views while they are laid, if they are followed.
-use Rattle.std.proofs.Common.{◌≡◌, ◌≢◌, ◌⊎◌, inl, inr, ℕ, ℤ, ◌<◌, ◌≤◌, Bool, true, false, Option, Some, None, refl, sym, ap, ◌∙◌, subst, arith}
+use Rattle.std.proofs.Common.{◌≡◌, ◌≢◌, ◌⊎◌, inl, inr, ℕ, ℤ, ◌<◌, ◌≤◌, false, Option, Some, None, refl, sym, ap, ◌∙◌, subst, arith}
 use Rattle.std.specs.Prelude.{IfSome}
 use Rattle.std.proofs.lemmas.Bool.{cases_eq}
+use Rattle.damage_rect.proofs.RectLaws.{outside}
 use Rattle.damage_rect.specs.Within.{LiesIn}
 use Rattle.geom_core.specs.Rects.{holds}
 use Rattle.geom_core.specs.declared.geometry.Rect.{Rect}
@@ -28,14 +29,6 @@ Walks canvas damage tree kids start next now = IfSome canvas (λ canvas. SightWa
 abbrev pub CoverWalks : Option FramedCanvas → Rect → Rect → Forest Row → Forest Row → (ℕ → Held) → Option ℕ → (ℕ → Held) → Type 0
 CoverWalks None less damage tree kids start next now = (box : Rect) → LiesIn less box → LiesIn damage box
 CoverWalks (Some canvas) less damage tree kids start next now = CoverWalk (as_seen canvas) less damage tree kids start next now
-
--- a point outside of more damage was outside before
-pub outside : (less more : Rect) → LiesIn less more → (x y : ℤ) → holds more x y ≡ false → holds less x y ≡ false
-outside less more grew x y out = by (holds less x y) refl
-  where
-    by : (t : Bool) → holds less x y ≡ t → holds less x y ≡ false
-    by true e = absurd (let f : true ≡ false = sym (grew x y e) ∙ out in cc)
-    by false e = e
 
 pub sight_same : (canvas : Option FramedCanvas) (damage : Rect) (old new : ℕ → Held) (list : Forest Row) → SamePlaces old new list → KeepsSightIn canvas damage old new list
 sight_same None damage old new list same = tt

@@ -1,11 +1,10 @@
 -- What is seen of a tree while a frame lays it out.
-use Rattle.std.proofs.Common.{◌+ℤ◌, ◌≡◌, ◌≤◌, ℕ, ℤ, true, false, refl, sym, ap, ◌∙◌, subst, arith, pos}
-use Rattle.std.proofs.lemmas.Int.{ints}
+use Rattle.std.proofs.Common.{◌≡◌, ◌≤◌, ℕ, ℤ, true, false, refl, sym, ap, ◌∙◌, subst, pos}
 use Rattle.geom_core.specs.Rects.{holds}
 use Rattle.geom_core.specs.declared.geometry.Rect.{Rect}
 use Rattle.geom_core.specs.declared.geometry.Size.{Size}
 use Rattle.damage_rect.specs.Within.{LiesIn}
-use Rattle.seen_parts.proofs.MeetingLaws.{same_color}
+use Rattle.seen_parts.proofs.MeetingLaws.{same_color, whole_is}
 use Rattle.seen_parts.proofs.PlacedLaws.{placed_is}
 use Rattle.seen_parts.specs.Meeting.{KeepsSight, as_seen, met_at, placed_rows, seen_at}
 use Rattle.seen_parts.specs.declared.frame.Canvas.{Canvas as FramedCanvas}
@@ -33,12 +32,6 @@ pub within_whole : (window : Size) (canvas : FramedCanvas) (less damage : Rect) 
 within_whole window canvas less damage old mid new tree part is whole same within box lies covered =
     within box lies (subst (λ (list : Forest Row). Covered (as_seen canvas) box mid new list) (sym whole)
     (subst (λ (c : Canvas). Covered c box mid new tree) (sym is) (covered_same (whole_window window) box old mid new new tree same (λ key here. (refl, refl)) covered)))
-
-nothing_more : (n : ℤ) → pos 0 +ℤ n ≡ n
-nothing_more n = omega (arith, ints)
-
-whole_is : (window : Size) → rect_at (pos 0) (pos 0) window ≡ (whole_window window).clip
-whole_is window = rw (nothing_more window.w, nothing_more window.h) refl
 
 -- the colours of a tree of which the same is seen
 pub color_stays : (old new : Views) (window : Size) (damage : Rect) → SameTree old new → IsTree new → KeepsSight (whole_window window) damage (held_of old) (held_of new) old.tree

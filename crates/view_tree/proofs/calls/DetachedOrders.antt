@@ -17,11 +17,10 @@ use Rattle.view_tree.proofs.calls.EmptyingLaws.{f, from_is, g, gone, kids, step}
 use Rattle.view_tree.proofs.forest.AncestorLaws.{around_after, around_below, around_here, left}
 use Rattle.view_tree.proofs.forest.DepthLaws.{ancestors-pruned_at_key}
 use Rattle.view_tree.proofs.forest.Forests.{some_is}
-use Rattle.view_tree.proofs.forest.KeyLaws.{Located, Within, absent, count_of_key-within, from_within, here, in_after, in_below, located, number_self, or_else_live, times_self, zero_or_more}
+use Rattle.view_tree.proofs.forest.KeyLaws.{Located, Within, absent, count_of_key-within, from_within, here, in_after, in_below, located, number_self, or_else_live, times_self, zero_or_more, own_more}
 use Rattle.view_tree.proofs.forest.NumberLaws.{agree_times, count_of_key-cut_le, count_of_key-own_part, sum-first_tree, sum-part_from}
 use Rattle.view_tree.proofs.forest.PlainLaws.{agree_live}
 use Rattle.view_tree.proofs.nodes.ChildEdits.{edit_absent, edit_here, edit_kids, edit_there}
-use Rattle.view_tree.proofs.nodes.PrunedPart.{own_more}
 use Rattle.view_tree.proofs.orders.RowLaws.{agree_within, group_number-is}
 
 -- how often a key occurs in the tree of a view, at most as often as around it

@@ -4,9 +4,9 @@ use Rattle.std.proofs.lemmas.Bool.{eq-eqb, ne_eqb}
 use Rattle.view_model.specs.Forest.{Forest, Nothing, Branch, count_of}
 use Rattle.view_tree.specs.Rows.{Row, count_of_key, pruned_at_key, children_of_first, first_tree, part_from}
 use Rattle.view_tree.specs.Views.{Held}
-use Rattle.view_tree.proofs.forest.KeyLaws.{Within, here, in_below, in_after, count_of_key-within, times_self, Located, located, absent}
+use Rattle.view_tree.proofs.forest.KeyLaws.{Within, here, in_below, in_after, count_of_key-within, times_self, Located, located, absent, own_more}
 use Rattle.view_tree.proofs.nodes.ChildEdits.{edit_kids, edit_absent, edit_here, edit_there, count_of_key-edit}
-use Rattle.view_tree.proofs.nodes.PrunedPart.{own_more, cut_here, cut_edit, pruned_at_key-edit_same}
+use Rattle.view_tree.proofs.nodes.PrunedPart.{cut_here, cut_edit, pruned_at_key-edit_same}
 
 pub part_from-edit : (k : ℕ) (g : Forest Row → Forest Row) (row : Row) (kids siblings : Forest Row) {t : Forest Row} → row.key ≡ k
     → Within (Branch row kids siblings) t → count_of_key k t ≤ 1 → part_from k (edit_kids k g t) ≡ Branch row (g kids) siblings

@@ -5,8 +5,7 @@ use Rattle.std.specs.Prelude.{◌==◌, if◌then◌else◌, MatchOption}
 use Rattle.view_model.specs.Forest.{Forest, Nothing, Branch}
 use Rattle.view_tree.specs.Rows.{Row, count_of_key, around, ancestors}
 use Rattle.view_tree.specs.node.Nodes.{PlainNode, RepresentsPart, RepresentsTree}
-use Rattle.view_tree.proofs.forest.KeyLaws.{times_self}
-use Rattle.view_tree.proofs.nodes.PrunedPart.{own_more}
+use Rattle.view_tree.proofs.forest.KeyLaws.{own_more, times_self}
 use Rattle.view_tree.proofs.forest.Forests.{some_is}
 
 -- the nearest, if they are listed with the nearest first

@@ -1,8 +1,14 @@
 -- Edits of trees by a test, and what they keep, whatever the rows are.
-use Rattle.std.proofs.Common.{◌≡◌, Bool, ◌∷◌, map, refl, ap, inl, inr}
+use Rattle.std.proofs.Common.{◌≡◌, ℕ, Bool, ◌∷◌, map, refl, ap, inl, inr}
 use Rattle.std.proofs.lemmas.Bool.{cases_Bool}
 use Rattle.std.proofs.lemmas.List.{map-append}
-use Rattle.view_model.specs.Forest.{Forest, Nothing, Branch, EveryBranch, EveryRow, edited_where, grown_where, joined, map_rows, or_else, rows}
+use Rattle.std.specs.Prelude.{◌==◌, if◌then◌else◌}
+use Rattle.view_model.specs.Forest.{Forest, Nothing, Branch, EveryBranch, EveryRow, edited_where, grown_where, joined, map_rows, or_else, rows, sum_of}
+use Rattle.view_model.specs.PlainTree.{PlainView}
+
+-- how many views have a number
+abbrev pub times_in : ℕ → Forest PlainView → ℕ
+times_in number tree = sum_of (λ (view : PlainView). if view.number == number then 1 else 0) tree
 
 -- what holds of every row of two lists, with what is below it, holds of every row of both together
 pub every_branch-joined : {R : Type 0} (P : R → Forest R → Type 0) (list more : Forest R) → EveryBranch P list → EveryBranch P more → EveryBranch P (joined list more)

@@ -13,6 +13,13 @@ zero_or_more (suc n) = inr (omega arith)
 pub times_self : (row : Row) (kids siblings : Forest Row) → 0 < count_of_key row.key (Branch row kids siblings)
 times_self row kids siblings = rw (eq-eqb row.key row.key refl) (omega arith)
 
+pub own_more : (row : Row) (kids siblings : Forest Row) (key : ℕ) → row.key ≡ key → count_of_key key kids + count_of_key key siblings < count_of_key key (Branch row kids siblings)
+own_more row kids siblings key e = rw (eq-eqb row.key key e) (omega arith)
+
+pub other_key : (k : ℕ) (row : Row) (kids siblings : Forest Row) → count_of_key k (Branch row kids siblings) ≤ 1 → 0 < count_of_key k kids + count_of_key k siblings → row.key ≡ k → ⊥
+other_key k row kids siblings once h e = let o : (if row.key == k then 1 else 0) + (count_of_key k kids + count_of_key k siblings) ≤ 1 = once in
+    let p = rw (eq-eqb row.key k e) at o in absurd (omega arith)
+
 pub number_self : (row : Row) (kids siblings : Forest Row) → 0 < count_of_number row.view.number (Branch row kids siblings)
 number_self row kids siblings = rw (eq-eqb row.view.number row.view.number refl) (omega arith)
 

@@ -4,9 +4,10 @@ use Rattle.std.specs.Prelude.{if◌then◌else◌}
 use Rattle.std.specs.Option.{option_or}
 use Rattle.view_model.specs.Forest.{Forest, Nothing}
 use Rattle.view_model.specs.PlainTree.{PlainView}
+use Rattle.view_tree.proofs.forest.PlainLaws.{or_none}
 use Rattle.view_tree.specs.Rows.{Row, count_of_key, part_from, head_view, children_of_first, later_siblings, first_tree, key_where}
 use Rattle.view_tree.proofs.forest.KeyLaws.{located}
-use Rattle.view_tree.proofs.forest.SearchLaws.{or_none, search}
+use Rattle.view_tree.proofs.forest.SearchLaws.{search}
 
 -- a view that passes is the first that does
 pub search_first : (passes : PlainView → Bool) (k : ℕ) (t : Forest Row) → 0 < count_of_key k t → passes (head_view (part_from k t)) ≡ true
@@ -22,7 +23,7 @@ pub search_below : (passes : PlainView → Bool) (k : ℕ) (t : Forest Row) → 
 search_below passes k t live pass =
     let f = located k t live in
     let own : passes f.row.view ≡ false = rw f.is at pass in
-    rw (f.is, search passes f.row f.kids Nothing, own) (or_none passes (key_where passes f.kids))
+    rw (f.is, search passes f.row f.kids Nothing, own) (or_none (key_where passes f.kids))
 
 -- a view with all below it, and then its later siblings
 pub search_siblings : (passes : PlainView → Bool) (k : ℕ) (t : Forest Row) → 0 < count_of_key k t

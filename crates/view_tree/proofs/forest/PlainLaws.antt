@@ -252,6 +252,10 @@ pub first_view-or_else : (first second : Forest PlainView) → first_view (or_el
 first_view-or_else Nothing second = refl
 first_view-or_else (Branch view kids siblings) second = refl
 
+pub or_none : {X : Type 0} (first : Option X) → option_or first None ≡ first
+or_none None = refl
+or_none (Some x) = refl
+
 pub option_map-or : {X Y : Type 0} (f : X → Y) (first second : Option X) → option_map f (option_or first second) ≡ option_or (option_map f first) (option_map f second)
 option_map-or f None second = refl
 option_map-or f (Some x) second = refl

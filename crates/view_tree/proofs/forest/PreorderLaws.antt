@@ -9,9 +9,8 @@ use Rattle.view_model.specs.PlainTree.{PlainView}
 use Rattle.view_tree.specs.Views.{IsLive, Views, held_of, offset_of, plain_of, scrolled, view_at}
 use Rattle.view_tree.specs.Rows.{Row, ancestors, around, children_of_first, count_of_key, first_key, first_tree, head_view, later_siblings, part_from}
 use Rattle.view_tree.proofs.forest.AncestorLaws.{around_after, around_below, around_here, left}
-use Rattle.view_tree.proofs.forest.KeyLaws.{located, or_else_live, absent, times_self}
+use Rattle.view_tree.proofs.forest.KeyLaws.{located, or_else_live, absent, times_self, own_more}
 use Rattle.view_tree.proofs.forest.PlainLaws.{plain-rows}
-use Rattle.view_tree.proofs.nodes.PrunedPart.{own_more}
 
 -- how often a key occurs in a list
 abbrev pub key_count : ℕ → List Row → ℕ

@@ -34,10 +34,6 @@ module _ (passes : PlainView → Bool) where
     | inr ne ↦ rw (put_there k f row kids siblings ne, search row (changed_at_key k f kids) (changed_at_key k f siblings), search row kids siblings, search-put k f same kids, search-put k f same siblings)
   ]
 
-  pub or_none : (o : Option ℕ) → option_or o None ≡ o
-  or_none None = refl
-  or_none (Some x) = refl
-
   search-join : (list new : Forest Row) → key_where passes new ≡ None → key_where passes (joined list new) ≡ key_where passes list
   search-join Nothing new other = other
   search-join (Branch row kids siblings) new other = rw (search row kids (joined siblings new), search row kids siblings, search-join siblings new other)

@@ -4,9 +4,8 @@ use Rattle.std.specs.Prelude.{IfSome}
 use Rattle.view_model.specs.Forest.{Forest, Nothing, Branch, count_of}
 use Rattle.view_tree.specs.Rows.{Row, count_of_key, part_from, rest_from, later_siblings, children_of_first, first_tree}
 use Rattle.view_tree.specs.Views.{Held, KeepsInside, KeepsOutside}
-use Rattle.view_tree.proofs.nodes.PrunedPart.{own_more}
 use Rattle.view_tree.proofs.forest.Forests.{count-within, count_alone, live_after, live_below, times_from}
-use Rattle.view_tree.proofs.forest.KeyLaws.{located, times_self}
+use Rattle.view_tree.proofs.forest.KeyLaws.{located, own_more, times_self}
 
 pub count_of-parts : (list : Forest Row) → count_of list ≡ count_of (first_tree list) + count_of (later_siblings list)
 count_of-parts Nothing = omega arith

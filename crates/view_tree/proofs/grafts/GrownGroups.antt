@@ -18,6 +18,8 @@ use Rattle.view_model.specs.Growth.{grown_at}
 use Rattle.view_model.specs.PlainTree.{PlainView, grown}
 use Rattle.view_model.specs.Refusals.{PlainRefusal}
 use Rattle.view_model.specs.Sprouts.{IsPreorder, Seed, numbered, preorder, seeds_of, sprout_of}
+use Rattle.view_tree.proofs.forest.ForestLaws.{times_in}
+use Rattle.view_tree.proofs.forest.PlainLaws.{or_none}
 use Rattle.view_tree.specs.declared.sibling_orders.SiblingOrders.{SiblingOrders}
 use Rattle.view_tree.specs.sibling_orders.Cycles.{HasNoCycle, IsFree}
 use Rattle.view_tree.specs.tree.Directions.{is_rtl_at}
@@ -32,13 +34,9 @@ use Rattle.view_tree.proofs.grafts.SownSprouts.{earlier, live_earlier}
 use Rattle.view_tree.proofs.grafts.SproutGroups.{AllKept, all_kept, cycle-forest, grouped-forest, noted-append, noted-early, own_kept, own_past}
 use Rattle.view_tree.proofs.orders.CycleLaws.{no_cycle}
 use Rattle.view_tree.proofs.orders.FirstCycles.{no_first_cycle}
-use Rattle.view_tree.proofs.orders.ListLaws.{each-grown, each-joined, edited_nowhere, every_by, times_in}
+use Rattle.view_tree.proofs.orders.ListLaws.{each-grown, each-joined, edited_nowhere, every_by}
 use Rattle.view_tree.proofs.orders.RowLaws.{every_within, links-plain, numbered_at, numbers-plain, times-plain}
 use Rattle.view_tree.proofs.orders.TreeLaws.{Groups, grouped-grown, kept_along}
-
-or_none : (reason : Option PlainRefusal) → option_or reason None ≡ reason
-or_none None = refl
-or_none (Some refusal) = refl
 
 -- the outermost view of a sapling is its only tree
 outermost : (sprout : Sprout) (more : List Sprout) (seed : Seed) (kids : List Sprout) → sprout ∷ more ≡ sprout_of 1 seed ∷ kids → sprout ≡ sprout_of 1 seed

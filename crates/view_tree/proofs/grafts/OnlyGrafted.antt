@@ -13,6 +13,7 @@ use Rattle.view_model.specs.Forest.{Forest, Nothing, Branch, count_of, joined, s
 use Rattle.view_model.specs.Growth.{grown_at}
 use Rattle.view_model.specs.PlainTree.{PlainView, grown}
 use Rattle.view_model.specs.Sprouts.{IsPreorder, Seed, numbered, preorder, seeds_of, view_of}
+use Rattle.view_tree.proofs.forest.ForestLaws.{times_in}
 use Rattle.view_tree.specs.declared.sibling_orders.SiblingOrders.{SiblingOrders}
 use Rattle.view_tree.specs.tree.Directions.{is_rtl_at}
 use Rattle.view_tree.specs.tree.Grafting.{AreEntries, AreGrafted, links_following, links_then, noted, numbers_following, numbers_then, sprout_link}
@@ -23,7 +24,6 @@ use Rattle.view_tree.proofs.forest.KeyLaws.{located, number_live}
 use Rattle.view_tree.proofs.grafts.GrownGroups.{own_apart}
 use Rattle.view_tree.proofs.grafts.SproutGroups.{noted-append}
 use Rattle.view_tree.proofs.orders.IdPlaces.{count_there}
-use Rattle.view_tree.proofs.orders.ListLaws.{times_in}
 use Rattle.view_tree.proofs.orders.OnlyLayouts.{counted, layout_is}
 use Rattle.view_tree.proofs.orders.RowLaws.{times-plain}
 use Rattle.view_tree.proofs.orders.TreeLaws.{Groups}

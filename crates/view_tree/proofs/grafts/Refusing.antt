@@ -11,6 +11,7 @@ use Rattle.view_model.specs.Grafts.{at_element, refusal_below}
 use Rattle.view_model.specs.Growth.{growth_refusal}
 use Rattle.view_model.specs.Refusals.{PlainRefusal}
 use Rattle.view_model.specs.Sprouts.{Seed, preorder}
+use Rattle.view_tree.proofs.forest.PlainLaws.{or_none}
 use Rattle.view_tree.proofs.grafts.Paths.{last_earlier, last_own, with_last}
 
 -- an element that has no reason
@@ -42,10 +43,6 @@ pub record Passed (depth place count element : ℕ) (class : Class) (occupied : 
 or_assoc : (a b c : Option PlainRefusal) → option_or (option_or a b) c ≡ option_or a (option_or b c)
 or_assoc None b c = refl
 or_assoc (Some x) b c = refl
-
-or_none : (a : Option PlainRefusal) → option_or a None ≡ a
-or_none None = refl
-or_none (Some x) = refl
 
 pub passed : (depth place before count element : ℕ) (class : Class) (occupied : Bool) (path : ℕ → Class) (list : Forest Seed) (rest : List Sprout) → path place ≡ class
     → place < before → nat_le (suc (suc place)) before ≡ occupied

@@ -1,5 +1,5 @@
 -- What a sapling is as a tree, and why it is refused.
-use Rattle.std.proofs.Common.{◌≡◌, ℕ, suc, ◌+◌, ◌-◌, Bool, true, false, List, [], ◌∷◌, ◌++◌, length, take, drop, Option, Some, None, refl, sym, ◌∙◌, ap, subst, arith}
+use Rattle.std.proofs.Common.{◌≡◌, ℕ, suc, ◌+◌, ◌-◌, Bool, true, false, List, [], ◌∷◌, ◌++◌, length, take, drop, Some, None, refl, sym, ◌∙◌, ap, subst, arith}
 use Rattle.std.proofs.lemmas.Bool.{ltb-true}
 use Rattle.std.proofs.lemmas.List.{append-nil, take_all}
 use Rattle.std.specs.Prelude.{nat_le, nat_lt}
@@ -10,14 +10,13 @@ use Rattle.view_model.specs.Forest.{Forest, Nothing, Branch, count_of}
 use Rattle.view_model.specs.Grafts.{at_element, graft_refusal, refusal_below, refusal_below_of}
 use Rattle.view_model.specs.Growth.{growth_refusal}
 use Rattle.view_model.specs.PlainTree.{depth_of, has_child}
-use Rattle.view_model.specs.Refusals.{PlainRefusal}
 use Rattle.view_model.specs.Sprouts.{IsPreorder, Seed, follows, is_preorder, preorder, seeds_of, sprout_of}
 use Rattle.view_model.proofs.SproutLaws.{preorder-seeds_of}
 use Rattle.view_tree.specs.Rows.{ancestors, has_kids}
 use Rattle.view_tree.specs.Views.{Views, IsLive, IsTree, class_of, held_of, number_of, plain_of}
 use Rattle.view_tree.proofs.forest.ChildLaws.{has_child_live}
 use Rattle.view_tree.proofs.forest.DepthLaws.{depth_live}
-use Rattle.view_tree.proofs.forest.PlainLaws.{number_there, plain-count}
+use Rattle.view_tree.proofs.forest.PlainLaws.{number_there, or_none, plain-count}
 use Rattle.view_tree.proofs.grafts.Paths.{both}
 
 -- one view, and what is below it
@@ -58,10 +57,6 @@ pub rest_is : (sprouts : List Sprout) (first : Sprout) (more : List Sprout) → 
 rest_is sprouts first more is =
     let one : suc (length more) - 1 ≡ length more = omega arith in
     rw (is, one) (sym (take_all (length more) more (omega arith)))
-
-or_none : (reason : Option PlainRefusal) → option_or reason None ≡ reason
-or_none None = refl
-or_none (Some refusal) = refl
 
 -- why it is refused as the root
 pub refusal_as_root : (views : Views) (sprouts : List Sprout) (shape : Shaped sprouts) (count : ℕ) → count ≡ count_of views.tree

@@ -3,12 +3,12 @@ use Rattle.std.proofs.Common.{◌≡◌, ◌≢◌, ℕ, ◌+◌, ◌<◌, ◌�
 use Rattle.std.proofs.lemmas.Bool.{eq-eqb, ne_eqb, cases_eq}
 use Rattle.view_model.specs.PlainTree.{PlainView}
 use Rattle.view_model.specs.Forest.{Forest, Nothing, Branch}
+use Rattle.view_tree.proofs.forest.KeyLaws.{own_more}
 use Rattle.view_tree.specs.Rows.{Row, count_of_key, first_key, last_key_or, changed_at_key}
 use Rattle.view_tree.specs.node.Nodes.{PlainNode, RepresentsPart, RepresentsTree, links_for}
 use Rattle.view_tree.proofs.values.KeptLaws.{later_siblings-put}
 use Rattle.view_tree.proofs.forest.NumberLaws.{count_of_key-put, count-put}
 use Rattle.view_tree.proofs.nodes.ChildEdits.{RepresentsPart-along}
-use Rattle.view_tree.proofs.nodes.PrunedPart.{own_more}
 
 module _ (k : ℕ) (f : PlainView → PlainView) where
   pub put_here : (row : Row) (kids siblings : Forest Row) → row.key ≡ k

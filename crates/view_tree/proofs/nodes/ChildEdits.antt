@@ -6,7 +6,7 @@ use Rattle.view_model.specs.Forest.{Forest, Nothing, Branch, edited_where, joine
 use Rattle.view_tree.specs.Rows.{Row, count_of_key, first_key, last_key_or, grown_at_key, later_siblings}
 use Rattle.view_tree.specs.node.Nodes.{PlainNode, RepresentsPart, links_for}
 use Rattle.view_tree.proofs.values.KeptLaws.{later_siblings-edited}
-use Rattle.view_tree.proofs.forest.KeyLaws.{Within, here, in_below, in_after, count_of_key-within, times_self}
+use Rattle.view_tree.proofs.forest.KeyLaws.{Within, here, in_below, in_after, count_of_key-within, times_self, own_more, other_key}
 use Rattle.view_tree.proofs.forest.NumberLaws.{edited_absent}
 
 -- the tree with other children of the view of this key
@@ -42,16 +42,9 @@ pub edit_here : (k : ℕ) (g : Forest Row → Forest Row) (row : Row) (kids sibl
     → edit_kids k g (Branch row kids siblings) ≡ Branch row (g kids) siblings
 edit_here k g row kids siblings e = rw (eq-eqb row.key k e)
 
-other_key : (k : ℕ) (row : Row) (kids siblings : Forest Row) → count_of_key k (Branch row kids siblings) ≤ 1 → 0 < count_of_key k kids + count_of_key k siblings → row.key ≡ k → ⊥
-other_key k row kids siblings once h e = let o : (if row.key == k then 1 else 0) + (count_of_key k kids + count_of_key k siblings) ≤ 1 = once in
-    let p = rw (eq-eqb row.key k e) at o in absurd (omega arith)
-
 pub edit_there : (k : ℕ) (g : Forest Row → Forest Row) (row : Row) (kids siblings : Forest Row) → (row.key ≡ k → ⊥)
     → edit_kids k g (Branch row kids siblings) ≡ Branch row (edit_kids k g kids) (edit_kids k g siblings)
 edit_there k g row kids siblings ne = rw (ne_eqb row.key k ne)
-
-times_own : (row : Row) (kids siblings : Forest Row) → count_of_key row.key kids + count_of_key row.key siblings < count_of_key row.key (Branch row kids siblings)
-times_own row kids siblings = rw (eq-eqb row.key row.key refl) (omega arith)
 
 node-children_of_first : (k : ℕ) (g : Forest Row → Forest Row) (row : Row) (p q : Option ℕ) (kids siblings : Forest Row)
     → links_for row p q kids siblings ≡ links_for row p q (edit_kids k g kids) siblings
@@ -80,7 +73,7 @@ module _ (at new : ℕ → Option PlainNode) (k : ℕ) (g : Forest Row → Fores
       let tb = count_of_key-within k w in
       let ne = other_key k row' kids' siblings' (once k) (omega (arith, here-count_of_key)) in
       let z : count_of_key k siblings' ≡ 0 = let o = once k in omega (arith, here-count_of_key) in
-      let out : count_of_key row'.key (Branch row kids Nothing) ≡ 0 = let o = once row'.key in let t = count_of_key-within row'.key w in omega (arith, times_own row' kids' siblings') in
+      let out : count_of_key row'.key (Branch row kids Nothing) ≡ 0 = let o = once row'.key in let t = count_of_key-within row'.key w in omega (arith, own_more row' kids' siblings' row'.key refl) in
       rw (edit_there k g row' kids' siblings' ne, edit_absent k g siblings' z) (
         others row'.key (times_self row' kids' siblings') out ∙ s.0 ∙ ap (λ n. Some n) (node-children_of_first k g row' p q kids' siblings'),
         RepresentsPart-edit kids' (Some row'.key) None w (λ x. let o = once x in omega arith) (λ x h o. others x (omega arith) o) s.1,
@@ -90,7 +83,7 @@ module _ (at new : ℕ → Option PlainNode) (k : ℕ) (g : Forest Row → Fores
       let tb = count_of_key-within k w in
       let ne = other_key k row' kids' siblings' (once k) (omega (arith, here-count_of_key)) in
       let z : count_of_key k kids' ≡ 0 = let o = once k in omega (arith, here-count_of_key) in
-      let out : count_of_key row'.key (Branch row kids Nothing) ≡ 0 = let o = once row'.key in let t = count_of_key-within row'.key w in omega (arith, times_own row' kids' siblings') in
+      let out : count_of_key row'.key (Branch row kids Nothing) ≡ 0 = let o = once row'.key in let t = count_of_key-within row'.key w in omega (arith, own_more row' kids' siblings' row'.key refl) in
       rw (edit_there k g row' kids' siblings' ne, edit_absent k g kids' z) (
         others row'.key (times_self row' kids' siblings') out ∙ s.0 ∙ ap (λ n. Some n) (node-later_siblings k g row' p q kids' siblings'),
         RepresentsPart-along at new (Some row'.key) None kids' (λ x h. others x (omega arith) (let o = once x in let t = count_of_key-within x w in omega arith)) s.1,

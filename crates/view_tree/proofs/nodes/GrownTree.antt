@@ -7,11 +7,10 @@ use Rattle.view_model.specs.Layout.{unscrolled}
 use Rattle.view_model.specs.PlainTree.{PlainView}
 use Rattle.view_tree.specs.Rows.{Row, count_of_key, first_key, last_key_or, last_key, grown_at_key, leaf, later_siblings}
 use Rattle.view_tree.specs.node.Nodes.{PlainNode, RepresentsPart, RepresentsTree, links_for, linked, key_or, last_child, last_named, changed_at, with_node}
-use Rattle.view_tree.proofs.forest.KeyLaws.{count_of_key-within, times_self, zero_or_more}
+use Rattle.view_tree.proofs.forest.KeyLaws.{count_of_key-within, own_more, times_self, zero_or_more}
 use Rattle.view_tree.proofs.forest.NumberLaws.{count_of_key-grown, count-grown}
 use Rattle.view_tree.proofs.forest.Forests.{Seen, seen, some_is}
 use Rattle.view_tree.proofs.nodes.ChildEdits.{edit_kids, RepresentsPart-along, RepresentsPart-edit, first_key-edit, later_siblings-edit, grown_edit}
-use Rattle.view_tree.proofs.nodes.PrunedPart.{own_more}
 use Rattle.view_tree.proofs.forest.SiblingLaws.{last_in, last_there}
 use Rattle.view_tree.proofs.nodes.ChangedNodes.{changed_not, changed_is, with_node_not, with_node_is}
 

@@ -1,8 +1,11 @@
 -- What a table has for an id, once a view has got the id or lost it.
-use Rattle.std.proofs.Common.{◌≡◌, ◌≢◌, ℕ, ◌+◌, ◌-◌, ◌%◌, ◌^◌, ◌<◌, ◌≤◌, true, Option, Some, None, refl, sym, ◌∙◌, ap, arith, inl, inr}
+use Rattle.std.proofs.Common.{◌≡◌, ◌≢◌, ℕ, List, ◌+◌, ◌-◌, ◌%◌, ◌^◌, ◌<◌, ◌≤◌, true, Option, Some, None, refl, sym, ◌∙◌, ap, arith, inl, inr}
 use Rattle.std.proofs.lemmas.Bool.{eq-eqb, ne_eqb, cases_eq, lt-ltb}
 use Rattle.std.proofs.Math.Nat.{add-mod_right, mod-add-mod}
-use Rattle.std.specs.Prelude.{◌==◌, if◌then◌else◌, nat_lt, IfSome}
+use Rattle.std.proofs.lemmas.Map.Made.{IfSome-lookup_key_same}
+use Rattle.std.specs.Cmp.{unsigned_Decides}
+use Rattle.std.specs.Map.{lookup_key}
+use Rattle.std.specs.Prelude.{◌==◌, if◌then◌else◌, nat_eq, nat_lt, IfSome}
 use Rattle.view_model.specs.Numbers.{max_views}
 use Rattle.view_tree.specs.declared.table.ids.Holders.{Holders}
 use Rattle.view_tree.proofs.forest.Forests.{some_is}
@@ -131,3 +134,7 @@ held_one id n sum held ne is one = elim (cases_eq n 0) [
       let own = some_is is in
       (ap (λ (h : Holders). h.count) own ∙ one, ap (λ (h : Holders). h.sum) (sym own))
 ]
+
+-- an id is stored under itself
+pub stored_id : (id : ℕ) (entries : List (ℕ × Holders)) → IfSome (lookup_key (nat_eq id) entries) (λ k. k ≡ id)
+stored_id id entries = IfSome-lookup_key_same unsigned_Decides id entries

@@ -29,7 +29,7 @@ use Rattle.view_tree.proofs.forest.NumberLaws.{count-put, count_of_key-put}
 use Rattle.view_tree.proofs.nodes.ChangedTree.{put_represents}
 use Rattle.view_tree.proofs.forest.SearchLaws.{search-put}
 
-len_write : (slots : List (Option Node)) (k : ℕ) (m : Node) → IsSome (slice_index_or slots k None)
+pub len_write : (slots : List (Option Node)) (k : ℕ) (m : Node) → IsSome (slice_index_or slots k None)
     → count_by is_some (slice_set slots k (Some m)) ≡ count_by is_some slots
 len_write slots k m h = grind (arith, common_steps)
 

@@ -5,13 +5,10 @@ use Rattle.std.specs.Prelude.{◌==◌, if◌then◌else◌}
 use Rattle.view_model.specs.Forest.{Forest, Nothing, Branch, count_of, or_else}
 use Rattle.view_tree.specs.Rows.{Row, count_of_key, first_key, last_key_or, pruned_at_key, part_from, children_of_first, At_first, Later, Later_on}
 use Rattle.view_tree.specs.node.Nodes.{PlainNode, RepresentsPart, links_for, replaced_if_none}
-use Rattle.view_tree.proofs.forest.KeyLaws.{Within, here, in_below, in_after, count_of_key-within, times_self, located, absent}
+use Rattle.view_tree.proofs.forest.KeyLaws.{Within, here, in_below, in_after, count_of_key-within, times_self, located, absent, own_more}
 use Rattle.view_tree.proofs.nodes.ChildEdits.{edit_kids, RepresentsPart-along, edit_absent, edit_here, edit_there}
 use Rattle.view_tree.proofs.forest.Forests.{some_is}
 use Rattle.view_tree.proofs.forest.NumberLaws.{cut_absent}
-
-pub own_more : (row : Row) (kids siblings : Forest Row) (x : ℕ) → row.key ≡ x → count_of_key x kids + count_of_key x siblings < count_of_key x (Branch row kids siblings)
-own_more row kids siblings x e = rw (eq-eqb row.key x e) (omega arith)
 
 -- u is among the children of a view
 pub record Home (u t : Forest Row) : Type 0 where

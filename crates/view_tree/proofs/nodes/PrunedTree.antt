@@ -4,10 +4,10 @@ use Rattle.view_model.specs.Forest.{Forest, Nothing, Branch}
 use Rattle.view_tree.specs.Rows.{Row, count_of_key, first_key, pruned_at_key, later_siblings, Later_on, At_first, Later}
 use Rattle.view_tree.proofs.nodes.ChangedNodes.{changed_not, changed_is, without_not}
 use Rattle.view_tree.specs.node.Nodes.{PlainNode, RepresentsPart, RepresentsTree, links_for, replaced_if_none, unlinked, IsAround}
-use Rattle.view_tree.proofs.forest.KeyLaws.{count_of_key-within, times_self, located, Located}
+use Rattle.view_tree.proofs.forest.KeyLaws.{count_of_key-within, times_self, located, Located, own_more}
 use Rattle.view_tree.proofs.forest.Forests.{RepresentsPart-within, some_is}
 use Rattle.view_tree.proofs.nodes.ChildEdits.{edit_kids, RepresentsPart-edit, later_siblings-edit, first_key-edit}
-use Rattle.view_tree.proofs.nodes.PrunedPart.{own_more, Home, up, count_of_key-later, Beside, RepresentsPart-later, RepresentsPart-pruned_at_key, before_out, before_there, next_there, cut_first, cut_last, cut_edit, cut_here}
+use Rattle.view_tree.proofs.nodes.PrunedPart.{Home, up, count_of_key-later, Beside, RepresentsPart-later, RepresentsPart-pruned_at_key, before_out, before_there, next_there, cut_first, cut_last, cut_edit, cut_here}
 use Rattle.view_tree.proofs.forest.NumberLaws.{count_of_key-cut_le, count-cut_le}
 
 -- if the parent and the siblings beside it are apart, what each node holds

@@ -11,10 +11,9 @@ use Rattle.view_tree.specs.node.Turning.{HaveTurned, IsPart, RunsBelow, part_at,
 use Rattle.view_tree.specs.Views.{AreDirected}
 use Rattle.view_tree.specs.declared.node.Node.{Node}
 use Rattle.view_tree.proofs.forest.Forests.{count-within, forest_is, part, some_is}
-use Rattle.view_tree.proofs.forest.KeyLaws.{Within, count_of_key-within, here, in_after, in_below, times_self}
+use Rattle.view_tree.proofs.forest.KeyLaws.{Within, count_of_key-within, here, in_after, in_below, times_self, own_more}
 use Rattle.view_tree.proofs.nodes.ChildEdits.{RepresentsPart-along}
 use Rattle.view_tree.proofs.nodes.NodeReads.{Says, says}
-use Rattle.view_tree.proofs.nodes.PrunedPart.{own_more}
 use Rattle.view_tree.proofs.nodes.TurnedNodes.{At_rest, Past, TurnedUntil, still_turned, turned_other, turned_still, until_end, until_on}
 
 -- a part by its first view

@@ -1,8 +1,7 @@
 -- The fields of a tree once a view has got a direction, and what inherits from it has turned.
-use Rattle.std.proofs.Common.{◌≡◌, ℕ, suc, ◌<◌, ◌≤◌, Bool, true, false, List, [], Option, Some, None, IsSome, slice_set, refl, sym, ◌∙◌, ap, subst, arith, inl, inr}
-use Rattle.std.proofs.lemmas.Grind.{common_steps}
+use Rattle.std.proofs.Common.{◌≡◌, ℕ, suc, ◌<◌, ◌≤◌, Bool, true, false, [], Option, Some, None, refl, sym, ◌∙◌, ap, subst, arith, inl, inr}
 use Rattle.std.proofs.lemmas.Bool.{cases_eq}
-use Rattle.std.specs.Prelude.{◌==◌, if◌then◌else◌, count_by, is_some, slice_index_or}
+use Rattle.std.specs.Prelude.{◌==◌, if◌then◌else◌}
 use Rattle.slab.specs.Slab.{Slab, Updates, get, slab_len, with_value}
 use Rattle.slab.proofs.SlabLemmas.{Updates-with_value}
 use Rattle.view_model.specs.Numbers.{max_views}
@@ -12,7 +11,8 @@ use Rattle.view_model.specs.Directed.{directed, with_direction as plain_with_dir
 use Rattle.view_model.specs.Direction.{dir}
 use Rattle.view_model.specs.Forest.{Forest, Nothing, Branch, count_of}
 use Rattle.view_model.specs.PlainTree.{PlainView}
-use Rattle.view_tree.specs.tree.Directions.{directed_rows, is_rtl_above, with_direction}
+use Rattle.view_tree.proofs.nodes.NodeWrites.{len_write}
+use Rattle.view_tree.specs.tree.Directions.{directed_rows, is_rtl_above, turned_keys, with_direction}
 use Rattle.view_tree.specs.node.Nodes.{IsPlanted, IsSoundTree, PlainNode, RepresentsTree, forest, held_in, links_at, links_in, tree_of, value_of}
 use Rattle.view_tree.specs.sibling_orders.Ordering.{HasNoOther, IsGrouped, group_at}
 use Rattle.view_tree.specs.Rows.{Row, changed_at_key, count_of_key, first_tree, key_where, part_from}
@@ -28,14 +28,10 @@ use Rattle.view_tree.proofs.forest.NumberLaws.{count_of_key-put}
 use Rattle.view_tree.proofs.forest.PlainLaws.{agree_live, plain-change_facts, plain_along}
 use Rattle.view_tree.proofs.nodes.ChangedTree.{put_represents}
 use Rattle.view_tree.proofs.nodes.NodeReads.{held_view, is_tree, link_for, named_for, represents_for}
-use Rattle.view_tree.proofs.nodes.TurnedHeld.{among_absent, forced_if, held_turned, turned_keys}
+use Rattle.view_tree.proofs.nodes.TurnedHeld.{among_absent, forced_if, held_turned}
 use Rattle.view_tree.proofs.nodes.TurnedNodes.{first_key-directed, represents_turned}
 use Rattle.view_tree.proofs.nodes.TurnedTree.{Alike, alike_directed, alike_put, count-alike, count_of_key-alike, grouped-alike, holders_of-alike, is_tree-alike, key_where-alike, later_siblings-alike, only-alike}
 use Rattle.view_tree.proofs.nodes.TurnedWhole.{above_in, above_is, part_few, part_from-directed, part_with, whole_turned}
-
-len_write : (slots : List (Option Node)) (k : ℕ) (m : Node) → IsSome (slice_index_or slots k None)
-    → count_by is_some (slice_set slots k (Some m)) ≡ count_by is_some slots
-len_write slots k m h = grind (arith, common_steps)
 
 -- a node with this direction
 abbrev pub node_with : Direction → Node → Node

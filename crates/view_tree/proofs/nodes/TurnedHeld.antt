@@ -6,6 +6,7 @@ use Rattle.view_model.specs.Direction.{dir}
 use Rattle.view_model.specs.Directed.{turned}
 use Rattle.view_model.specs.Forest.{Forest, Nothing, Branch}
 use Rattle.view_tree.specs.node.Nodes.{PlainNode, RepresentsPart, held_by, held_in, links_for, links_in}
+use Rattle.view_tree.specs.tree.Directions.{turned_keys}
 use Rattle.view_tree.specs.tree.Requests.{among, forced_one}
 use Rattle.view_tree.specs.Rows.{Row, count_of_key}
 use Rattle.view_tree.specs.node.Turning.{HaveTurned, running_node, runs_so, turned_node}
@@ -13,10 +14,6 @@ use Rattle.view_tree.specs.Views.{Held}
 use Rattle.view_tree.specs.declared.node.Node.{Node}
 use Rattle.view_tree.proofs.forest.KeyLaws.{zero_or_more}
 use Rattle.view_tree.proofs.nodes.NodeReads.{says}
-
--- the keys of those that run another way
-abbrev pub turned_keys : Bool → Forest Row → List ℕ
-turned_keys above list = map (λ (row : Row). row.key) (turned (λ (row : Row). row.view.facts) above list)
 
 -- the own key of a view that does not run as it is to
 abbrev pub own_keys : Bool → ℕ → List ℕ

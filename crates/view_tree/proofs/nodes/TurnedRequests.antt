@@ -6,7 +6,7 @@ use Rattle.std.specs.Prelude.{◌==◌}
 use Rattle.view_model.specs.declared.placing.Direction.{Direction}
 use Rattle.view_model.specs.Direction.{dir}
 use Rattle.view_model.specs.Forest.{Forest, Nothing, Branch}
-use Rattle.view_tree.specs.tree.Directions.{with_direction}
+use Rattle.view_tree.specs.tree.Directions.{turned_keys, with_direction}
 use Rattle.view_tree.specs.tree.Requests.{among, asking, pressed, requested, unforced}
 use Rattle.view_tree.specs.Rows.{Row, ancestors, around, changed_at_key, count_of_key, first_tree, part_from}
 use Rattle.view_tree.specs.node.Turning.{runs_so}
@@ -15,7 +15,7 @@ use Rattle.std.proofs.lemmas.List.{append-nil}
 use Rattle.view_tree.proofs.forest.DirectedLaws.{directed-within}
 use Rattle.view_tree.proofs.forest.KeyLaws.{absent, count_of_key-within, located, or_else_live, times_self, zero_or_more}
 use Rattle.view_tree.proofs.forest.NumberLaws.{put_absent}
-use Rattle.view_tree.proofs.nodes.TurnedHeld.{among-append, keys_parts, own_keys, turned_keys}
+use Rattle.view_tree.proofs.nodes.TurnedHeld.{among-append, keys_parts, own_keys}
 use Rattle.view_tree.proofs.nodes.TurnedNodes.{runs_same, same_runs}
 use Rattle.view_tree.proofs.nodes.TurnedWhole.{above_in, part_few, part_with}
 

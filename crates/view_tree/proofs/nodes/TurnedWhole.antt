@@ -1,5 +1,5 @@
 -- A tree of which one view has got a direction, once the views that inherit from it have turned.
-use Rattle.std.proofs.Common.{◌≡◌, ℕ, ◌+◌, ◌<◌, ◌≤◌, Bool, false, List, ◌∷◌, Option, Some, None, refl, sym, ◌∙◌, ap, subst, arith, inl, inr}
+use Rattle.std.proofs.Common.{◌≡◌, ℕ, ◌<◌, ◌≤◌, Bool, false, List, ◌∷◌, Option, Some, None, refl, sym, ◌∙◌, ap, subst, arith, inl, inr}
 use Rattle.std.proofs.lemmas.Bool.{cases_Bool, cases_eq, eq-eqb, ne_eqb}
 use Rattle.std.specs.Prelude.{◌==◌, if◌then◌else◌, option_map}
 use Rattle.view_model.specs.declared.placing.Direction.{Direction}
@@ -12,7 +12,7 @@ use Rattle.view_tree.specs.node.Turning.{HaveTurned, turned_node}
 use Rattle.view_tree.specs.Views.{AreDirected}
 use Rattle.view_tree.specs.declared.node.Node.{Node}
 use Rattle.view_tree.proofs.forest.Forests.{Within-children_of_first, Within-later_siblings, times_from}
-use Rattle.view_tree.proofs.forest.KeyLaws.{Within, absent, from_within, or_else_live, times_self, zero_or_more}
+use Rattle.view_tree.proofs.forest.KeyLaws.{Within, absent, from_within, or_else_live, times_self, zero_or_more, own_more}
 use Rattle.view_tree.proofs.forest.NumberLaws.{put_absent}
 use Rattle.view_tree.proofs.forest.Walks.{count_of_key-parts}
 use Rattle.view_tree.proofs.nodes.NodeReads.{says}
@@ -101,7 +101,7 @@ module _ (old new : ℕ → Option Node) (view : ℕ) (direction : Direction) wh
                   let below = rw (put_absent view (with_direction direction) kids z) at represents.1 in
                   rw (e, put_absent view (with_direction direction) kids z) (
                     own_still above p q row (changed_at_key view (with_direction direction) kids) (changed_at_key view (with_direction direction) siblings) represents.0 are.0
-                        (rest row.key (let one = once row.key in let self = times_self row kids siblings in let few = part_few view row.key siblings there in let own = times_own row kids siblings in omega arith)),
+                        (rest row.key (let one = once row.key in let self = times_self row kids siblings in let few = part_few view row.key siblings there in let own = own_more row kids siblings row.key refl in omega arith)),
                     still_turned old new (dir above row.view.facts.direction) (Some row.key) None kids below (subst (λ (way : Bool). AreDirected way kids) are.0 are.1)
                         (λ key h. rest key (let one = once key in let few = part_few view key siblings there in omega arith)),
                     whole_turned above p (Some row.key) siblings (λ key. let one = once key in omega arith) there are.2 represents.2 own rest,
@@ -117,12 +117,9 @@ module _ (old new : ℕ → Option Node) (view : ℕ) (direction : Direction) wh
                   subst (λ (way : Bool). HaveTurned old new (above_in way view kids) (first_tree (part_with direction (part_from view kids)))) are.0 own in
                   rw (e, put_absent view (with_direction direction) siblings none) (
                     own_still above p q row (changed_at_key view (with_direction direction) kids) (changed_at_key view (with_direction direction) siblings) represents.0 are.0
-                        (rest row.key (let one = once row.key in let few = part_few view row.key kids there in let own = times_own row kids siblings in omega arith)),
+                        (rest row.key (let one = once row.key in let few = part_few view row.key kids there in let own = own_more row kids siblings row.key refl in omega arith)),
                     whole_turned (dir above row.view.facts.direction) (Some row.key) None kids (λ key. let one = once key in omega arith) there way represents.1 moved rest,
                     still_turned old new above p (Some row.key) siblings after are.2 (λ key h. rest key (let one = once key in let few = part_few view key kids there in omega arith)),
                   )
             ]
       ]
-    where
-      times_own : (row : Row) (kids siblings : Forest Row) → count_of_key row.key kids + count_of_key row.key siblings < count_of_key row.key (Branch row kids siblings)
-      times_own row kids siblings = rw (eq-eqb row.key row.key refl) (omega arith)

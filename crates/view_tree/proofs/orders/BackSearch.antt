@@ -7,8 +7,9 @@ use Rattle.view_model.specs.Cycles.{links_in}
 use Rattle.view_model.specs.Forest.{Forest, Nothing, Branch, count_of}
 use Rattle.view_model.specs.PlainTree.{PlainView}
 use Rattle.view_model.specs.SiblingRules.{last_below, last_with_id, no_link}
+use Rattle.view_tree.proofs.forest.BackwardWalks.{IsChildOf, before, following}
 use Rattle.view_tree.specs.node.Nodes.{has_id}
-use Rattle.view_tree.specs.Rows.{At_first, Later, Later_on, Row, children_of_first, count_of_key, first_key, head_view, last_key, later_siblings, part_from, previous_key, siblings_from, views_of}
+use Rattle.view_tree.specs.Rows.{At_first, Later, Later_on, Row, children_of_first, count_of_key, first_key, head_view, last_key, part_from, previous_key, siblings_from, views_of}
 use Rattle.view_tree.proofs.forest.Backwards.{count-later, count_of_key-later, from_later, kids-within, last_is, last_none, later-within, previous_in, previous_within, within_within}
 use Rattle.view_tree.proofs.forest.KeyLaws.{Within, located, count_of_key-within, times_self}
 
@@ -51,19 +52,6 @@ found_from passes row kids siblings At_first is none = record { place = 0; last 
 found_from passes row kids siblings (Later_on l) is none =
     let more = found_from passes row kids siblings l is none in
     record { place = suc more.place; last = rw more.last refl; first = more.first }
-
--- the children after the next one, and how many views there are up to it
-abbrev pub following : Option ℕ → Forest Row → Forest Row → Forest Row
-following None list tree = list
-following (Some kid) list tree = later_siblings (part_from kid tree)
-
-abbrev pub before : Option ℕ → Forest Row → Forest Row → ℕ
-before None list tree = 0
-before (Some kid) list tree = 1 + count_of list - count_of (part_from kid tree)
-
-pub record IsChildOf (tree list : Forest Row) (kid : ℕ) : Type 0 where
-  pub live : 0 < count_of_key kid tree
-  pub within : Later (part_from kid tree) list
 
 -- so far, no child after `next` passes
 pub record BackSearch (passes : PlainView → Bool) (tree list : Forest Row) (next : Option ℕ) : Type 0 where

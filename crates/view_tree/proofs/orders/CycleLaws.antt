@@ -19,6 +19,7 @@ use Rattle.view_model.specs.declared.relative.Link.{Link}
 use Rattle.view_model.specs.Forest.{Forest, Nothing, Branch, EveryBranch, changed_where, count_of}
 use Rattle.view_model.specs.PlainTree.{PlainView}
 use Rattle.view_model.specs.Refusals.{PlainRefusal, plain_refusal}
+use Rattle.view_tree.proofs.forest.ForestLaws.{times_in}
 use Rattle.view_tree.specs.sibling_orders.Cycles.{AreNewOrders, HasNoCycle, IsCycleReported, IsFree, links_below, view_member}
 use Rattle.view_tree.specs.Faults.{IsRefusedOrCyclic}
 use Rattle.view_tree.specs.sibling_orders.Latest.{AreRising}
@@ -34,7 +35,7 @@ use Rattle.view_tree.proofs.forest.PlainLaws.{agree_live}
 use Rattle.view_tree.proofs.orders.FirstCycles.{HaveCyclesAt, first_at, reported_is}
 use Rattle.view_tree.proofs.orders.HighestLaws.{above_changed, named_more}
 use Rattle.view_tree.proofs.orders.LatestLaws.{reached_changed}
-use Rattle.view_tree.proofs.orders.ListLaws.{IsAmong, among_or_not, among_times, edited_nowhere, each-changed_below, every_by, length-each, times_in}
+use Rattle.view_tree.proofs.orders.ListLaws.{IsAmong, among_or_not, among_times, edited_nowhere, each-changed_below, every_by, length-each}
 use Rattle.view_tree.proofs.orders.RowLaws.{at_within, count_within, each-plain, every_within, few_numbers, group_number-own, numbered_at, numbers-plain, orders_or, times-plain}
 use Rattle.view_tree.proofs.orders.TreeLaws.{Groups, HasParent, Owes, grouped-edited, kept_along}
 

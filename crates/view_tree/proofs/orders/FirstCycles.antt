@@ -1,7 +1,6 @@
 -- The first cycle of a tree, as it is computed, against the relation.
 use Rattle.std.proofs.Common.{◌≡◌, ◌≢◌, ℕ, ◌+◌, Bool, true, List, map, Option, Some, None, refl, sym, ◌∙◌, ap, arith, inl, inr}
 use Rattle.std.proofs.lemmas.Bool.{cases_Bool, cases_eq, eq-eqb, ne_eqb}
-use Rattle.std.specs.Option.{option_or}
 use Rattle.std.specs.Prelude.{slice_index}
 use Rattle.view_model.specs.declared.class.Class.{Class}
 use Rattle.view_model.specs.declared.refusal.Member.{Member}
@@ -11,9 +10,11 @@ use Rattle.view_model.specs.Cycles.{cycle_among, cycle_below, first_cycle, links
 use Rattle.view_model.specs.Forest.{Forest, Nothing, Branch, EveryBranch}
 use Rattle.view_model.specs.PlainTree.{PlainView}
 use Rattle.view_model.specs.Refusals.{Cycle, PlainRefusal}
+use Rattle.view_tree.proofs.forest.ForestLaws.{times_in}
+use Rattle.view_tree.proofs.forest.PlainLaws.{or_none}
 use Rattle.view_tree.specs.sibling_orders.Cycles.{AreCyclic, HasNoCycle, IsCycleReported, IsFree}
 use Rattle.view_tree.proofs.orders.CycleLists.{map_twice, none_of, reported_of}
-use Rattle.view_tree.proofs.orders.ListLaws.{among_times, times_in}
+use Rattle.view_tree.proofs.orders.ListLaws.{among_times}
 
 module _ (name : ℕ → Member) (kids : Forest PlainView) where
   pub none_among : IsFree (links_in kids) → cycle_among name kids ≡ None
@@ -58,10 +59,6 @@ none_away name number reason (Branch view below after) at away = (
   none_away name number reason below at.1 (omega arith),
   none_away name number reason after at.2 (omega arith),
 )
-
-or_none : (reason : Option PlainRefusal) → option_or reason None ≡ reason
-or_none None = refl
-or_none (Some refusal) = refl
 
 -- if one view has it, the first cycle is what is reported of its children
 pub first_at : (name : ℕ → Member) (number : ℕ) (reason : Option PlainRefusal) (tree : Forest PlainView) → HaveCyclesAt name number reason tree → times_in number tree ≡ 1

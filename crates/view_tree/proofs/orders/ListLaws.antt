@@ -2,20 +2,17 @@
 use Rattle.std.proofs.Common.{◌≡◌, ◌≢◌, ◌⊎◌, ℕ, zero, suc, ◌<◌, ◌≤◌, inl, inr, List, [], ◌∷◌, ◌++◌, length, get_or, refl, ◌∙◌, ap, arith}
 use Rattle.std.proofs.lemmas.Bool.{cases_eq, eq-eqb, ne_eqb}
 use Rattle.std.specs.List.{remove}
-use Rattle.std.specs.Prelude.{◌==◌, if◌then◌else◌}
-use Rattle.view_model.specs.Forest.{Forest, Nothing, Branch, EveryBranch, EveryRow, edited_where, changed_where, joined, sum_of}
+use Rattle.std.specs.Prelude.{◌==◌}
+use Rattle.view_model.specs.Forest.{Forest, Nothing, Branch, EveryBranch, EveryRow, edited_where, changed_where, joined}
 use Rattle.view_model.specs.PlainTree.{PlainView, grown, pruned}
 use Rattle.view_model.specs.Cycles.{each, numbers_in}
+use Rattle.view_tree.proofs.forest.ForestLaws.{times_in}
 use Rattle.view_tree.specs.sibling_orders.Ordering.{place_in}
 
 -- a number among the views of a list
 abbrev pub IsAmong : ℕ → Forest PlainView → Type 0
 IsAmong number Nothing = ⊥
 IsAmong number (Branch view below after) = (view.number ≡ number) ⊎ IsAmong number after
-
--- how many views have a number
-abbrev pub times_in : ℕ → Forest PlainView → ℕ
-times_in number tree = sum_of (λ (view : PlainView). if view.number == number then 1 else 0) tree
 
 pub among_times : (number : ℕ) (list : Forest PlainView) → IsAmong number list → 0 < times_in number list
 among_times number Nothing none = absurd none

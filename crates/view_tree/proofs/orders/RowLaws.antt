@@ -10,6 +10,7 @@ use Rattle.view_model.specs.Growth.{grown_at}
 use Rattle.view_model.specs.Orders.{IsOrder}
 use Rattle.view_model.specs.SiblingRules.{no_link}
 use Rattle.view_model.specs.PlainTree.{PlainView, pruned, single}
+use Rattle.view_tree.proofs.forest.ForestLaws.{times_in}
 use Rattle.view_tree.specs.declared.sibling_orders.SiblingOrders.{SiblingOrders}
 use Rattle.view_tree.specs.node.Nodes.{PlainNode, RepresentsPart, RepresentsTree}
 use Rattle.view_model.specs.Classes.{is_relative}
@@ -20,7 +21,7 @@ use Rattle.view_tree.specs.Views.{Held, IsLive, IsTree, Views, class_of, group_n
 use Rattle.view_tree.proofs.forest.Forests.{RepresentsPart-within, Within-children_of_first, Within-later_siblings, some_is}
 use Rattle.view_tree.proofs.forest.KeyLaws.{Agree, Within, from_within, here, in_after, in_below, located, number-within, number_self, count_of_key-within, times_self}
 use Rattle.view_tree.proofs.forest.PlainLaws.{agree_live, plain-count}
-use Rattle.view_tree.proofs.orders.ListLaws.{IsAmong, apart, every_by, times_in}
+use Rattle.view_tree.proofs.orders.ListLaws.{IsAmong, apart, every_by}
 use Rattle.view_tree.proofs.orders.TreeLaws.{Groups, HasParent, group-with, Same, grouped-changed, grouped-grown, grouped-pruned, kept_along}
 
 pub times-plain : (held : ℕ → Held) (number : ℕ) (tree : Forest Row) → times_in number (plain_rows held tree) ≡ count_of_number number tree

@@ -21,9 +21,9 @@ use Rattle.view_tree.specs.sibling_orders.Ordering.{AreOrders, IsGroupOf, IsGrou
 use Rattle.view_tree.specs.sibling_orders.Highest.{IsAboveNamed, IsAboveRules}
 use Rattle.view_tree.specs.sibling_orders.Latest.{AreReached, AreRising, IsReachedIn}
 use Rattle.view_tree.specs.sibling_orders.Indexes.{IsLowered, StaysWithin, passing}
-use Rattle.view_tree.proofs.forest.ForestLaws.{every_branch-joined}
+use Rattle.view_tree.proofs.forest.ForestLaws.{every_branch-joined, times_in}
 use Rattle.view_tree.proofs.orders.LatestLaws.{reached_with, rising_remove, rising_with, straight_with}
-use Rattle.view_tree.proofs.orders.ListLaws.{IsAmong, among_or_not, each-changed, each-grown, each-joined, each-pruned, each-pruned_below, edited_nowhere, every_below, every_both, every_by, length-each, place_past, place_within, times_in}
+use Rattle.view_tree.proofs.orders.ListLaws.{IsAmong, among_or_not, each-changed, each-grown, each-joined, each-pruned, each-pruned_below, edited_nowhere, every_below, every_both, every_by, length-each, place_past, place_within}
 use Rattle.view_tree.proofs.orders.IndexLaws.{IsOrder-add, passes, passing_injective, place_passing}
 
 -- a group is that of other children too, if these are tied alike

@@ -37,9 +37,11 @@ is_rtl_at (Some key) tree = (head_view (part_from key tree)).facts.rtl
 abbrev pub running_below : Option ℕ → Forest Row → PlainView → PlainView
 running_below parent tree view = running (dir (is_rtl_at parent tree) view.facts.direction) view
 
+-- the views that turn, so that each runs as its direction says
+abbrev pub turned_keys : Bool → Forest Row → List ℕ
+turned_keys above list = map (λ (row : Row). row.key) (turned (λ (row : Row). row.view.facts) above list)
+
 -- the views at which a new direction of a view requests layout: itself, and each that runs another way from then on
 abbrev pub asked_by_direction : ℕ → Direction → Forest Row → List ℕ
 asked_by_direction view direction tree =
-    view
-    ∷ map (λ (row : Row). row.key)
-    (turned (λ (row : Row). row.view.facts) false (changed_at_key view (with_direction direction) tree))
+    view ∷ turned_keys false (changed_at_key view (with_direction direction) tree)

@@ -2,7 +2,7 @@
 //!
 //! An id's entry is how many views have it and the sum of their keys: a view that gets or loses an id costs one step,
 //! and the sum is the key where one view has the id. Of several views the first is found by a walk.
-ghost use Rattle.std.specs.Prelude.{◌≡◌, ◌≢◌, ◌≤◌, ◌<◌, ◌+◌, ℕ, Some, None, IfSome, IsOk, OnErr, OnOk, nat_eq, if◌then◌else◌};
+ghost use Rattle.std.specs.Prelude.{◌≡◌, ◌≢◌, ◌≤◌, ◌<◌, ◌+◌, ℕ, Some, None, IfSome, IsOk, OnErr, OnOk, nat_eq, option_map, slice_get, if◌then◌else◌};
 ghost use Rattle.indexmap.specs.IndexMap.{get as holders_at, spare};
 ghost use Rattle.view_model.specs.Numbers.{max_views};
 ghost use Rattle.view_model.specs.Refusals.{IsRefusedExactlyFor};
@@ -89,15 +89,24 @@ pub fn drop_id(ids: &mut IndexMap<u32, Holders>, id: u32, key: usize)
     if id == 0 {
         return;
     }
-    let Some(holders) = ids.get(&id).copied() else {
+    let Some((place, holders)) = find_holders(ids, id) else {
         return;
     };
     match one_less(holders, key) {
         None => {
-            ids.swap_remove(&id);
+            ids.swap_remove_index(place);
         }
         Some(rest) => set_holders(ids, id, rest),
     }
+}
+
+/// The views of an id, and the place of its entry: one look-up serves to read it and to remove it.
+fn find_holders(ids: &IndexMap<u32, Holders>, id: u32) -> Option<(usize, Holders)>
+    ensures views { option_map (λ found. found.1) result ≡ holders_at nat_eq ids.now id }
+    ensures place { IfSome result (λ found. slice_get ids.now.entries found.0 ≡ Some (id, found.1)) }
+{
+    let (place, _, holders) = ids.get_full(&id)?;
+    Some((place, *holders))
 }
 
 /// Records that the view of this key has another id than before.

@@ -12,6 +12,7 @@ use Rattle.size_hooks.specs.Hooks.{armed, disarmed, hook_of}
 use Rattle.traversal.proofs.hooks.ReportedLaws.{Apart, apart_rows}
 use Rattle.traversal.specs.Frames.{differs, fired_in, fires, same_size}
 use Rattle.view_model.specs.Geometry.{Laid, rect_in, size_of_rect}
+use Rattle.view_tree.proofs.forest.PlainLaws.{or_none}
 use Rattle.view_tree.specs.Views.{IsTree, Views, geometry_of, held_of}
 use Rattle.view_world.specs.world.Step.{size_in}
 
@@ -45,10 +46,6 @@ other_hook hook hooks other ne =
     find-append (λ (h : Hook). h.view == other) (disarmed hook.view hooks) (hook ∷ [])
     ∙ ap (λ (found : Option Hook). option_or found (find (λ (h : Hook). h.view == other) (hook ∷ []))) (other_disarmed hook.view other hooks ne)
     ∙ rw (ne_eqb hook.view other (λ e. ne (sym e))) (or_none (hook_of hooks other))
-  where
-    or_none : (found : Option Hook) → option_or found None ≡ found
-    or_none None = refl
-    or_none (Some hook) = refl
 
 -- each view of a list that has this number has this size
 abbrev HasSize : ℕ → Size → List Laid → Type 0

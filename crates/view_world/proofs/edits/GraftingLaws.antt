@@ -22,6 +22,7 @@ use Rattle.view_model.specs.Refusals.{PlainRefusal}
 use Rattle.view_model.specs.Sprouts.{IsPreorder, Seed, numbered, preorder, seeds_of}
 use Rattle.view_model.specs.declared.sprout.Sprout.{Sprout}
 use Rattle.view_model.proofs.SproutLaws.{preorder-seeds_of}
+use Rattle.view_tree.proofs.forest.ForestLaws.{times_in}
 use Rattle.view_tree.specs.Faults.{IsRefusedOrCyclic}
 use Rattle.kept_views.specs.Kept.{IsConsistent}
 use Rattle.view_tree.specs.Views.{IsLive, IsTree, Views, geometry_of, held_of, number_of, plain_of, plain_rows}
@@ -35,7 +36,6 @@ use Rattle.view_world.proofs.edits.GrowingLaws.{placed_root, plain_root}
 use Rattle.world_parts.proofs.touches.GrownCaught.{gesture_grafted}
 use Rattle.view_world.proofs.edits.GrownShown.{nowhere_numbered, shown_come}
 use Rattle.world_parts.proofs.trees.PartCounts.{times-joined}
-use Rattle.world_parts.proofs.trees.ShapeLaws.{times_in}
 use Rattle.view_world.specs.screen.Changed.{CarriesOut}
 use Rattle.world_parts.specs.Faults.{step_fault_of}
 use Rattle.view_world.specs.screen.KeyedScreen.{KeyedScreen}

@@ -16,6 +16,7 @@ use Rattle.tree_edits.specs.Keeping.{KeepsViews}
 use Rattle.tree_edits.specs.declared.edits.Edit.TheVariants as edit
 use Rattle.view_model.specs.Forest.{count_of}
 use Rattle.view_model.specs.PlainTree.{numbers_of, part_of, pruned}
+use Rattle.view_tree.proofs.forest.ForestLaws.{times_in}
 use Rattle.view_tree.proofs.forest.NumberLaws.{sum-pruned_at_key}
 use Rattle.kept_views.specs.Kept.{IsConsistent}
 use Rattle.view_tree.specs.Rows.{Row}
@@ -23,7 +24,6 @@ use Rattle.view_tree.specs.Views.{IsLive, IsTree, Views, geometry_of, held_of, n
 use Rattle.world_parts.proofs.touches.CaughtLaws.{times-plain}
 use Rattle.world_parts.proofs.trees.PartCounts.{none_numbered, times-pruned}
 use Rattle.world_parts.proofs.edits.RemovalLaws.{gesture_removed, part_numbers}
-use Rattle.world_parts.proofs.trees.ShapeLaws.{times_in}
 use Rattle.view_world.specs.screen.Sound.{IsSound}
 use Rattle.world_parts.specs.Touching.{all_closed, is_among}
 use Rattle.view_world.specs.declared.screen.Screen.TheInside.{Inside}

@@ -26,6 +26,7 @@ use Rattle.view_tree.proofs.forest.ForestLaws.{every-edited}
 use Rattle.view_tree.proofs.forest.KeyLaws.{Within, here, in_below, in_after, located, times_self, zero_or_more}
 use Rattle.view_tree.proofs.forest.NumberLaws.{count_of_key-put}
 use Rattle.view_tree.proofs.forest.PlainLaws.{agree_live, plain-change_facts}
+use Rattle.view_tree.specs.tree.Directions.{turned_keys}
 use Rattle.view_tree.specs.tree.Requests.{among}
 use Rattle.view_tree.specs.Rows.{Row, ancestors, around, changed_at_key, count_of_key, first_tree, part_from, views_of}
 use Rattle.view_tree.specs.Views.{Held, IsLive, IsTree, Views, held_of, number_of, plain_of, plain_rows, scrolled}
@@ -173,21 +174,17 @@ off_place : (views : Views) (parent : Option ℕ) (key : ℕ) → IsTree views �
 off_place views None key is live none = refl
 off_place views (Some parent) key is live none = off_paths views (parent ∷ []) key is (live, tt) none
 
--- the views that run another way, by their numbers and by their keys
-
 pub live_append : (views : Views) (first second : List ℕ) → AllLive views first → AllLive views second → AllLive views (first ++ second)
 live_append views [] second one other = other
 live_append views (key ∷ first) second one other = (one.0, live_append views first second one.1 other)
 
-turned_keys : Bool → Forest Row → List ℕ
-turned_keys above list = map (λ (row : Row). row.key) (turned (λ (row : Row). row.view.facts) above list)
-
+-- the numbers of the views that run another way
 turned_numbers : (ℕ → Held) → Bool → Forest Row → List ℕ
 turned_numbers held above list = map (λ (view : PlainView). view.number) (turned (λ (view : PlainView). view.facts) above (plain_rows held list))
 
 turned_named : (named : ℕ → ℕ) (held : ℕ → Held) (above : Bool) (list : Forest Row) → EveryRow (λ (row : Row). named row.key ≡ row.view.number) list
     → turned_numbers held above list ≡ map named (turned_keys above list)
-unfolding turned_numbers turned_keys
+unfolding turned_numbers
 turned_named named held above Nothing every = refl
 turned_named named held above (Branch row kids siblings) every =
     let number : PlainView → ℕ = λ view. view.number in
@@ -211,7 +208,6 @@ turned_named named held above (Branch row kids siblings) every =
     by false views list rest = ap (λ (numbers : List ℕ). row.view.number ∷ numbers) rest ∙ ap (λ (number : ℕ). number ∷ map named (map (λ (row : Row). row.key) list)) (sym every.0)
 
 turned_live : (views : Views) (above : Bool) (list : Forest Row) → EveryRow (λ (row : Row). IsLive views row.key) list → AllLive views (turned_keys above list)
-unfolding turned_keys
 turned_live views above Nothing every = tt
 turned_live views above (Branch row kids siblings) every =
     let key : Row → ℕ = λ row. row.key in
@@ -234,7 +230,7 @@ turns_is _ is = absurd cc
 off_turned : (views : Views) (view key : ℕ) (direction : Direction) → IsTree views → IsLive views view
     → is_on_paths (asked_by_act (plain_of views) (Some (number_of views view)) (act.Direction direction)) (plain_of views) (number_of views key) ≡ false
     → are_on_paths (asked_by_turn views.tree view (act.Direction direction)) views.tree key ≡ false
-unfolding turned_numbers turned_keys
+unfolding turned_numbers
 off_turned views view key direction is live none =
     let turn = act.Direction direction in
     let tree = changed_at_key view (acted_view turn) views.tree in

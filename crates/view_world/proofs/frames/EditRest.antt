@@ -41,7 +41,7 @@ use Rattle.view_world.proofs.edits.LeaveLaws.{scrolls_none}
 use Rattle.view_world.proofs.frames.RestLaws.{rest_along}
 use Rattle.view_world.proofs.frames.SeenLaws.{among_first, number_changed, seen_named}
 use Rattle.view_world.specs.screen.KeyedScreen.{KeyedScreen}
-use Rattle.view_world.specs.world.Marks.{effect_by, effect_of_edit, leaves_layout}
+use Rattle.view_world.specs.world.Marks.{effect_by, effect_of_act, effect_of_edit, leaves_layout}
 use Rattle.view_world.specs.frames.Resting.{AreSeenIn, IsResting, KeepsEdit, seen_on}
 use Rattle.view_world.specs.frames.Seen.{act_paints, edited_by_act, numbers_edited}
 use Rattle.view_world.specs.declared.world.marks.Effect.TheVariants.{Asks, Opens, Touches}
@@ -149,17 +149,21 @@ edit_untouched (edit.Act view act) e = by (requests_layout act) (act_paints act)
     by false true e = cc
     by false false e = cc
 
--- nor does one open a window
-edit_unopened : (edit : Edit) → effect_of_edit edit ≢ Opens
-edit_unopened (edit.Add parent class width height) e = cc
-edit_unopened (edit.Remove view) e = cc
-edit_unopened (edit.Text view text) e = cc
-edit_unopened (edit.Act view act) e = by (requests_layout act) (act_paints act) e
+-- an act opens no window
+pub act_unopened : (act : Act) → effect_of_act act ≢ Opens
+act_unopened act e = by (requests_layout act) (act_paints act) e
   where
     by : (requests paints : Bool) → effect_by requests paints ≡ Opens → ⊥
     by true paints e = cc
     by false true e = cc
     by false false e = cc
+
+-- nor does an edit
+edit_unopened : (edit : Edit) → effect_of_edit edit ≢ Opens
+edit_unopened (edit.Add parent class width height) e = cc
+edit_unopened (edit.Remove view) e = cc
+edit_unopened (edit.Text view text) e = cc
+edit_unopened (edit.Act view act) e = act_unopened act e
 
 -- an act that is not painted, and that layout does not read, shows in no picture
 unpainted : (act : Act) → (requests_layout act || act_paints act) ≡ false → act_is_unseen act ≡ true

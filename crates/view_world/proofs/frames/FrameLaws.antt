@@ -9,7 +9,7 @@ use Rattle.geom_core.specs.declared.color.Argb.{Argb}
 use Rattle.damage_rect.proofs.AreaLaws.{area_none}
 use Rattle.damage_rect.proofs.RectLaws.{empty_none, is_between, wide}
 use Rattle.damage_rect.specs.Areas.{rect_area}
-use Rattle.geom_core.specs.Rects.{hull_of, is_empty}
+use Rattle.geom_core.specs.Rects.{empty_rect, hull_of, is_empty}
 use Rattle.damage_rect.specs.Within.{LiesIn}
 use Rattle.geom_core.specs.declared.geometry.Rect.{Rect}
 use Rattle.geom_core.specs.declared.geometry.Size.{Size}
@@ -36,7 +36,6 @@ use Rattle.traversal.specs.declared.outcome.Frame.{Frame}
 use Rattle.view_model.specs.Forest.{Forest, Nothing, Branch, count_of}
 use Rattle.view_model.specs.Geometry.{Laid}
 use Rattle.view_model.specs.PlainTree.{PlainView}
-use Rattle.view_model.specs.Visible.{no_rect}
 use Rattle.view_tree.proofs.forest.PlainLaws.{plain-count}
 use Rattle.kept_views.specs.Kept.{IsConsistent}
 use Rattle.view_tree.specs.Rows.{Row, count_of_key, first_key, views_of}
@@ -146,7 +145,7 @@ pub still_clean : (old added more : Rect) → more ≡ hull_of old added → is_
 unfolding hull_of
 still_clean old added more is one other = ap is_empty is ∙ by (is_empty old) (is_empty added) _ _ one other
   where
-    by : (s t : Bool) (first second : Rect) → s ≡ true → t ≡ true → is_empty (if s then (if t then no_rect else second) else first) ≡ true
+    by : (s t : Bool) (first second : Rect) → s ≡ true → t ≡ true → is_empty (if s then (if t then empty_rect else second) else first) ≡ true
     by true true first second one other = refl
     by true false first second one other = absurd cc
     by false t first second one other = absurd cc
@@ -164,7 +163,7 @@ empty_in inner outer lies empty = by (is_empty inner) refl
 
 -- a frame that moves no view damages nothing
 pub still_lain : (old new : Views) (window : Size) (damage : Rect) → new ≡ old → ((box : Rect) → HasShifted window box old new → LiesIn damage box) → is_empty damage ≡ true
-still_lain old new window damage same within = empty_in damage no_rect (within no_rect (λ key live shifted. absurd (unshifted key shifted))) refl
+still_lain old new window damage same within = empty_in damage empty_rect (within empty_rect (λ key live shifted. absurd (unshifted key shifted))) refl
   where
     unshifted : (key : ℕ) → IsShifted (held_of old key) (held_of new key) → ⊥
     unshifted key (inl moved) = moved (ap (λ (views : Views). (held_of views key).state.bounds) same)

@@ -3,7 +3,7 @@ use Rattle.std.specs.Prelude.{◌≡◌, pos, negsuc, refl, List, [], ◌∷◌,
 use Rattle.std.specs.Fmt.{digits}
 use Rattle.geom_core.specs.Color.{alpha_of, blend_of, blue_of, green_of, mixed, opaque_of, red_of}
 use Rattle.geom_core.specs.Limits.{clamp_coordinate}
-use Rattle.geom_core.specs.Rects.{hull_of, larger_of, meet_of, smaller_of}
+use Rattle.geom_core.specs.Rects.{empty_rect, hull_of, larger_of, meet_of, smaller_of}
 use Rattle.geom_core.specs.Spec.{child_spec_of, default_size_of, remaining_of, resolve_of}
 use Rattle.geom_core.specs.declared.geometry.Insets.{Insets}
 use Rattle.pixel_raster.specs.Cuts.{from_zero}
@@ -15,7 +15,6 @@ use Rattle.view_model.specs.declared.changes.Act.TheVariants as act
 use Rattle.view_model.specs.declared.changes.Change.TheVariants as change
 use Rattle.view_model.specs.declared.class.Class.TheVariants as class
 use Rattle.view_model.specs.Growth.{growth_refusal}
-use Rattle.view_model.specs.Visible.{no_rect}
 use Rattle.world_parts.specs.Reply.{Reply, Done, Refused}
 use Rattle.view_world.specs.world.Step.{step}
 use Rattle.view_world.specs.world.Marks.{no_marks}
@@ -28,7 +27,7 @@ watched_reply watched line (Refused refusal) = watched
 
 unfoldable pub watched_from : List PlainCommand → Watched
 watched_from lines =
-    fold (λ (watched : Watched) (line : PlainCommand). watched_reply watched line (step [] watched.world line)) (record { world = empty_world; marks = no_marks; box = no_rect; shown = [] }) lines
+    fold (λ (watched : Watched) (line : PlainCommand). watched_reply watched line (step [] watched.world line)) (record { world = empty_world; marks = no_marks; box = empty_rect; shown = [] }) lines
 
 -- what a frame costs after these lines
 unfoldable pub cost_after : List PlainCommand → LineCosts

@@ -5,7 +5,7 @@ use Rattle.std.proofs.lemmas.Bool.{cases_eq, eqb-true, ne_eqb}
 use Rattle.damage_rect.proofs.RectLaws.{in_hull_first, in_hull_second}
 use Rattle.damage_rect.specs.Areas.{rect_area}
 use Rattle.damage_rect.proofs.RectLaws.{empty_none}
-use Rattle.geom_core.specs.Rects.{holds, hull_of, is_empty}
+use Rattle.geom_core.specs.Rects.{empty_rect, holds, hull_of, is_empty}
 use Rattle.damage_rect.specs.Within.{LiesIn}
 use Rattle.geom_core.specs.declared.color.Argb.{Argb}
 use Rattle.geom_core.specs.declared.geometry.Rect.{Rect}
@@ -20,11 +20,11 @@ use Rattle.tree_edits.specs.Asking.{requests_layout}
 use Rattle.view_model.specs.declared.changes.Act.{Act}
 use Rattle.view_model.specs.Forest.{Forest, Nothing, Branch, count_of}
 use Rattle.view_model.specs.PlainTree.{PlainView}
-use Rattle.view_model.specs.Visible.{no_rect}
 use Rattle.view_model.specs.declared.work.Work.{Work}
 use Rattle.view_tree.proofs.forest.PlainLaws.{plain-count}
 use Rattle.view_tree.specs.Views.{held_of, plain_of}
 use Rattle.view_tree.specs.declared.counts.Counts.{Counts}
+use Rattle.view_world.proofs.frames.EditRest.{act_unopened}
 use Rattle.view_world.proofs.worlds.MarkLaws.{settled_at}
 use Rattle.view_world.proofs.frames.SeenLaws.{among_left, among_right}
 use Rattle.view_world.specs.world.Carried.{IsDone, WritesReply}
@@ -98,14 +98,6 @@ act_unlaid : (act : Act) → effect_of_act act ≢ Lays
 act_unlaid act e = by (requests_layout act) (act_paints act) e
   where
     by : (requests paints : Bool) → effect_by requests paints ≡ Lays → ⊥
-    by true paints e = cc
-    by false true e = cc
-    by false false e = cc
-
-act_unopened : (act : Act) → effect_of_act act ≢ Opens
-act_unopened act e = by (requests_layout act) (act_paints act) e
-  where
-    by : (requests paints : Bool) → effect_by requests paints ≡ Opens → ⊥
     by true paints e = cc
     by false true e = cc
     by false false e = cc
@@ -195,7 +187,7 @@ based_back Leaves marks settled scrolled ne based = based
 -- the damage is still in the box, after a line that is neither a window nor a frame
 kept_box : (line : PlainCommand) (marks : Marks) (old new : KeyedScreen) (box : Rect) → KeepsLine line old new → effect_of line ≢ Opens → effect_of line ≢ Lays → (marks.based ≡ true → old.stage ≡ Settled)
     → (marks.based ≡ true → LiesIn old.damage box) → (marks_after (world_of old) line (world_of new) marks).based ≡ true
-    → LiesIn new.damage (if marks.based then hull_of box (line_box (world_of old) line (world_of new)) else no_rect)
+    → LiesIn new.damage (if marks.based then hull_of box (line_box (world_of old) line (world_of new)) else empty_rect)
 kept_box line marks old new box keeps no_window no_frame settled has based =
     let was : marks.based ≡ true = based_back (effect_of line) marks (has_settled (stage_of new.stage)) (has_any_scrolled (line_deliveries (world_of old) line)) no_frame based in
     let around = line_box (world_of old) line (world_of new) in
@@ -209,7 +201,7 @@ pub box_kept : (line : PlainCommand) (marks : Marks) (old new : KeyedScreen) (bo
     → (marks.based ≡ true → old.stage ≡ Settled) → (marks.based ≡ true → LiesIn old.damage box) → (marks_after (world_of old) line (world_of new) marks).based ≡ true
     → LiesIn new.damage (box_after (world_of old) line (world_of new) marks.based box)
 box_kept (command.Window w h) marks old new box keeps clean settled has based = absurd cc
-box_kept command.Frame marks old new box keeps clean settled has based = no_point new.damage no_rect (clean refl (settled_at new.stage based))
+box_kept command.Frame marks old new box keeps clean settled has based = no_point new.damage empty_rect (clean refl (settled_at new.stage based))
 box_kept (command.Dpi dpi) marks old new box keeps clean settled has based = kept_box (command.Dpi dpi) marks old new box (keeps (λ e. cc)) (λ e. cc) (λ e. cc) settled has based
 box_kept (command.Res id value) marks old new box keeps clean settled has based = kept_box (command.Res id value) marks old new box (keeps (λ e. cc)) (λ e. cc) (λ e. cc) settled has based
 box_kept (command.Inflate name into) marks old new box keeps clean settled has based = kept_box (command.Inflate name into) marks old new box (keeps (λ e. cc)) (λ e. cc) (λ e. cc) settled has based

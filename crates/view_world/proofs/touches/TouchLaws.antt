@@ -5,6 +5,7 @@ use Rattle.touch_dispatch.specs.handling.Handling.{is_nil}
 use Rattle.touch_dispatch.specs.gesture.Gestures.{PlainGesture, set_disallow}
 use Rattle.touch_dispatch.specs.gesture.Kept.{Kept, gesture_of, is_open}
 use Rattle.touch_dispatch.specs.reaching.TreeEvents.{IsGestureIn}
+use Rattle.touch_event.specs.Events.{event_of}
 use Rattle.touch_event.specs.declared.event.Action.TheVariants.{Move as Moved, Cancel as Cancelled}
 use Rattle.touch_event.specs.declared.event.Event.{Event}
 use Rattle.touch_event.specs.declared.event.Point.{Point}
@@ -19,7 +20,7 @@ use Rattle.view_tree.specs.Views.{plain_of}
 use Rattle.world_parts.specs.World.{World}
 use Rattle.view_world.specs.screen.Changed.{CarriesOut}
 use Rattle.view_world.specs.screen.KeyedScreen.{KeyedScreen, world_of}
-use Rattle.world_parts.specs.Pointers.{down_action, event_of, is_pressed, up_action, with_point, without_point}
+use Rattle.world_parts.specs.Pointers.{down_action, is_pressed, up_action, with_point, without_point}
 use Rattle.world_parts.specs.Places.{HasNoneElse}
 use Rattle.world_parts.specs.Reply.{Reply, Done, Refused}
 use Rattle.view_world.specs.world.Step.{after_event, disallow_reported, lifted, moved, put_down, taken_away, touched}

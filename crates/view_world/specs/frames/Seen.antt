@@ -2,7 +2,7 @@
 use Rattle.std.specs.Prelude.{ℕ, Bool, true, false, ◌||◌, ◌&&◌, not, if◌then◌else◌, List, [], ◌∷◌, ◌++◌, filter, Option}
 use Rattle.std.specs.Prelude.{Some, None}
 use Rattle.std.specs.Ordering.{int_eq}
-use Rattle.geom_core.specs.Rects.{hull_of}
+use Rattle.geom_core.specs.Rects.{empty_rect, hull_of}
 use Rattle.geom_core.specs.declared.color.Argb.{Argb}
 use Rattle.geom_core.specs.declared.geometry.Rect.{Rect}
 use Rattle.geom_core.specs.declared.geometry.Size.{Size}
@@ -11,6 +11,7 @@ use Rattle.script_lines.specs.commands.PlainCommands.{PlainCommand}
 use Rattle.script_lines.specs.commands.PlainCommands as command
 use Rattle.touch_dispatch.specs.handling.Scrolled.{is_scroll}
 use Rattle.touch_dispatch.specs.declared.log.Entry.{Entry}
+use Rattle.touch_event.specs.Events.{event_of}
 use Rattle.touch_event.specs.declared.event.Action.TheVariants.{Move as Moved, Cancel as Cancelled}
 use Rattle.touch_event.specs.declared.event.Event.{Event}
 use Rattle.touch_event.specs.declared.event.Point.{Point}
@@ -21,11 +22,11 @@ use Rattle.view_model.specs.declared.changes.Act.{Act}
 use Rattle.view_model.specs.Facets.{touched_by}
 use Rattle.view_model.specs.Geometry.{rect_in}
 use Rattle.view_model.specs.PlainTree.{numbers_of}
-use Rattle.view_model.specs.Visible.{no_rect, visible_rect}
+use Rattle.view_model.specs.Visible.{visible_rect}
 use Rattle.view_tree.specs.Views.{Views, number_of}
 use Rattle.view_world.specs.frames.Asked.{listed, restored_numbers}
 use Rattle.world_parts.specs.Naming.{named}
-use Rattle.world_parts.specs.Pointers.{down_action, event_of, up_action, with_point, without_point}
+use Rattle.world_parts.specs.Pointers.{down_action, up_action, with_point, without_point}
 use Rattle.world_parts.specs.Touching.{offsets_in, reached_in}
 use Rattle.world_parts.specs.World.{World}
 
@@ -106,7 +107,7 @@ moved_views before after = filter (has_moved before after) (numbers_of before.tr
 
 -- where a view is seen in the window, if there is one
 abbrev pub seen_through : Option Size → World → ℕ → Rect
-seen_through None world number = no_rect
+seen_through None world number = empty_rect
 seen_through (Some window) world number = visible_rect world.tree world.geometry window number
 
 abbrev pub seen : World → ℕ → Rect
@@ -119,7 +120,7 @@ black_picture (Some window) = (black_raster window).pixels
 
 -- the smallest rectangle around what is seen of some views in one world and in another
 abbrev pub box_around : World → World → List ℕ → Rect
-box_around before after [] = no_rect
+box_around before after [] = empty_rect
 box_around before after (number ∷ numbers) =
     hull_of (hull_of (seen before number) (seen after number)) (box_around before after numbers)
 

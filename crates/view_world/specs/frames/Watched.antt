@@ -3,7 +3,7 @@ use Rattle.std.specs.Prelude.{◌≡◌, ℕ, ◌+◌, ◌*◌, ◌-◌, ◌^◌
 use Rattle.std.specs.Prelude.{List, Option, Some, None}
 use Rattle.damage_rect.specs.Within.{LiesIn}
 use Rattle.damage_rect.specs.Areas.{rect_area}
-use Rattle.geom_core.specs.Rects.{hull_of}
+use Rattle.geom_core.specs.Rects.{empty_rect, hull_of}
 use Rattle.geom_core.specs.declared.color.Argb.{Argb}
 use Rattle.geom_core.specs.declared.geometry.Rect.{Rect}
 use Rattle.geom_core.specs.declared.geometry.Size.{Size}
@@ -12,7 +12,6 @@ use Rattle.script_lines.specs.commands.PlainCommands as command
 use Rattle.seen_edits.specs.Differing.{differing}
 use Rattle.traversal.specs.Frames.{Framed, after_frame as frame_of}
 use Rattle.view_model.specs.Forest.{count_of}
-use Rattle.view_model.specs.Visible.{no_rect}
 use Rattle.view_model.specs.declared.work.Work.{Work}
 use Rattle.view_world.specs.frames.Counting.{area_of}
 use Rattle.view_world.specs.world.KeyedWorld.{KeyedWorld, world_of}
@@ -40,9 +39,9 @@ shown_after line after shown = shown
 
 -- the box after a line: nothing after a window and a frame
 abbrev pub box_after : World → PlainCommand → World → Bool → Rect → Rect
-box_after before (command.Window w h) after based box = no_rect
-box_after before command.Frame after based box = no_rect
-box_after before line after based box = if based then hull_of box (line_box before line after) else no_rect
+box_after before (command.Window w h) after based box = empty_rect
+box_after before command.Frame after based box = empty_rect
+box_after before line after based box = if based then hull_of box (line_box before line after) else empty_rect
 
 unfoldable pub watched_after : Watched → PlainCommand → World → Watched
 watched_after watched line after = record {

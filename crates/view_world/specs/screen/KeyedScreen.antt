@@ -2,6 +2,7 @@
 -- and its gesture.
 use Rattle.std.specs.Prelude.{ℕ, List, [], Option, Some, None, refl}
 use Rattle.std.specs.Coded.{Coded, code_by, coded×, coded_ℕ, coded_list}
+use Rattle.geom_core.specs.Rects.{empty_rect}
 use Rattle.geom_core.specs.contracts.geometry.Rect.{the_row as rect_row}
 use Rattle.geom_core.specs.declared.color.Argb.{Argb}
 use Rattle.geom_core.specs.declared.geometry.Rect.{Rect}
@@ -19,7 +20,6 @@ use Rattle.touch_event.specs.contracts.event.Point.{the_row as point_row}
 use Rattle.touch_event.specs.declared.event.Point.{Point}
 use Rattle.view_model.specs.Geometry.{Laid}
 use Rattle.view_model.specs.Resources.{Entries}
-use Rattle.view_model.specs.Visible.{no_rect}
 use Rattle.world_parts.specs.World as plain
 use Rattle.view_model.specs.Numbers.{normal_dpi}
 use Rattle.res_values.specs.contracts.resources.Resources.{the_row as resources_row}
@@ -131,7 +131,7 @@ new_screen = record {
   views = no_views;
   stage = NoWindow;
   surface = empty_raster;
-  damage = no_rect;
+  damage = empty_rect;
   dpi = normal_dpi;
   resources = [];
   gesture = nothing_kept;

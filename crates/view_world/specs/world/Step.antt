@@ -21,6 +21,7 @@ use Rattle.size_hooks.specs.Hooks.{armed, hook_of}
 use Rattle.text_lines.specs.Joined.{◌⧺◌}
 use Rattle.tool_io.specs.Fetched.{Files}
 use Rattle.touch_dispatch.specs.handling.Handling.{is_nil}
+use Rattle.touch_event.specs.Events.{event_of}
 use Rattle.touch_event.specs.declared.event.Action.TheVariants.{Move as Moved, Cancel as Cancelled}
 use Rattle.touch_event.specs.declared.event.Event.{Event}
 use Rattle.touch_event.specs.declared.event.Point.{Point}
@@ -55,7 +56,7 @@ use Rattle.world_replies.specs.Responses.{lies_in}
 use Rattle.world_replies.specs.Deliveries.{done_text, entries_text}
 use Rattle.world_parts.specs.Inflating.{place_in, views_of}
 use Rattle.world_parts.specs.Naming.{named}
-use Rattle.world_parts.specs.Pointers.{down_action, event_of, is_pressed, up_action, with_point, without_point}
+use Rattle.world_parts.specs.Pointers.{down_action, is_pressed, up_action, with_point, without_point}
 use Rattle.world_replies.specs.Replies.{added_text, digest_text, framed_text, inflated_text}
 use Rattle.world_replies.specs.Replies.{pixels_text, state_bytes, state_text}
 use Rattle.world_parts.specs.Touching.{after_progress, disallowed, leaving, reached_in, without_part}

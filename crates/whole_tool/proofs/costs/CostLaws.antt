@@ -59,7 +59,7 @@ works_taken start files script left first last w =
     let more = carried_front script w.taken w.takes.rest w.takes.front w.within in
     works_further start files first.work last.work (cut_of w.taken).lines more.0 (carried_lines script) more.1 (works_whole start files first last (cut_of w.taken).lines w.works)
 
-pub works_with : (start : Carried) (files : Files) (script : List ℕ) (left : Option (List ℕ)) (first last : Trace) (outcome : Result Bool End) → RunsTo start files script left first last outcome
+pub works_with : (start : Carried) (files : Files) (script : List ℕ) (left : Option (List ℕ)) (first last : Trace) (outcome : Result Bool End) → RunsTo start (record { files = files; script = script }) left first last outcome
     → WorksWithFrom start files script left first last (status_of outcome)
 works_with start files script left first last (Ok true) r = works_ended start files script left first last 1 (omega arith) r.0 r.1
 works_with start files script left first last (Ok false) r = works_ended start files script left first last 0 (omega arith) r.0 r.1

@@ -64,7 +64,7 @@ written_part start files lines first last w =
     prefix_lines start files first.gone last.gone (w.done ++ w.line ∷ []) w.left lines (append_assoc w.done (w.line ∷ []) w.left ∙ w.all)
     (subst (AppendsPrefix first.gone last.gone) (sym (line_after start files w.done w.line)) (prefix_of_second first.gone w.between last.gone (after_from start files w.done).text _ w.gone w.part))
 
-pub runs_with : (start : Carried) (files : Files) (script : List ℕ) (left : Option (List ℕ)) (first last : Trace) (outcome : Result Bool End) → RunsTo start files script left first last outcome
+pub runs_with : (start : Carried) (files : Files) (script : List ℕ) (left : Option (List ℕ)) (first last : Trace) (outcome : Result Bool End) → RunsTo start (record { files = files; script = script }) left first last outcome
     → RunsWith start files script left first.gone last.gone (status_of outcome)
 runs_with start files script left first last (Ok true) r = ended_with start files script left first.gone last.gone 1 (omega arith) (inr refl) r.0 r.1.gone (ap (λ b. cond b 1 0) r.2)
 runs_with start files script left first last (Ok false) r = ended_with start files script left first.gone last.gone 0 (omega arith) (inl refl) r.0 r.1.gone (ap (λ b. cond b 1 0) r.2)

@@ -67,7 +67,7 @@ ends_source start files first last old new script taken reported lost within wor
 
 -- one byte too many came
 pub ends_long : (start : Carried) (files : Files) (first last : Trace) (old new : Option (List ℕ)) (script taken bytes : List ℕ) (left : ℕ) → old ≡ Some script → Consumes old new (taken ++ bytes)
-    → length taken + left ≡ max_script → length bytes ≡ left + 1 → Works start files first last (cut_of (taken ++ take left bytes)).lines → RunsTo start files script new first last (Err end.Long)
+    → length taken + left ≡ max_script → length bytes ≡ left + 1 → Works start files first last (cut_of (taken ++ take left bytes)).lines → RunsTo start (record { files = files; script = script }) new first last (Err end.Long)
 ends_long start files first last old new script taken bytes left reported lost count many works =
     let c = consumed old new script (taken ++ bytes) reported lost in
     let long : max_script < length script = omega (arith, ap length c.1, length-append (taken ++ bytes) c.0, length-append taken bytes, count, many) in
@@ -126,7 +126,7 @@ ends_last start files first last old new script taken stop reported lost end sho
 
 -- the run got to the end of its script
 pub ends_well : (start : Carried) (files : Files) (first last : Trace) (old new : Option (List ℕ)) (script taken : List ℕ) (runner : LineRunner) → old ≡ Some script → Consumes old new taken → IsAtEnd new → length taken ≤ max_script
-    → HasCarriedOut first last runner (after_from start files (lines_of taken)) (tally_from start files (lines_of taken)) → RunsTo start files script new first last (Ok (nat_lt 0 runner.refused))
+    → HasCarriedOut first last runner (after_from start files (lines_of taken)) (tally_from start files (lines_of taken)) → RunsTo start (record { files = files; script = script }) new first last (Ok (nat_lt 0 runner.refused))
 ends_well start files first last old new script taken runner reported lost end short at =
     let all = taken_by_end old new script taken reported lost end in (
       subst (λ (l : List ℕ). length l ≤ max_script) all short,

@@ -7,10 +7,10 @@ use Rattle.touch_dispatch.specs.reaching.TreeEvents.{IsGestureIn, below_first, i
 use Rattle.touch_targets.specs.Captures.{is_target}
 use Rattle.view_model.specs.Forest.{Forest, Nothing, Branch, or_else}
 use Rattle.view_model.specs.PlainTree.{PlainView, part_of}
+use Rattle.view_tree.proofs.forest.ForestLaws.{times_in}
 use Rattle.view_tree.specs.Views.{IsTree, Views, plain_of}
 use Rattle.world_parts.proofs.touches.CaughtLaws.{caught_plain}
 use Rattle.world_parts.proofs.touches.GrownCaught.{unused_next}
-use Rattle.world_parts.proofs.trees.ShapeLaws.{times_in}
 use Rattle.world_parts.specs.Places.{AreFree, HasNoneFrom}
 use Rattle.world_parts.specs.Places.{HasNoneElse}
 

@@ -9,11 +9,10 @@ use Rattle.touch_dispatch.specs.reaching.TreeEvents.{IsGestureIn, part_at}
 use Rattle.view_model.specs.Forest.{Forest, Nothing, Branch, rows}
 use Rattle.view_model.specs.Layout.{unscrolled}
 use Rattle.view_model.specs.PlainTree.{PlainView, numbers_of, part_of, pruned}
-use Rattle.view_tree.proofs.forest.ForestLaws.{rows-map}
+use Rattle.view_tree.proofs.forest.ForestLaws.{rows-map, times_in}
 use Rattle.view_tree.specs.Views.{IsLive, IsTree, Views, number_of, plain_of}
 use Rattle.world_parts.proofs.touches.CutCaught.{gesture_pruned}
 use Rattle.world_parts.proofs.trees.PartLaws.{part_plain}
-use Rattle.world_parts.proofs.trees.ShapeLaws.{times_in}
 use Rattle.world_parts.specs.Touching.{all_closed, is_among, unscrolled_tree}
 
 same_either_way : (a b : ℕ) → (a == b) ≡ (b == a)

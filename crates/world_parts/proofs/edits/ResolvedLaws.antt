@@ -1,9 +1,9 @@
 -- The text that a line gives a view, its escapes resolved: what its bytes are.
 use Rattle.std.proofs.Common.{◌≡◌, ◌≤◌, ℕ, Bool, true, false, List, [], ◌∷◌, ◌++◌, length, length-append, refl, arith, inl, inr}
-use Rattle.std.specs.Prelude.{◌==◌, ◌&&◌, if◌then◌else◌}
+use Rattle.std.specs.Prelude.{◌==◌, if◌then◌else◌}
 use Rattle.std.specs.Str.{IsUtf8, chars}
 use lib.Utf8.{scalar, scalars, encode, encodes}
-use Rattle.std.proofs.lemmas.Bool.{cases_Bool}
+use Rattle.std.proofs.lemmas.Bool.{and_parts, cases_Bool}
 use Rattle.std.proofs.lemmas.Str.{chars-encodes, encodes-chars, length-le-encodes, scalars-chars}
 use Rattle.script_lines.specs.words.Escapes.{is_backslash, meant_by, unescaped}
 
@@ -25,10 +25,6 @@ length-encodes-unescaped (c ∷ d ∷ text) =
       | inl e ↦ rw e (omega (arith, shorter, length-meant_by (d == 110) d refl, length-append (encode (meant_by d)) (encodes (unescaped text)), length-append (encode c) (encode d ++ encodes text), length-append (encode d) (encodes text)))
       | inr e ↦ rw e (omega (arith, rest, length-append (encode c) (encodes (unescaped (d ∷ text))), length-append (encode c) (encodes (d ∷ text))))
     ]
-
-and_parts : (a b : Bool) → (a && b) ≡ true → (a ≡ true) × (b ≡ true)
-and_parts true b h = (refl, h)
-and_parts false b h = absurd (cc)
 
 scalar-meant_by : (v : Bool) (d : ℕ) → scalar d ≡ true → scalar (if v then 10 else d) ≡ true
 scalar-meant_by true d h = refl

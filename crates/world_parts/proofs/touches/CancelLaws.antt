@@ -3,6 +3,7 @@ use Rattle.std.proofs.Common.{◌≡◌, ℕ, ℤ, Bool, true, false, List, [], 
 use Rattle.std.proofs.lemmas.Bool.{cases_Bool}
 use Rattle.std.specs.Prelude.{◌==◌, ◌||◌}
 use Rattle.geom_core.specs.declared.geometry.Rect.{Rect}
+use Rattle.touch_dispatch.proofs.steps.GroupEvents.{group_event}
 use Rattle.touch_dispatch.specs.Dispatch.{EventChild, Scene, Tried, answered, cancelled, child_of, ended, event_children, group_reached, hand_out, hand_part, hand_to, offered, range_for, first_rect, reach, reached_by, receiver}
 use Rattle.touch_dispatch.specs.gesture.Gestures.{without_target}
 use Rattle.touch_dispatch.specs.handling.Handling.{Progress, Reached, asked, handled, is_nil, targets_at, with_gesture}
@@ -88,13 +89,13 @@ part_cancelled first second child (Branch view below after) progress alike =
 
 -- each target gets the whole cancel
 hand_to_cancel : (scene : Scene) (own : PlainView) (kids : List EventChild) (intercepted : Bool) (target : Target) (progress : Progress)
-    → hand_to scene own kids cancel_event intercepted NoChild target progress ≡ hand_part (Some cancel_event) (child_of target.child kids) progress
+    → hand_to (group_event scene own kids cancel_event intercepted NoChild) target progress ≡ hand_part (Some cancel_event) (child_of target.child kids) progress
 hand_to_cancel scene own kids true target progress = refl
 hand_to_cancel scene own kids false target progress = refl
 
 hand_to_cancelled : (first second : Scene) (own : PlainView) (below : Forest PlainView) (intercepted : Bool) (target : Target) (progress : Progress) → CancelsAlike first second below
-    → hand_to first own (event_children first below) cancel_event intercepted NoChild target progress
-    ≡ hand_to second own (event_children second below) cancel_event intercepted NoChild target progress
+    → hand_to (group_event first own (event_children first below) cancel_event intercepted NoChild) target progress
+    ≡ hand_to (group_event second own (event_children second below) cancel_event intercepted NoChild) target progress
 hand_to_cancelled first second own below intercepted target progress alike =
     hand_to_cancel first own (event_children first below) intercepted target progress
     ∙ part_cancelled first second target.child below progress alike
@@ -102,18 +103,18 @@ hand_to_cancelled first second own below intercepted target progress alike =
 
 hand_out_cancelled : (first second : Scene) (own : PlainView) (below : Forest PlainView) (intercepted : Bool) (targets : List Target) (said : Bool) (progress : Progress)
     → CancelsAlike first second below
-    → hand_out first own (event_children first below) cancel_event intercepted NoChild targets said progress
-    ≡ hand_out second own (event_children second below) cancel_event intercepted NoChild targets said progress
+    → hand_out (group_event first own (event_children first below) cancel_event intercepted NoChild) targets said progress
+    ≡ hand_out (group_event second own (event_children second below) cancel_event intercepted NoChild) targets said progress
 hand_out_cancelled first second own below intercepted [] said progress alike = refl
 hand_out_cancelled first second own below intercepted (t ∷ targets) said progress alike =
-    ap (λ (r : Reached). hand_out first own (event_children first below) cancel_event intercepted NoChild targets (said || r.yes) r.progress)
+    ap (λ (r : Reached). hand_out (group_event first own (event_children first below) cancel_event intercepted NoChild) targets (said || r.yes) r.progress)
     (hand_to_cancelled first second own below intercepted t progress alike)
-    ∙ (let r = hand_to second own (event_children second below) cancel_event intercepted NoChild t progress in
+    ∙ (let r = hand_to (group_event second own (event_children second below) cancel_event intercepted NoChild) t progress in
     hand_out_cancelled first second own below intercepted targets (said || r.yes) r.progress alike)
 
 answered_cancelled : (first second : Scene) (own : PlainView) (below : Forest PlainView) (intercepted : Bool) (progress : Progress) → CancelsAlike first second below
-    → answered first own (event_children first below) cancel_event intercepted NoChild progress
-    ≡ answered second own (event_children second below) cancel_event intercepted NoChild progress
+    → answered (group_event first own (event_children first below) cancel_event intercepted NoChild) progress
+    ≡ answered (group_event second own (event_children second below) cancel_event intercepted NoChild) progress
 answered_cancelled first second own below intercepted progress alike =
     elim (cases_Bool (is_nil (targets_at progress own.number))) [
       | inl e ↦ rw e (handled_cancelled first second own (event_children first below) (event_children second below) progress)
@@ -123,7 +124,7 @@ answered_cancelled first second own below intercepted progress alike =
 -- the answer of a group that was asked in this way
 abbrev group_answered : Scene → PlainView → List EventChild → Reached → Reached
 group_answered scene own kids first =
-    let third = answered scene own kids cancel_event first.yes NoChild first.progress in
+    let third = answered (group_event scene own kids cancel_event first.yes NoChild) first.progress in
     record { yes = third.yes; progress = ended own.number own.facts.split cancel_event first.yes third.progress }
 
 group_cancel : (scene : Scene) (own : PlainView) (kids : List EventChild) (progress : Progress)
@@ -131,7 +132,7 @@ group_cancel : (scene : Scene) (own : PlainView) (kids : List EventChild) (progr
 group_cancel scene own kids progress =
     let first = asked (receiver scene own kids) cancel_event progress in
     ap (λ (second : Tried).
-    let third = answered scene own kids cancel_event first.yes second.taker second.progress in
+    let third = answered (group_event scene own kids cancel_event first.yes second.taker) second.progress in
     let r : Reached = record { yes = third.yes; progress = ended own.number own.facts.split cancel_event first.yes third.progress } in r)
     (offered_cancel scene own kids first.yes first.progress)
 
@@ -213,16 +214,16 @@ part_still scene child (Branch view below after) progress still = elim (cases_Bo
 ]
 
 hand_out_still : (scene : Scene) (own : PlainView) (below : Forest PlainView) (intercepted : Bool) (targets : List Target) (said : Bool) (progress : Progress) → CancelsStill scene below
-    → (hand_out scene own (event_children scene below) cancel_event intercepted NoChild targets said progress).progress.offsets ≡ progress.offsets
+    → (hand_out (group_event scene own (event_children scene below) cancel_event intercepted NoChild) targets said progress).progress.offsets ≡ progress.offsets
 hand_out_still scene own below intercepted [] said progress still = refl
 hand_out_still scene own below intercepted (t ∷ targets) said progress still =
-    let r = hand_to scene own (event_children scene below) cancel_event intercepted NoChild t progress in
+    let r = hand_to (group_event scene own (event_children scene below) cancel_event intercepted NoChild) t progress in
     hand_out_still scene own below intercepted targets (said || r.yes) r.progress still
     ∙ ap (λ (r : Reached). r.progress.offsets) (hand_to_cancel scene own (event_children scene below) intercepted t progress)
     ∙ part_still scene t.child below progress still
 
 answered_still : (scene : Scene) (own : PlainView) (below : Forest PlainView) (intercepted : Bool) (progress : Progress) → CancelsStill scene below
-    → (answered scene own (event_children scene below) cancel_event intercepted NoChild progress).progress.offsets ≡ progress.offsets
+    → (answered (group_event scene own (event_children scene below) cancel_event intercepted NoChild) progress).progress.offsets ≡ progress.offsets
 answered_still scene own below intercepted progress still = elim (cases_Bool (is_nil (targets_at progress own.number))) [
   | inl e ↦ rw e (own_still scene own (event_children scene below) progress)
   | inr e ↦ rw e (hand_out_still scene own below intercepted (targets_at progress own.number) false progress still)
@@ -236,7 +237,7 @@ group_still : (scene : Scene) (own : PlainView) (below : Forest PlainView) (prog
     → (group_reached scene own (event_children scene below) cancel_event progress).progress.offsets ≡ progress.offsets
 group_still scene own below progress still =
     let first = asked (receiver scene own (event_children scene below)) cancel_event progress in
-    let third = answered scene own (event_children scene below) cancel_event first.yes NoChild first.progress in
+    let third = answered (group_event scene own (event_children scene below) cancel_event first.yes NoChild) first.progress in
     ap (λ (r : Reached). r.progress.offsets) (group_cancel scene own (event_children scene below) progress)
     ∙ ended_still own.number own.facts.split first.yes third.progress
     ∙ answered_still scene own below first.yes first.progress still

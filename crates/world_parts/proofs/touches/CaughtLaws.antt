@@ -6,10 +6,11 @@ use Rattle.touch_dispatch.specs.gesture.Kept.{Kept, gesture_of, is_open}
 use Rattle.touch_dispatch.specs.reaching.TreeEvents.{AreChildren, IsGestureIn}
 use Rattle.view_model.specs.Forest.{Forest, Nothing, Branch}
 use Rattle.view_model.specs.PlainTree.{PlainView}
+use Rattle.view_tree.proofs.forest.ForestLaws.{times_in}
 use Rattle.view_tree.specs.Rows.{Row, count_of_key, count_of_number, head_view, part_from, views_of}
 use Rattle.view_tree.specs.Views.{Held, IsTree, Views, held_of, plain_of, plain_rows}
 use Rattle.view_tree.proofs.forest.KeyLaws.{Within, count_of_key-within, from_within, here, in_after, in_below, number_live, times_self, zero_or_more}
-use Rattle.world_parts.proofs.trees.ShapeLaws.{children_alike, shape-views, times_in}
+use Rattle.world_parts.proofs.trees.ShapeLaws.{children_alike, shape-views}
 
 -- a gesture has a place for each view of a plain tree, and each target is a child of its group there
 pub record IsCaughtIn (tree : Forest PlainView) (kept : Kept) : Type 0 where

@@ -9,13 +9,13 @@ use Rattle.touch_dispatch.specs.reaching.TreeEvents.{IsGestureIn, below_first, i
 use Rattle.touch_targets.specs.Captures.{Target, is_target, without_child}
 use Rattle.view_model.specs.Forest.{Forest, Nothing, Branch, or_else}
 use Rattle.view_model.specs.PlainTree.{PlainView, numbers_of, part_of, pruned}
+use Rattle.view_tree.proofs.forest.ForestLaws.{times_in}
 use Rattle.view_tree.specs.Views.{IsTree, Views, held_of, plain_of}
 use Rattle.view_tree.proofs.forest.KeyLaws.{zero_or_more}
 use Rattle.world_parts.specs.Touching.{all_closed}
 use Rattle.world_parts.proofs.touches.CaughtLaws.{IsCaughtIn, caught_keyed, caught_plain, times-plain}
 use Rattle.world_parts.proofs.touches.GrownCaught.{or_else_root}
 use Rattle.world_parts.proofs.trees.PartCounts.{apart, none_numbered, part_first, part_none, times-pruned}
-use Rattle.world_parts.proofs.trees.ShapeLaws.{times_in}
 
 -- a child that is left when another is taken away
 still_target : (child other : ℕ) (targets : List Target) → is_target child (without_child other targets) ≡ true → (is_target child targets ≡ true) × ((child == other) ≡ false)

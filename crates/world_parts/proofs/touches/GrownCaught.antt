@@ -10,12 +10,12 @@ use Rattle.view_model.specs.Forest.{Forest, Nothing, Branch, count_of, joined, o
 use Rattle.view_model.specs.Growth.{grown_at}
 use Rattle.view_model.specs.PlainTree.{PlainView, grown, part_of, single}
 use Rattle.view_model.specs.Sprouts.{Seed, numbered}
+use Rattle.view_tree.proofs.forest.ForestLaws.{times_in}
 use Rattle.view_tree.specs.Views.{IsTree, Views, held_of, plain_of, plain_rows}
 use Rattle.view_tree.proofs.forest.KeyLaws.{zero_or_more}
 use Rattle.world_parts.proofs.touches.CaughtLaws.{IsCaughtIn, caught_keyed, caught_plain, times-plain}
 use Rattle.world_parts.proofs.trees.DirectedLaws.{times-directed}
 use Rattle.world_parts.proofs.trees.PartCounts.{numbered_within, part-joined, part_first, part_none, times_grown_none}
-use Rattle.world_parts.proofs.trees.ShapeLaws.{times_in}
 
 root_joined : (child : ℕ) (list more : Forest PlainView) → is_root child list ≡ true → is_root child (joined list more) ≡ true
 root_joined child Nothing more root = absurd (cc)

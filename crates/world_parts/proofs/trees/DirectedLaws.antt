@@ -5,7 +5,7 @@ use Rattle.view_model.specs.Directed.{directed, running}
 use Rattle.view_model.specs.Direction.{dir}
 use Rattle.view_model.specs.Forest.{Forest, Nothing, Branch, EveryRow, count_of, sum_of}
 use Rattle.view_model.specs.PlainTree.{PlainView}
-use Rattle.world_parts.proofs.trees.ShapeLaws.{times_in}
+use Rattle.view_tree.proofs.forest.ForestLaws.{times_in}
 
 sum-directed : (number : PlainView → ℕ) → ((rtl : Bool) (view : PlainView) → number (running rtl view) ≡ number view) → (above : Bool) (tree : Forest PlainView) → sum_of number (directed above tree) ≡ sum_of number tree
 sum-directed number same above Nothing = refl

@@ -6,8 +6,8 @@ use Rattle.std.specs.Prelude.{◌==◌}
 use Rattle.view_model.specs.Forest.{Forest, Nothing, Branch, count_of, joined, or_else, rows}
 use Rattle.view_model.specs.PlainTree.{PlainView, grown, numbers_of, part_of, pruned}
 use Rattle.view_model.specs.Sprouts.{Seed, numbered}
+use Rattle.view_tree.proofs.forest.ForestLaws.{times_in}
 use Rattle.view_tree.proofs.forest.KeyLaws.{zero_or_more}
-use Rattle.world_parts.proofs.trees.ShapeLaws.{times_in}
 
 -- a number that does not occur has no part
 pub part_none : (number : ℕ) (tree : Forest PlainView) → times_in number tree ≡ 0 → part_of number tree ≡ Nothing

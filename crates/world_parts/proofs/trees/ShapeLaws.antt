@@ -4,7 +4,7 @@ use Rattle.std.proofs.lemmas.Bool.{cases_Bool}
 use Rattle.std.specs.Prelude.{if◌then◌else◌, ◌==◌, ◌||◌}
 use Rattle.touch_dispatch.specs.gesture.Gestures.{PlainGesture}
 use Rattle.touch_dispatch.specs.reaching.TreeEvents.{AreChildren, below_first, is_root}
-use Rattle.view_model.specs.Forest.{Forest, Nothing, Branch, map_rows, or_else, sum_of}
+use Rattle.view_model.specs.Forest.{Forest, Nothing, Branch, map_rows, or_else}
 use Rattle.view_model.specs.PlainTree.{PlainView, part_of}
 use Rattle.view_tree.specs.Rows.{Row, views_of}
 use Rattle.view_tree.specs.Views.{Held, plain_rows}
@@ -13,10 +13,6 @@ use Rattle.view_tree.proofs.forest.ForestLaws.{map_rows-or_else}
 -- the numbers of the views, in their places
 abbrev pub shape_of : Forest PlainView → Forest ℕ
 shape_of tree = map_rows (λ (view : PlainView). view.number) tree
-
--- how often a number occurs
-abbrev pub times_in : ℕ → Forest PlainView → ℕ
-times_in number tree = sum_of (λ (view : PlainView). if view.number == number then 1 else 0) tree
 
 abbrev part_in : ℕ → Forest ℕ → Forest ℕ
 part_in number Nothing = Nothing

@@ -5,6 +5,7 @@ use Rattle.std.proofs.lemmas.List.{get_or_default}
 use Rattle.geom_core.specs.Color.{alpha_of}
 use Rattle.geom_core.specs.declared.color.Argb.{Argb}
 use Rattle.geom_core.specs.Numbers.{unpainted}
+use Rattle.pixel_raster.proofs.MarkLaws.{seen_of-unmarked}
 use Rattle.pixel_raster.specs.Marks.{seen_of}
 use Rattle.pixel_raster.proofs.marks.write_row.Goals as goal
 
@@ -16,13 +17,9 @@ map-mark : (first pixel : Argb) (row : List Argb) → alpha_of first ≡ 0 → m
 map-mark first pixel [] is = refl
 map-mark first pixel (other ∷ row) is = rw (of_mark first pixel other is, map-mark first pixel row is) refl
 
-of_pixel : (first pixel : Argb) → (alpha_of first == 0) ≡ false → seen_of first pixel ≡ pixel
-unfolding seen_of
-of_pixel first pixel is = rw is refl
-
 map-pixels : (first : Argb) (row : List Argb) → (alpha_of first == 0) ≡ false → map (seen_of first) row ≡ row
 map-pixels first [] is = refl
-map-pixels first (pixel ∷ row) is = rw (of_pixel first pixel is, map-pixels first row is) refl
+map-pixels first (pixel ∷ row) is = rw (seen_of-unmarked first pixel is, map-pixels first row is) refl
 
 some : (row : List Argb) → (length row == 0) ≡ false → 0 < length row
 some row is = grind (arith, nat_tests)

@@ -1,4 +1,5 @@
 use Rattle.std.proofs.Common.{rules, ◌≡◌, ◌<◌, ◌∙◌, sym, ap, true, Bool, Fits, w32, if◌then◌else◌, arith}
+use Rattle.std.proofs.lemmas.Bool.{and_parts}
 use Rattle.std.specs.Prelude.{◌&&◌}
 use Rattle.geom_core.specs.Color.{blend_of}
 use Rattle.geom_core.specs.declared.color.Argb.{Argb}
@@ -6,7 +7,7 @@ use Rattle.geom_core.proofs.ColorLaws.{alpha_of-blend_of, blend_of-covering}
 use Rattle.pixel_raster.specs.Cuts.{has_pixel, is_between}
 use Rattle.pixel_raster.specs.Marks.{seen_at}
 use Rattle.pixel_raster.proofs.MarkLaws.{seen_of-marked, seen_of-written_then}
-use Rattle.pixel_raster.proofs.TestLaws.{between_to, of_both}
+use Rattle.pixel_raster.proofs.TestLaws.{between_to}
 use Rattle.pixel_raster.proofs.rows.fill_part.Goals as goal
 
 pub returns-then-cut-width : goal.returns-then-cut-width
@@ -33,7 +34,7 @@ returns-else-alpha-eq255 c =
       colors = λ x y column.
           let some : 0 < c.args.width = omega arith in
           seen_of-written_then (blend_of c.args.color) (is_between cut.top cut.bottom y) (has_pixel cut x y) (has_pixel cut 0 y) _ _ _ _ _ _
-          (λ under. alpha_of-blend_of c.args.color under fits.fits) (λ is. (of_both _ _ is).1) (λ is. (of_both _ _ is).1)
+          (λ under. alpha_of-blend_of c.args.color under fits.fits) (λ is. (and_parts _ _ is).1) (λ is. (and_parts _ _ is).1)
           (c.write_rows.ensures.seen 0 y some) (c.write_rows.ensures.seen x y column)
           (c.fill_rows.ensures.colors 0 y some) (c.fill_rows.ensures.colors x y column);
     }

@@ -1,10 +1,10 @@
 use Rattle.std.proofs.Common.{rules, ◌<◌, Fits, w32, arith}
+use Rattle.std.proofs.lemmas.Bool.{and_parts}
 use Rattle.geom_core.specs.Color.{blend_of}
 use Rattle.geom_core.proofs.ColorLaws.{alpha_of-blend_of}
 use Rattle.pixel_raster.specs.Cuts.{is_between}
 use Rattle.pixel_raster.specs.Strips.{is_set}
 use Rattle.pixel_raster.proofs.MarkLaws.{seen_of-written_then, unmarked-changed}
-use Rattle.pixel_raster.proofs.TestLaws.{of_both}
 use Rattle.pixel_raster.proofs.strip.ink_strip.Goals as goal
 
 pub returns-clause-colors : goal.returns-clause-colors
@@ -15,7 +15,7 @@ returns-clause-colors c =
     λ x y column.
     let some : 0 < c.args.width = omega arith in
     seen_of-written_then (blend_of ink.color) (is_between strip.top strip.bottom y) (is_set strip ink.bits x y) (is_set strip ink.bits 0 y) _ _ _ _ _ _
-    (λ under. alpha_of-blend_of ink.color under fits.fits) (λ is. (of_both _ _ (of_both _ _ is).1).0) (λ is. (of_both _ _ (of_both _ _ is).1).0)
+    (λ under. alpha_of-blend_of ink.color under fits.fits) (λ is. (and_parts _ _ (and_parts _ _ is).1).0) (λ is. (and_parts _ _ (and_parts _ _ is).1).0)
     (c.write_range.ensures.seen 0 y some) (c.write_range.ensures.seen x y column)
     (c.ink_written.ensures.colors 0 y some) (c.ink_written.ensures.colors x y column)
 

@@ -26,6 +26,7 @@ use Rattle.touch_event.specs.Numbers.{max_pointers}
 use Rattle.touch_targets.specs.Captures.{Target, first_child, first_ids, from_child, is_target, targets_from}
 use Rattle.touch_dispatch.proofs.reaching.+reach.Goals as goal
 use Rattle.touch_dispatch.proofs.reaching.+reach.Goals.{children::offer-then-intercepted-via-then-intercepted, children::offer-then-intercepted-via-else-intercepted+then-not-is_offered, targets::deliver_to-else-not-intercepted-via-else-not-intercepted, targets::deliver_to-else-not-intercepted-via-then-not-intercepted+else-not-put_part}
+use Rattle.touch_dispatch.proofs.steps.GroupEvents.{group_event}
 
 pub reach-returns-then-is_group-clause-reached : goal.reach-returns-then-is_group-clause-reached
 reach-returns-then-is_group-clause-reached t c =
@@ -507,7 +508,7 @@ targets::deliver-loop-next-preserved t c =
 
 -- a target that gets nothing
 kept_back : (scene : Scene) (own : PlainView) (kids : List EventChild) (event : Event) (intercepted : Bool) (taker : Taker) (target : Target) (progress : Progress) → is_sent taker target.child ≡ false
-    → part_for (scene.rects target.child) (progress.offsets own.number) event intercepted target.ids ≡ None → hand_to scene own kids event intercepted taker target progress ≡ record { yes = false; progress = progress }
+    → part_for (scene.rects target.child) (progress.offsets own.number) event intercepted target.ids ≡ None → hand_to (group_event scene own kids event intercepted taker) target progress ≡ record { yes = false; progress = progress }
 kept_back scene own kids event intercepted taker target progress other none = rw (other, none) refl
 
 pub targets::deliver_to-returns-then-is_sent-clause-delivered : goal.targets::deliver_to-returns-then-is_sent-clause-delivered

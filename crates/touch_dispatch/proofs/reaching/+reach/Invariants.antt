@@ -1,7 +1,8 @@
 use Rattle.std.proofs.Common.{◌≡◌, ◌+◌, ◌*◌, false, length}
 use Rattle.view_model.specs.Forest.{count_of}
+use Rattle.view_tree.proofs.forest.BackwardWalks.{before}
 use Rattle.view_tree.specs.Rows.{first_tree, part_from, children_of_first}
-use Rattle.touch_dispatch.proofs.steps.TryWalk.{TryWalk, before}
+use Rattle.touch_dispatch.proofs.steps.TryWalk.{TryWalk}
 use Rattle.touch_dispatch.specs.reaching.Delivery.{delivered_targets, own_targets}
 use Rattle.touch_dispatch.specs.gesture.Kept.{gesture_of}
 use Rattle.touch_dispatch.specs.reaching.TreeEvents.{KeepsScene, own_of, progress_of}

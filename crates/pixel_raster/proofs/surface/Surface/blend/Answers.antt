@@ -1,8 +1,7 @@
-use Rattle.std.proofs.Common.{◌≡◌, ◌+◌, ◌*◌, pos, Bool, true, false, refl, sym, ◌∙◌, if◌then◌else◌}
-use Rattle.geom_core.specs.Color.{blend_of}
+use Rattle.std.proofs.Common.{◌+◌, ◌*◌, pos, true, refl, sym, ◌∙◌}
 use Rattle.geom_core.specs.Rects.{holds}
-use Rattle.geom_core.specs.declared.color.Argb.{Argb}
 use Rattle.geom_core.proofs.ColorLaws.{blend_of-clear}
+use Rattle.pixel_raster.proofs.SeenLaws.{unblended}
 use Rattle.pixel_raster.specs.Marks.{seen_pixels}
 use Rattle.pixel_raster.specs.Raster.{pixel_at}
 use Rattle.pixel_raster.proofs.surface.Surface.blend.Goals as goal
@@ -15,13 +14,9 @@ returns-then-alpha-eq0-clause-blends c =
       width = refl;
       height = refl;
       colors = λ x y column row.
-          stays (holds c.args.rect (pos x) (pos y)) c.args.color (pixel_at width pixels x y)
+          unblended (holds c.args.rect (pos x) (pos y)) c.args.color (pixel_at width pixels x y)
           (blend_of-clear c.args.color (pixel_at width pixels x y) (sym c.alpha.ensures ∙ c.if-alpha-eq0.true) (c.self.invariant.raster.opaque (y * width + x)));
     })
-  where
-    stays : (test : Bool) (color was : Argb) → blend_of color was ≡ was → was ≡ (if test then blend_of color was else was)
-    stays true color was is = sym is
-    stays false color was is = refl
 
 pub returns-then-alpha-eq0-clause-raster : goal.returns-then-alpha-eq0-clause-raster
 returns-then-alpha-eq0-clause-raster c = rw (← c.self.view_is) c.self.invariant.raster

@@ -11,7 +11,7 @@ use Rattle.geom_core.specs.Numbers.{unpainted}
 use Rattle.pixel_raster.proofs.BlackLaws.{black-pixel, blend_of-black}
 use Rattle.pixel_raster.proofs.CutLaws.{by_rect, by_rect-none}
 use Rattle.pixel_raster.proofs.MarkLaws.{unmarked-none}
-use Rattle.pixel_raster.proofs.SeenLaws.{is_raster-changed, pixel_at-changed}
+use Rattle.pixel_raster.proofs.SeenLaws.{is_raster-changed, pixel_at-changed, unblended}
 use Rattle.pixel_raster.proofs.surface.Surface.fill.Goals as goal
 
 pub returns-then-area-eq0-clause-fills : goal.returns-then-area-eq0-clause-fills
@@ -30,16 +30,12 @@ returns-then-alpha-eq0-clause-fills c = rw (← c.self.view_is) (record {
   width = refl;
   height = refl;
   colors = λ x y column row.
-      stays (holds c.args.rect (pos x) (pos y)) c.args.color (pixel_at c.self.inside.width (seen_pixels c.self.inside.width c.self.inside.pixels.items) x y)
+      unblended (holds c.args.rect (pos x) (pos y)) c.args.color (pixel_at c.self.inside.width (seen_pixels c.self.inside.width c.self.inside.pixels.items) x y)
       (blend_of-clear c.args.color (pixel_at c.self.inside.width (seen_pixels c.self.inside.width c.self.inside.pixels.items) x y) (sym c.alpha.ensures ∙ c.if-alpha-eq0.true)
       (c.self.invariant.raster.opaque (y * c.self.inside.width + x)));
   filled = search rules;
   grew = omega arith;
 })
-  where
-    stays : (test : Bool) (color was : Argb) → blend_of color was ≡ was → was ≡ (if test then blend_of color was else was)
-    stays true color was is = sym is
-    stays false color was is = refl
 
 pub returns-then-stays-clause-fills : goal.returns-then-stays-clause-fills
 returns-then-stays-clause-fills c =

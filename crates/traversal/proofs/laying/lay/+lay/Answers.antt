@@ -46,6 +46,9 @@ use Rattle.traversal.proofs.laying.lay.+lay.Goals as goal
 
 -- lay_kid
 
+sums : (e d c b a m k w : ℕ) → e ≡ d → d ≤ c + k → c ≤ b + m → b ≡ a → m + k ≤ w → e ≤ a + w
+sums e d c b a m k w p q r s t = omega arith
+
 pub lay_kid-returns-then-not-is_shown-clause-quiet : goal.lay_kid-returns-then-not-is_shown-clause-quiet
 lay_kid-returns-then-not-is_shown-clause-quiet t c = λ spot before places few.
     kid_gone c.args.tree.now.tree c.args.kid c.args.placer.now spot before (held_of c.args.tree.now) c.requires.live
@@ -468,9 +471,6 @@ lay_open-returns-clause-done t c =
     ok : Specs → ℕ → Specs → Type 0
     ok specs place other = other ≡ specs
 
-    sums : (e d c b a m k w : ℕ) → e ≡ d → d ≤ c + k → c ≤ b + m → b ≡ a → m + k ≤ w → e ≤ a + w
-    sums e d c b a m k w p q r s t = omega arith
-
 pub lay_open-returns-then-is_bare-clause-put : goal.lay_open-returns-then-is_bare-clause-put
 lay_open-returns-then-is_bare-clause-put t c =
     let tree = c.args.tree.now.tree in
@@ -559,9 +559,6 @@ lay_open-returns-then-is_bare-clause-done t c =
   where
     ok : Specs → ℕ → Specs → Type 0
     ok specs place other = other ≡ specs
-
-    sums : (e d c b a m k w : ℕ) → e ≡ d → d ≤ c + k → c ≤ b + m → b ≡ a → m + k ≤ w → e ≤ a + w
-    sums e d c b a m k w p q r s t = omega arith
 
 pub lay_open-returns-then-is_calm-clause-still : goal.lay_open-returns-then-is_calm-clause-still
 lay_open-returns-then-is_calm-clause-still t c = λ place.

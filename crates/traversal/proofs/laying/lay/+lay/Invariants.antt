@@ -2,11 +2,12 @@ use Rattle.std.proofs.Common.{◌+◌, ◌*◌}
 use Rattle.damage_rect.specs.Within.{LiesIn}
 use Rattle.kept_views.specs.Laying.{spot_of}
 use Rattle.view_model.specs.Forest.{count_of}
+use Rattle.view_tree.proofs.forest.BackwardWalks.{before}
 use Rattle.view_tree.specs.Rows.{first_tree, children_of_first, part_from, rest_from}
 use Rattle.view_tree.specs.Views.{SameTree, held_of}
 use Rattle.traversal.specs.Counting.{IsMeasuringCounted}
 use Rattle.traversal.specs.Laying.{stage_of}
-use Rattle.traversal.proofs.laid.BackWalk.{BackWalk, before}
+use Rattle.traversal.proofs.laid.BackWalk.{BackWalk}
 use Rattle.traversal.proofs.sight.FollowedViews.{CoverWalks, Walks}
 use Rattle.traversal.proofs.laid.LaidWalk.{LaidWalk}
 use Rattle.traversal.proofs.laying.lay.+lay.Given as goal

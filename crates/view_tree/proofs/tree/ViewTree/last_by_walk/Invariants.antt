@@ -1,6 +1,7 @@
+use Rattle.view_tree.proofs.forest.BackwardWalks.{before}
 use Rattle.view_tree.specs.node.Nodes.{has_id}
 use Rattle.view_tree.specs.Rows.{children_of_first, part_from}
-use Rattle.view_tree.proofs.orders.BackSearch.{BackSearch, before}
+use Rattle.view_tree.proofs.orders.BackSearch.{BackSearch}
 use Rattle.view_tree.proofs.tree.ViewTree.last_by_walk.Given as goal
 
 abbrev pub invariant-loop-next : goal.invariant-loop-next

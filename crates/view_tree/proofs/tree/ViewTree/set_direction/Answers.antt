@@ -3,14 +3,13 @@ use mathlib.Core.Path.{fun_ext}
 use Rattle.view_model.specs.Directed.{directed, with_direction as plain_with_direction}
 use Rattle.view_model.specs.Forest.{Forest}
 use Rattle.view_model.specs.PlainTree.{PlainView}
-use Rattle.view_tree.specs.tree.Directions.{directed_rows, with_direction}
+use Rattle.view_tree.specs.tree.Directions.{directed_rows, turned_keys, with_direction}
 use Rattle.view_tree.specs.tree.Requests.{asking, pressed}
 use Rattle.view_tree.specs.Rows.{Row, changed_at_key, count_of_key, head_view, part_from}
 use Rattle.view_tree.specs.Views.{AreDirected, Held, IsLive, Views, held_of, number_of, plain_rows}
 use Rattle.view_tree.proofs.forest.PlainLaws.{plain_along}
 use Rattle.view_tree.proofs.nodes.NodeReads.{contains_live, is_tree}
 use Rattle.view_tree.proofs.nodes.TurnedFields.{can_turn, held-turned-all, plain-turned, sound-turned, tree-turned}
-use Rattle.view_tree.proofs.nodes.TurnedHeld.{turned_keys}
 use Rattle.view_tree.proofs.nodes.TurnedRequests.{pressed_offset, requested_turned}
 use Rattle.view_tree.proofs.values.KeptLaws.{is_tree-same}
 use Rattle.view_tree.proofs.tree.ViewTree.set_direction.Goals as goal

@@ -1,10 +1,11 @@
 use Rattle.std.proofs.Common.{◌≡◌, false, sym, ◌∙◌, ap}
 use Rattle.std.proofs.lemmas.Int.{to_z-of_z}
+use Rattle.touch_event.specs.Events.{event_of}
 use Rattle.touch_event.specs.declared.event.Action.{Action}
 use Rattle.touch_event.specs.declared.event.Event.{Event}
 use Rattle.touch_event.specs.declared.event.Point.{Point}
 use Rattle.view_world.specs.screen.KeyedScreen.{KeyedScreen}
-use Rattle.world_parts.specs.Pointers.{down_action, event_of, is_pressed, with_point}
+use Rattle.world_parts.specs.Pointers.{down_action, is_pressed, with_point}
 use Rattle.view_world.proofs.touches.TouchLaws.{Changed-down}
 use Rattle.view_world.proofs.screen.Screen.down.Goals as goal
 

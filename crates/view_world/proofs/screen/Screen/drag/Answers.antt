@@ -1,10 +1,11 @@
 use Rattle.std.proofs.Common.{◌≡◌, true, sym, ◌∙◌, ap}
 use Rattle.std.proofs.lemmas.Int.{to_z-of_z}
+use Rattle.touch_event.specs.Events.{event_of}
 use Rattle.touch_event.specs.declared.event.Action.TheVariants.{Move}
 use Rattle.touch_event.specs.declared.event.Event.{Event}
 use Rattle.touch_event.specs.declared.event.Point.{Point}
 use Rattle.view_world.specs.screen.KeyedScreen.{KeyedScreen}
-use Rattle.world_parts.specs.Pointers.{event_of, is_pressed, with_point}
+use Rattle.world_parts.specs.Pointers.{is_pressed, with_point}
 use Rattle.view_world.proofs.frames.RestLaws.{touch_keeps}
 use Rattle.view_world.proofs.touches.TouchLaws.{Changed-move}
 use Rattle.view_world.proofs.screen.Screen.drag.Goals as goal

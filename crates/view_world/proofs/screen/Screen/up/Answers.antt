@@ -1,7 +1,8 @@
 use Rattle.std.proofs.Common.{◌≡◌, true, sym, ◌∙◌, ap}
+use Rattle.touch_event.specs.Events.{event_of}
 use Rattle.touch_event.specs.declared.event.Action.{Action}
 use Rattle.view_world.specs.screen.KeyedScreen.{KeyedScreen}
-use Rattle.world_parts.specs.Pointers.{event_of, is_pressed, up_action, without_point}
+use Rattle.world_parts.specs.Pointers.{is_pressed, up_action, without_point}
 use Rattle.view_world.proofs.touches.TouchLaws.{Changed-up}
 use Rattle.view_world.proofs.screen.Screen.up.Goals as goal
 

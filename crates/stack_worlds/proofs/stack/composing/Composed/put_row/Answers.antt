@@ -1,8 +1,8 @@
 use Rattle.std.proofs.Common.{arith}
 use Rattle.text_lines.specs.Joined.{◌⧺◌}
 use Rattle.stack_worlds.specs.Composed.{composed_in}
+use Rattle.world_replies.proofs.PixelLaws.{sends_next}
 use Rattle.world_replies.specs.Replies.{pixel_text, separator}
-use Rattle.stack_worlds.proofs.ComposedLaws.{sends_next}
 use Rattle.stack_worlds.proofs.stack.composing.Composed.put_row.Goals as goal
 
 pub loop-column-preserved : goal.loop-column-preserved

@@ -1,7 +1,7 @@
 use Rattle.std.proofs.Common.{arith}
 use Rattle.stack_worlds.specs.Composed.{composed_in}
+use Rattle.world_replies.proofs.PixelLaws.{sends_next}
 use Rattle.world_replies.specs.Replies.{row_text}
-use Rattle.stack_worlds.proofs.ComposedLaws.{sends_next}
 use Rattle.stack_worlds.proofs.stack.composing.Composed.put_rows.Goals as goal
 
 pub loop-row-preserved : goal.loop-row-preserved
