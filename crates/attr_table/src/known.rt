@@ -32,6 +32,7 @@ fn is_android(namespace: Option<&str>) -> bool
     }
 }
 
+/// The place in the table of the attribute with this local name; `None` without a name, or if it is not known.
 fn place_named(name: Option<&str>) -> Option<usize>
     ensures place { result ≡ place_named (option_map (λ text. text.now) name.entry) }
     ensures within { IfSome result (λ place. place < known_count) }

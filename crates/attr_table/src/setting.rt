@@ -62,6 +62,7 @@ fn spread_padding(padding: Option<i32>, facts: &mut Facts)
     }
 }
 
+/// The same number of pixels on each of the four sides.
 const fn all_sides(n: i32) -> Insets
     ensures { result ≡ record { left = n; top = n; right = n; bottom = n } }
 {
@@ -88,6 +89,7 @@ fn set_pixels(slot: Slot, n: i32, facts: &mut Facts)
     }
 }
 
+/// Sets the margin of one side, in pixels. A start or an end margin is kept beside the left and the right one.
 fn set_margin(side: Side, n: i32, facts: &mut Facts)
     ensures { facts.new ≡ with_margin side n facts.old }
 {
@@ -101,6 +103,7 @@ fn set_margin(side: Side, n: i32, facts: &mut Facts)
     }
 }
 
+/// Sets the padding of one side, in pixels. A start or an end padding is kept beside the left and the right one.
 fn set_padding(side: Side, n: i32, facts: &mut Facts)
     ensures { facts.new ≡ with_padding side n facts.old }
 {
@@ -151,6 +154,7 @@ fn gravity(word: u32) -> Gravity
     }
 }
 
+/// How the three bits for the horizontal axis place a view; `relative` makes left start and right end.
 #[tactic(auto, unfolding(crate::specs::Setting::across_of))]
 fn across(bits: u32, relative: bool) -> Across
     ensures { result ≡ across_of bits relative }
@@ -165,6 +169,7 @@ fn across(bits: u32, relative: bool) -> Across
     }
 }
 
+/// How the three bits for the vertical axis place a view: those without a meaning of their own count as the top.
 #[tactic(auto, unfolding(crate::specs::Setting::down_of))]
 fn down(bits: u32) -> Down
     ensures { result ≡ down_of bits }
@@ -177,6 +182,7 @@ fn down(bits: u32) -> Down
     }
 }
 
+/// The visibility that a word means: 0 is visible, 1 is invisible, and any other number is gone.
 #[tactic(auto, unfolding(crate::specs::Setting::visibility_of))]
 fn visibility(word: u32) -> Visibility
     ensures { result ≡ visibility_of word }
@@ -200,6 +206,7 @@ fn direction(word: u32) -> Direction
     }
 }
 
+/// `Click` for the word 1, and `Off` for any other.
 #[tactic(auto, unfolding(crate::specs::Setting::answer_of))]
 fn answer(word: u32) -> Answer
     ensures { result ≡ answer_of word }

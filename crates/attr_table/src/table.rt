@@ -195,6 +195,7 @@ fn place_in(table: &[(&str, Takes, Slot)], name: &str) -> Option<usize>
     table.iter().position(|row| row.0 == name)
 }
 
+/// The row at a place of a table, which has to have it.
 fn row_in<'a>(table: &[(&'a str, Takes, Slot)], place: usize) -> (&'a str, Takes, Slot)
     requires { place < length table.now }
     ensures { slice_get (map attribute table.now) place ≡ Some (attribute result) }

@@ -89,6 +89,7 @@ fn is_whole(kind: u8) -> bool
     kind == DECIMAL || kind == HEXADECIMAL
 }
 
+/// Whether a type is one of those of colours.
 fn is_color(kind: u8) -> bool
     ensures { result ≡ is_color kind }
 {
@@ -102,6 +103,7 @@ fn is_nothing(kind: u8, word: u32) -> bool
     kind == NULL || (kind == REFERENCE && word == 0)
 }
 
+/// The id that a word is, if its type is that of references.
 #[tactic(auto, unfolding(crate::specs::Values::reference_given))]
 fn reference(kind: u8, word: u32) -> Option<Given>
     ensures { result ≡ reference_given kind word }
@@ -146,6 +148,7 @@ fn signed(word: u32) -> i64
     }
 }
 
+/// The number of pixels, if there is one from `low` to `high`, both included.
 #[tactic(auto, unfolding(crate::specs::Values::pixels_within))]
 fn pixels_within(low: i64, high: i64, n: Option<i32>) -> Option<Given>
     ensures { result ≡ pixels_within low high n }
@@ -189,6 +192,7 @@ fn weight_given(kind: u8, word: u32) -> Option<Given>
     None
 }
 
+/// The word, if its type is that of whole numbers.
 #[tactic(auto, unfolding(crate::specs::Values::whole_given))]
 fn whole(kind: u8, word: u32) -> Option<Given>
     ensures { result ≡ whole_given kind word }
@@ -199,6 +203,7 @@ fn whole(kind: u8, word: u32) -> Option<Given>
     None
 }
 
+/// The word, if it is a whole number below `count`.
 #[tactic(auto, unfolding(crate::specs::Values::below_given))]
 fn below(count: u32, kind: u8, word: u32) -> Option<Given>
     ensures { result ≡ below_given count kind word }
@@ -209,6 +214,7 @@ fn below(count: u32, kind: u8, word: u32) -> Option<Given>
     None
 }
 
+/// The colour of a value or of the resource that it names. Null is 0; a resource or a value of another type has none.
 #[tactic(auto, unfolding(crate::specs::Values::color_of))]
 fn color(kind: u8, word: u32, found: Option<&Value>) -> Option<Given>
     ensures { result ≡ color_of kind word (option_map (λ value. resource value.now) found.entry) }
@@ -228,6 +234,8 @@ fn color(kind: u8, word: u32, found: Option<&Value>) -> Option<Given>
     }
 }
 
+/// A copy of the characters of a value or of the resource that it names. Null is empty; a resource or a value of
+/// another type has none. `Err` where there is no memory.
 #[tactic(auto, unfolding(crate::specs::Values::text_of))]
 fn text(
     alloc: Global,
@@ -265,6 +273,7 @@ fn string(alloc: Global, pool: &Pool, number: u32) -> Result<Option<Given>, Allo
     }
 }
 
+/// A copy of a text that is short enough to be one. `Err` where there is no memory.
 fn characters(alloc: Global, text: &str) -> Result<Text, AllocError>
     requires { IsShortText text.now }
     ensures { IfOk result (λ made. made ≡ chars text.now) }
@@ -272,6 +281,7 @@ fn characters(alloc: Global, text: &str) -> Result<Text, AllocError>
     Ok(Text::new(alloc, text)?)
 }
 
+/// 0 for false and 1 for anything else, if the type is that of booleans.
 #[tactic(auto, unfolding(crate::specs::Values::boolean_given))]
 fn boolean(kind: u8, word: u32) -> Option<Given>
     ensures { result ≡ boolean_given kind word }

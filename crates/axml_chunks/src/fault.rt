@@ -23,6 +23,7 @@ impl From<Fault> for ReadFault {
 
     ghost from_gives = { λ f e. e ≡ Bad f };
 
+    /// `Bad` with this fault.
     fn from(fault: Fault) -> ReadFault {
         ReadFault::Bad(fault)
     }
@@ -33,6 +34,7 @@ impl From<AllocError> for ReadFault {
 
     ghost from_gives = { λ _ e. e ≡ NoMemory };
 
+    /// `NoMemory`.
     fn from(_error: AllocError) -> ReadFault {
         ReadFault::NoMemory
     }
@@ -43,6 +45,7 @@ impl<T: Drop> From<AllocFailed<T>> for ReadFault {
 
     ghost from_gives = { λ _ e. e ≡ NoMemory };
 
+    /// `NoMemory`; what could not be stored is dropped.
     fn from(_error: AllocFailed<T>) -> ReadFault {
         ReadFault::NoMemory
     }

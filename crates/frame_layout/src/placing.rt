@@ -66,6 +66,8 @@ impl Room {
         )
     }
 
+    /// The left edge of a child of this width in the group's coordinates, between the group's padding and with the
+    /// child's margins, brought into the range of edges.
     #[inline(always)]
     fn left_edge(&self, across: Across, kid: &Facts, width: i32) -> i32
         ensures value { result ≡ clamp_coordinate
@@ -90,6 +92,8 @@ impl Room {
         )
     }
 
+    /// The top edge of a child of this height in the group's coordinates, between the group's padding and with the
+    /// child's margins, brought into the range of edges.
     #[inline(always)]
     fn top_edge(&self, down: Down, kid: &Facts, height: i32) -> i32
         ensures value { result ≡ clamp_coordinate

@@ -44,6 +44,7 @@ impl Rect {
     }
 }
 
+/// The larger of two edges.
 #[tactic(auto, unfolding(crate::specs::Rects::larger_of))]
 fn larger(a: i32, b: i32) -> i32
     ensures { result ≡ larger_of a b }
@@ -51,6 +52,7 @@ fn larger(a: i32, b: i32) -> i32
     a.max(b)
 }
 
+/// The smaller of two edges.
 #[tactic(auto, unfolding(crate::specs::Rects::smaller_of))]
 fn smaller(a: i32, b: i32) -> i32
     ensures { result ≡ smaller_of a b }

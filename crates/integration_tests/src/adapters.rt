@@ -15,6 +15,7 @@ struct FailsSecond<'a> {
 }
 
 impl Read for FailsSecond<'_> {
+    /// Fails at the second call, and takes no byte then; any other call reads on.
     fn read(&mut self, buf: &mut [u8]) -> io::Result<usize> {
         self.reads = self.reads.saturating_add(1);
         if self.reads == 2 {
@@ -31,6 +32,7 @@ struct ByteByByte<'a> {
 }
 
 impl Read for ByteByByte<'_> {
+    /// Reads one byte, or none at the end.
     fn read(&mut self, buf: &mut [u8]) -> io::Result<usize> {
         let most = buf.len().min(1);
         self.bytes.read(&mut buf[..most])
@@ -47,6 +49,7 @@ struct Device {
 }
 
 impl Write for Device {
+    /// Takes at most three bytes, and none at the second call.
     fn write(&mut self, buf: &[u8]) -> io::Result<usize> {
         self.writes = self.writes.saturating_add(1);
         let taken = if self.writes == 2 {
@@ -58,6 +61,7 @@ impl Write for Device {
         Ok(taken)
     }
 
+    /// Fails at the second call; any other one flushes all that was taken.
     fn flush(&mut self) -> io::Result<()> {
         self.flushes = self.flushes.saturating_add(1);
         if self.flushes == 2 {
@@ -68,6 +72,7 @@ impl Write for Device {
     }
 }
 
+/// After a read that fails, the next one goes on where the one before stopped.
 #[test]
 fn a_failed_read_loses_no_byte(rt: HostRuntime) {
     let bytes = b"frame\n";
@@ -82,6 +87,7 @@ fn a_failed_read_loses_no_byte(rt: HostRuntime) {
     assert_eq!(rt; buf, *b"e\nam");
 }
 
+/// A read returns the one byte that is there, although the buffer has room for more.
 #[test]
 fn a_read_gives_what_is_there(rt: HostRuntime) {
     let mut source = StdinSource::new(ByteByByte { bytes: b"frame\n" });
@@ -91,6 +97,7 @@ fn a_read_gives_what_is_there(rt: HostRuntime) {
     assert_eq!(rt; buf[0], b'r');
 }
 
+/// Each write that succeeds is flushed. One of which no byte is taken fails, and so does one whose flush fails.
 #[test]
 fn each_write_is_flushed(rt: HostRuntime) {
     let mut device = Device {
@@ -110,6 +117,7 @@ fn each_write_is_flushed(rt: HostRuntime) {
     assert_eq!(rt; device.flushed, 7);
 }
 
+/// A file is fetched whole under a limit of its own length, and is `Long` under one byte less.
 #[test]
 fn fetches_a_file_of_the_folder(rt: HostRuntime) -> Result<(), Fail> {
     let name = "fetched_by_a_test";
@@ -124,6 +132,7 @@ fn fetches_a_file_of_the_folder(rt: HostRuntime) -> Result<(), Fail> {
     Ok(())
 }
 
+/// A file that is not there is `Missing`; a folder in place of a file is a failure of the shelf.
 #[test]
 fn a_missing_file_is_no_failure_and_a_folder_is_one(rt: HostRuntime) {
     let mut shelf = FolderShelf::new(&rt);

@@ -21,6 +21,7 @@ const REFERENCE: &str = "attr s3 s1 - 01 7f050001\n";
 /// What the file holds after the height.
 const AFTER_HEIGHT: &str = "attr - s5 - 01 7f030000\nend 2 - s4\nendns s2 s3\n";
 
+/// The fault for which a document was refused; `None` if it was read, or if there was no memory.
 fn fault_of(answer: Result<Doc, ReadFault>) -> Option<Fault> {
     match answer {
         Err(ReadFault::Bad(fault)) => Some(fault),
@@ -85,6 +86,8 @@ fn cut_fault(len: usize) -> Option<Fault> {
     Some(Fault { cause, at })
 }
 
+/// The sample prints the same lines in UTF-8 and in UTF-16, except the line of its pool. The sink of the first takes
+/// 4096 bytes a call, that of the second one byte.
 #[test]
 fn prints_a_layout_file_in_both_encodings(rt: HostRuntime) -> Result<(), Fail> {
     let alloc = rt.alloc();
@@ -93,6 +96,7 @@ fn prints_a_layout_file_in_both_encodings(rt: HostRuntime) -> Result<(), Fail> {
     Ok(())
 }
 
+/// A height that is a reference prints as one in both encodings.
 #[test]
 fn prints_a_reference_in_place_of_a_height_in_both_encodings(rt: HostRuntime) -> Result<(), Fail> {
     let alloc = rt.alloc();
@@ -105,6 +109,7 @@ fn prints_a_reference_in_place_of_a_height_in_both_encodings(rt: HostRuntime) ->
     Ok(())
 }
 
+/// The narrow file cut to any length below 348 bytes, with its header as it was, is truncated at byte 0.
 #[test]
 fn a_file_that_is_cut_short_is_truncated_at_its_start(rt: HostRuntime) -> Result<(), Fail> {
     let alloc = rt.alloc();
@@ -121,6 +126,8 @@ fn a_file_that_is_cut_short_is_truncated_at_its_start(rt: HostRuntime) -> Result
     Ok(())
 }
 
+/// The narrow file cut to each fourth length from 8 bytes on, with that length in its header, has the fault of
+/// `cut_fault`.
 #[test]
 fn a_document_that_is_cut_short_has_its_fault(rt: HostRuntime) -> Result<(), Fail> {
     let alloc = rt.alloc();

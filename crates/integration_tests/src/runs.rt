@@ -93,6 +93,7 @@ const REACHING: &[u8] = b"window 100 20\nadd root LinearLayout match match\n\
     add v1 FrameLayout wrap match\nadd v2 View 10 match\nadd v1 View 20 match\n\
     hook v4 size v3 40 match\nframe\n";
 
+/// Copies of the words, as a call takes them. `Err` where there is no memory.
 fn words_of(alloc: Global, words: &[&str]) -> Result<Vec<String>, AllocError> {
     let mut owned = Vec::new(alloc);
     for word in words {
@@ -163,6 +164,7 @@ fn work_of(alloc: Global, parts: &[&[u8]]) -> Result<Work, AllocError> {
     Ok(counted(alloc, &["run"], parts, &[])?.1)
 }
 
+/// A run whose source and sink move one byte a call writes all its replies and ends with 0.
 #[test]
 fn bytes_are_moved_one_by_one(rt: HostRuntime) -> Result<(), Fail> {
     let call = Call {
@@ -178,6 +180,7 @@ fn bytes_are_moved_one_by_one(rt: HostRuntime) -> Result<(), Fail> {
     Ok(())
 }
 
+/// Each call of `ENDINGS` ends with its status, and has written its text and nothing else.
 #[test]
 fn calls_end_where_they_fail(rt: HostRuntime) -> Result<(), Fail> {
     let alloc = rt.alloc();
@@ -189,6 +192,7 @@ fn calls_end_where_they_fail(rt: HostRuntime) -> Result<(), Fail> {
     Ok(())
 }
 
+/// How many views are measured lies between what the frames need and the most that their passes may take.
 #[test]
 fn measurings_are_counted(rt: HostRuntime) -> Result<(), Fail> {
     let alloc = rt.alloc();
@@ -201,6 +205,7 @@ fn measurings_are_counted(rt: HostRuntime) -> Result<(), Fail> {
     Ok(())
 }
 
+/// A view that gets another colour is painted again and no view is measured; a frame without a change does neither.
 #[test]
 fn what_changes_is_painted(rt: HostRuntime) -> Result<(), Fail> {
     let alloc = rt.alloc();
@@ -220,6 +225,7 @@ fn what_changes_is_painted(rt: HostRuntime) -> Result<(), Fail> {
     Ok(())
 }
 
+/// A run whose reply to a frame can't be written ends with 4, and what the frame measured and painted is counted.
 #[test]
 fn a_frame_is_counted_whose_text_is_lost(rt: HostRuntime) -> Result<(), Fail> {
     let (status, work) = counted(rt.alloc(), &["run"], &[BLENDING], &[3])?;
@@ -228,6 +234,7 @@ fn a_frame_is_counted_whose_text_is_lost(rt: HostRuntime) -> Result<(), Fail> {
     Ok(())
 }
 
+/// The work of a load is counted, and is the same where its lines can't be written.
 #[test]
 fn the_work_of_a_load_is_counted(rt: HostRuntime) -> Result<(), Fail> {
     let alloc = rt.alloc();

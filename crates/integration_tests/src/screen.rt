@@ -28,6 +28,7 @@ const ANSWER: &[u8] =
 /// The lines of the screen that have an answer.
 const REPLIES: u64 = 23;
 
+/// The script is read and all its replies are written one byte a call.
 #[test]
 fn a_screen_is_moved_byte_by_byte(rt: HostRuntime) -> Result<(), Fail> {
     let call = Call {
@@ -43,6 +44,8 @@ fn a_screen_is_moved_byte_by_byte(rt: HostRuntime) -> Result<(), Fail> {
     Ok(())
 }
 
+/// A run of which one write fails has written the beginning of its replies and ends with 4; where that write does not
+/// happen, it has written all and ends with 0.
 #[test]
 fn a_screen_ends_at_each_write_that_fails(rt: HostRuntime) -> Result<(), Fail> {
     let mut failed: u64 = 0;

@@ -25,6 +25,7 @@ fn made(alloc: Global, count: u32, flags: u8, rest: &[u8]) -> Result<Vec<u8>, Al
     Ok(bytes)
 }
 
+/// The fault for which a pool was refused; `None` if it was read, or if there was no memory.
 fn fault_of(answer: Result<Pool, ReadFault>) -> Option<Fault> {
     match answer {
         Err(ReadFault::Bad(fault)) => Some(fault),
@@ -40,6 +41,7 @@ fn has_strings(pool: &Pool) -> bool {
         && pool.text(6).is_none()
 }
 
+/// The pools of both samples have the same strings, one in UTF-8 and one in UTF-16.
 #[test]
 fn reads_the_same_strings_in_both_encodings(rt: HostRuntime) -> Result<(), Fail> {
     let alloc = rt.alloc();
@@ -50,6 +52,7 @@ fn reads_the_same_strings_in_both_encodings(rt: HostRuntime) -> Result<(), Fail>
     Ok(())
 }
 
+/// A pair of surrogates is one character, and a surrogate alone is `BadString`.
 #[test]
 fn reads_a_pair_of_surrogates(rt: HostRuntime) -> Result<(), Fail> {
     let alloc = rt.alloc();
@@ -73,6 +76,7 @@ fn reads_a_pair_of_surrogates(rt: HostRuntime) -> Result<(), Fail> {
     Ok(())
 }
 
+/// A string of 200 bytes is read whole, although its length takes two bytes.
 #[test]
 fn takes_a_length_in_two_bytes(rt: HostRuntime) -> Result<(), Fail> {
     let alloc = rt.alloc();
@@ -87,6 +91,7 @@ fn takes_a_length_in_two_bytes(rt: HostRuntime) -> Result<(), Fail> {
     Ok(())
 }
 
+/// A pool of 65536 strings is read; one of 65537 is `TooBig`.
 #[test]
 fn takes_65536_strings_and_refuses_one_more(rt: HostRuntime) -> Result<(), Fail> {
     let alloc = rt.alloc();

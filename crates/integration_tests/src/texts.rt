@@ -15,6 +15,7 @@ impl Sink for Measured {
 
     ghost state = { λ _. record { gone = None; faults = 0 } };
 
+    /// Takes the whole piece, counts the call, and keeps the length of the longest piece.
     fn write(&mut self, piece: &[u8]) -> Result<usize, Failed> {
         self.writes = self.writes.saturating_add(1);
         self.longest = self.longest.max(piece.len());
@@ -22,6 +23,7 @@ impl Sink for Measured {
     }
 }
 
+/// 1000 texts of ten bytes go to the sink in three writes, of which the longest has 4090 bytes.
 #[test]
 fn gathers_text_into_large_pieces(rt: HostRuntime) {
     let mut sink = Measured {

@@ -4,6 +4,7 @@ use std::test::Fail;
 use view_model::{Class, Facts, Text};
 use view_tree::ViewTree;
 
+/// The copy of a tree of one view is there, and has the number of that view.
 #[test]
 fn a_tree_is_copied_where_there_is_memory(rt: HostRuntime) -> Result<(), Fail> {
     let alloc = rt.alloc();

@@ -9,6 +9,7 @@ ghost use Rattle.view_model.specs.Sums.{IsNoLessThanTwo, IsNoMoreThanTwo};
 use geom_core::{Mode, Size, Spec, to_size};
 use view_model::{Alignment, Facts, Gravity};
 
+/// The height of a size on the vertical axis, the width on the other.
 #[tactic(auto, unfolding(view_model::specs::LinearLayout::size_on))]
 pub fn size_on(vertical: bool, size: Size) -> i32
     ensures { result ≡ size_on vertical size }
@@ -16,6 +17,7 @@ pub fn size_on(vertical: bool, size: Size) -> i32
     if vertical { size.h } else { size.w }
 }
 
+/// The spec for the height on the vertical axis, the one for the width on the other.
 #[tactic(auto, unfolding(view_model::specs::LinearLayout::spec_on))]
 pub fn spec_on(vertical: bool, ws: Spec, hs: Spec) -> Spec
     ensures { result ≡ spec_on vertical (record { across = ws; down = hs }) }
@@ -23,6 +25,7 @@ pub fn spec_on(vertical: bool, ws: Spec, hs: Spec) -> Spec
     if vertical { hs } else { ws }
 }
 
+/// The height that a view wants on the vertical axis, the width on the other: pixels, `MATCH` or `WRAP`.
 #[tactic(auto, unfolding(view_model::specs::LinearLayout::dim_on))]
 pub fn dim_on(vertical: bool, facts: &Facts) -> i32
     ensures { result ≡ dim_on vertical (layout_facts facts.now) }
@@ -119,6 +122,7 @@ pub fn high_padding(vertical: bool, facts: &Facts) -> i32
     facts.padding_right()
 }
 
+/// Where a gravity places views on an axis. On the horizontal one, `rtl` turns start and end around.
 #[tactic(auto, unfolding(view_model::specs::LinearLayout::alignment_on))]
 pub fn alignment_on(vertical: bool, rtl: bool, gravity: Gravity) -> Alignment
     ensures { result ≡ alignment_on vertical rtl gravity }

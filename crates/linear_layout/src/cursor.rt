@@ -211,6 +211,8 @@ fn spare_of(room: i32, total: i64) -> i128
     i128::from(room) - i128::from(total)
 }
 
+/// Where the line begins after a padding and these spare pixels, which are negative if the children need more than
+/// there is.
 fn following(padding: i32, spare: i128) -> i128
     requires { unsigned_abs spare ≤ 2 ^ 65 }
     ensures value { result ≡ padding +ℤ spare }

@@ -89,12 +89,14 @@ impl Line {
         self.vertical
     }
 
+    /// The spec of the group along the line.
     pub fn spec_along(&self) -> Spec
         ensures { result ≡ spec_on self.now.vertical (specs_in self.now) }
     {
         spec_on(self.vertical(), self.ws, self.hs)
     }
 
+    /// The spec of the group across the line.
     pub fn spec_beside(&self) -> Spec
         ensures { result ≡ spec_on (not self.now.vertical) (specs_in self.now) }
     {
@@ -229,6 +231,7 @@ pub fn weighted_claim(weight: u32, claim: i64) -> i64
     claim
 }
 
+/// The length of a child with its margins, or 0 where these make it negative.
 #[tactic(auto, unfolding(view_model::specs::LinearLayout::extent))]
 fn extent(size: i32, margins: i64) -> i64
     requires low { IsNoLessThanTwo margins }

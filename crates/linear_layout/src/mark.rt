@@ -18,6 +18,7 @@ pub struct Mark {
 }
 
 impl Mark {
+    /// The mark at `at`, at most 2^66 from 0, before the first child.
     pub fn new(at: i128) -> Mark
         requires near { unsigned_abs at ≤ 2 ^ 66 }
         ensures count { result.count ≡ 0 }

@@ -16,6 +16,7 @@ pub struct Total {
 }
 
 impl Total {
+    /// The total of no children.
     pub fn new() -> Total
         ensures count { result.count ≡ 0 }
         ensures sum { result.sum ≡ pos 0 }
@@ -23,6 +24,7 @@ impl Total {
         Total { count: 0, sum: 0 }
     }
 
+    /// The total with one child more, whose extent is from 0 to 2^33.
     pub fn add(self, extent: i64) -> Total
         requires low { pos 0 ≤ℤ extent }
         requires high { extent ≤ℤ pos (2 ^ 33) }
@@ -49,6 +51,7 @@ pub struct Weights {
 }
 
 impl Weights {
+    /// The weight of no children.
     pub fn new() -> Weights
         ensures count { result.count ≡ 0 }
         ensures sum { result.sum ≡ 0 }
@@ -56,6 +59,7 @@ impl Weights {
         Weights { count: 0, sum: 0 }
     }
 
+    /// The weights with that of one child more, in 256ths.
     pub fn add(self, weight: u32) -> Weights
         ensures count { self.count < MAX_VIEWS → result.count ≡ self.count + 1 }
         ensures sum { self.count < MAX_VIEWS → result.sum ≡ self.sum + weight }
@@ -79,12 +83,14 @@ pub struct Greatest {
 }
 
 impl Greatest {
+    /// The greatest breadth of no children, which is 0.
     pub fn new() -> Greatest
         ensures { result.value ≡ pos 0 }
     {
         Greatest { value: 0 }
     }
 
+    /// The greater of this and the breadth of one child more, which is at most 2^33.
     pub fn with(self, breadth: i64) -> Greatest
         requires { breadth ≤ℤ pos (2 ^ 33) }
         ensures { result.value ≡ greater self.value breadth }
@@ -95,6 +101,7 @@ impl Greatest {
     }
 }
 
+/// The greater of two lengths.
 #[tactic(auto, unfolding(view_model::specs::LinearLayout::greater))]
 pub fn greater(a: i64, b: i64) -> i64
     ensures value { result ≡ greater a b }

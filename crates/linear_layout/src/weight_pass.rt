@@ -118,6 +118,7 @@ fn first_length(skipped: bool, length: i32) -> i32
     length
 }
 
+/// The spec for exactly the length of a child and its share, which may be negative, brought into the range of sizes.
 fn spec_with_share(length: i32, share: i128) -> Spec
     requires { unsigned_abs share ≤ 2 ^ 79 }
     ensures { result ≡ exactly (length +ℤ share) }

@@ -21,6 +21,7 @@ fn visibility_name(visibility: u64) -> &'static str
 }
 
 impl Maker {
+    /// The line that sets the width and the height of a view in pixels, without its end.
     fn put_size(&mut self, view: u64, width: u64, height: u64)
         ensures { Puts self.old self.new (size_line view width height) }
     {
@@ -32,6 +33,7 @@ impl Maker {
         self.number(height);
     }
 
+    /// The line that sets the background of a view, without its end. The colour has 24 bits and is opaque.
     fn put_color(&mut self, view: u64, color: u32)
         ensures { Puts self.old self.new (color_line view color) }
     {
@@ -41,6 +43,7 @@ impl Maker {
         self.six_digits(color);
     }
 
+    /// The line that sets the visibility of a view by its word, without its end.
     fn put_visible(&mut self, view: u64, visibility: &str)
         ensures { Puts self.old self.new (visible_line view visibility.now) }
     {
@@ -50,6 +53,7 @@ impl Maker {
         self.put(visibility.as_bytes());
     }
 
+    /// The line that sets the weight of a view, without its end.
     fn put_weight(&mut self, view: u64, weight: u64)
         ensures { Puts self.old self.new (weight_line view weight) }
     {
@@ -59,6 +63,8 @@ impl Maker {
         self.number(weight);
     }
 
+    /// The line that sets the margins of a view in pixels, without its end: `across` left and right, `down` above and
+    /// below.
     fn put_margins(&mut self, view: u64, across: u64, down: u64)
         ensures { Puts self.old self.new (margins_line view across down) }
     {
@@ -74,6 +80,7 @@ impl Maker {
         self.number(down);
     }
 
+    /// A line that gives a view a width and a height below 60 pixels, drawn in this order.
     fn size(&mut self, view: u64)
         ensures { (load : Load) → Makes self.old load → Makes self.new (with_size view load) }
     {
@@ -83,6 +90,7 @@ impl Maker {
         self.put(b"\n");
     }
 
+    /// A line that gives a view a background of a colour that is drawn.
     fn color(&mut self, view: u64)
         ensures { (load : Load) → Makes self.old load → Makes self.new (with_color view load) }
     {
@@ -91,6 +99,7 @@ impl Maker {
         self.put(b"\n");
     }
 
+    /// A line that gives a view one of the three visibilities, which is drawn.
     fn visibility(&mut self, view: u64)
         ensures { (load : Load) → Makes self.old load → Makes self.new (with_visibility view load) }
     {
@@ -99,6 +108,7 @@ impl Maker {
         self.put(b"\n");
     }
 
+    /// A line that gives a view a weight below 3, which is drawn.
     fn weight(&mut self, view: u64)
         ensures { (load : Load) → Makes self.old load → Makes self.new (with_weight view load) }
     {
@@ -107,6 +117,8 @@ impl Maker {
         self.put(b"\n");
     }
 
+    /// A line that gives a view margins below 8 pixels: those at the left and the right are drawn, then those above and
+    /// below.
     fn margins(&mut self, view: u64)
         ensures { (load : Load) → Makes self.old load → Makes self.new (with_margins view load) }
     {

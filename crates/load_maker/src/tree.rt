@@ -21,6 +21,7 @@ fn class_name(class: u64) -> &'static str
 }
 
 impl Maker {
+    /// The line that adds a view of a class and a size in pixels to a parent, without its end.
     fn put_add(&mut self, parent: u64, class: &str, width: u64, height: u64)
         ensures { Puts self.old self.new (add_line parent class.now width height) }
     {
@@ -34,6 +35,7 @@ impl Maker {
         self.number(height);
     }
 
+    /// The line that sets the text of a view to a number, without its end.
     fn put_text(&mut self, view: u64, number: u64)
         ensures { Puts self.old self.new (text_line view number) }
     {

@@ -47,6 +47,7 @@ pub fn kid_in_turn(tree: &ViewTree, view: Key, axis: Axis, turn: usize) -> Key
     tree.child_at(view, place_in_turn(tree, view, axis, turn))
 }
 
+/// The place among its siblings of the child whose turn it is on an axis. Turns count from 0.
 fn place_in_turn(tree: &ViewTree, view: Key, axis: Axis, turn: usize) -> usize
     requires live { IsLive tree.now view }
     requires siblings { class_of tree.now view ≡ RelativeLayout }

@@ -37,6 +37,7 @@ pub fn range_in(own: &Facts, bounds: Rect, child: Option<Rect>) -> i32
     excess(height(child), height(bounds), own.padding_down())
 }
 
+/// The height of a rectangle, in 64 bits since its edges may be far apart.
 fn height(rect: Rect) -> i64
     ensures value { result ≡ rect.bottom -ℤ rect.top }
     ensures low { IsNoLessThanTwo result }

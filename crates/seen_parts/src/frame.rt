@@ -67,6 +67,7 @@ fn earlier(clip: i32, edge: i64) -> i64
     i64::from(clip).min(edge)
 }
 
+/// An edge in 32 bits, which has to fit them.
 fn narrow(edge: i64) -> i32
     requires low { negsuc 2147483647 ≤ℤ edge }
     requires high { edge ≤ℤ pos 2147483647 }
@@ -75,6 +76,7 @@ fn narrow(edge: i64) -> i32
     edge as i32
 }
 
+/// The rectangle with these edges in window coordinates. It has at least one pixel, and each edge fits 32 bits.
 fn rect_of(left: i64, top: i64, right: i64, bottom: i64) -> Rect
     requires left { negsuc 2147483647 ≤ℤ left }
     requires top { negsuc 2147483647 ≤ℤ top }
@@ -140,6 +142,7 @@ fn padding_of(facts: &Facts) -> Insets
     }
 }
 
+/// A frame with each edge moved inwards by the padding of its side, in pixels.
 fn without(frame: Frame, padding: Insets) -> Frame
     requires { IsInReach frame }
     ensures { IsWithout frame padding result }

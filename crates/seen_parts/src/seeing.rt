@@ -128,6 +128,7 @@ fn lies_in(before: Option<Rect>, rect: Rect) -> bool
     }
 }
 
+/// Whether two rectangles have the same four edges.
 fn is_same(one: Rect, other: Rect) -> bool
     ensures same { result ≡ true → one ≡ other }
     ensures other { result ≡ false → one ≢ other }

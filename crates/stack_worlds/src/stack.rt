@@ -263,6 +263,7 @@ impl Stack {
         Ok(())
     }
 
+    /// Whether the stack has a window of this number.
     fn is_open(&self, k: u8) -> bool
         ensures { result ≡ is_open self.now.panes k }
     {

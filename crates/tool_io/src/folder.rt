@@ -49,6 +49,8 @@ impl<R: Files> Shelf for FolderShelf<R> {
 
     ghost fetches = { λ _. Unseen };
 
+    /// Reads the file of this name if it has at most `limit` bytes. `Missing` where the folder has none; each failure
+    /// is counted.
     #[tactic(auto, using(crate::proofs::Counting::counts_each))]
     fn fetch(&mut self, name: &str, into: &mut Vec<u8>, limit: usize) -> Result<Found, ShelfFault>
         ensures empty { IsEmptyUnlessWhole result into.new.items }

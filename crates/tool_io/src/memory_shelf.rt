@@ -52,6 +52,8 @@ impl Shelf for MemoryShelf {
 
     ghost fetches = { λ s. Counted s.calls.made };
 
+    /// Copies the file of this name if it has at most `limit` bytes. `Failed` at the calls that are listed, and then
+    /// `into` is empty.
     fn fetch(&mut self, name: &str, into: &mut Vec<u8>, limit: usize) -> Result<Found, ShelfFault>
         ensures stays { self.new.files ≡ self.old.files }
         ensures found { IfOk result (λ found. Fetched self.old.files name.now limit found into.new.items) }

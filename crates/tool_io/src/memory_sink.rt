@@ -63,6 +63,8 @@ impl Sink for MemorySink {
 
     ghost state = { λ s. record { gone = Some s.gone; faults = s.calls.faults } };
 
+    /// Keeps the first bytes of the piece, at most `most`. Fails at the calls that are listed, and where there is no
+    /// memory.
     fn write(&mut self, piece: &[u8]) -> Result<usize, Failed>
         ensures bound { WritesAtMost result piece.now }
         ensures progress { TakesSome result piece.now }

@@ -53,6 +53,7 @@ impl Source for MemorySource {
 
     ghost faults = { λ s. s.calls.faults };
 
+    /// Moves as many of the bytes that are left as it may. Fails at the calls that are listed, and moves none then.
     fn read(&mut self, buf: &mut [u8]) -> Result<usize, Failed>
         ensures bound { ReadsAtMost result buf.new }
         ensures bytes { ReadConsumes (Some self.old.left.bytes) (Some self.new.left.bytes) result buf.new }

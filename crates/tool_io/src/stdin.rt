@@ -40,6 +40,7 @@ impl<R: Read> Source for StdinSource<R> {
 
     ghost faults = { λ s. s.faults };
 
+    /// Reads once from the reader. Each of its errors is `Failed`, and is counted.
     fn read(&mut self, buf: &mut [u8]) -> Result<usize, Failed>
         ensures bound { ReadsAtMost result buf.new }
 

@@ -39,6 +39,7 @@ impl<W: Write> Sink for StdoutSink<W> {
 
     ghost state = { λ s. record { gone = None; faults = s.faults } };
 
+    /// Writes once to the writer and flushes it. An error of either is `Failed`, and is counted.
     fn write(&mut self, piece: &[u8]) -> Result<usize, Failed>
         ensures bound { WritesAtMost result piece.now }
         ensures progress { TakesSome result piece.now }

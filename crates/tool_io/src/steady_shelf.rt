@@ -41,6 +41,7 @@ impl Shelf for SteadyShelf {
 
     ghost fetches = { λ _. Unseen };
 
+    /// Copies the file of this name: `Missing` where there is none, `Long` if it has more than `limit` bytes.
     fn fetch(&mut self, name: &str, into: &mut Vec<u8>, limit: usize) -> Result<Found, ShelfFault>
         ensures stays { self.new ≡ self.old }
         ensures found { IfOk result (λ found. Fetched self.old name.now limit found into.new.items) }

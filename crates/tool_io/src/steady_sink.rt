@@ -40,6 +40,7 @@ impl Sink for SteadySink {
 
     ghost state = { λ _. record { gone = None; faults = 0 } };
 
+    /// Takes the first bytes of the piece, at most `most`, and keeps none of them.
     fn write(&mut self, piece: &[u8]) -> Result<usize, Failed>
         ensures bound { WritesAtMost result piece.now }
         ensures progress { TakesSome result piece.now }

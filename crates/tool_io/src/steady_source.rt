@@ -43,6 +43,7 @@ impl Source for SteadySource {
 
     ghost faults = { λ _. 0 };
 
+    /// Moves as many of the bytes that are left as it may.
     fn read(&mut self, buf: &mut [u8]) -> Result<usize, Failed>
         ensures bound { ReadsAtMost result buf.new }
         ensures bytes { ReadConsumes (Some self.old.bytes) (Some self.new.bytes) result buf.new }

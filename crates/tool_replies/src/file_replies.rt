@@ -21,6 +21,7 @@ pub fn write_refused_file<K: Sink>(sink: &mut K, number: u8) -> Result<(), Faile
     reply.finish(sink)
 }
 
+/// The line for a file that is refused, by the number of the refusal.
 fn put_file<K: Sink>(reply: &mut TextBuffer, sink: &mut K, number: u8)
     requires first { IsFirstOrLater number }
     requires last { IsLastOrEarlier number }
@@ -40,6 +41,7 @@ pub fn write_fault<K: Sink>(sink: &mut K, fault: Fault) -> Result<(), Failed>
     reply.finish(sink)
 }
 
+/// The line for a fault: the number and the name of its cause, and at which byte of the file it is.
 fn put_fault<K: Sink>(reply: &mut TextBuffer, sink: &mut K, fault: Fault)
     ensures { Sends (K.state sink.old) (K.state sink.new) reply.old reply.new (fault_text fault) }
 {

@@ -100,6 +100,7 @@ fn write_values<K: Sink>(table: &Table, ids: &[String], sink: &mut K) -> Result<
     reply.finish(sink)
 }
 
+/// What each resource holds, in the order of these ids, which are words of hexadecimal digits.
 fn put_values<K: Sink>(reply: &mut TextBuffer, sink: &mut K, table: &Table, ids: &[String])
     ensures { Sends (K.state sink.old) (K.state sink.new) reply.old reply.new
         (value_lines table.now (resource_ids ids.now)) }

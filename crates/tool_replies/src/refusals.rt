@@ -27,6 +27,7 @@ pub fn write_refusal<K: Sink>(
     reply.finish(sink)
 }
 
+/// The line for a refusal, with the number of the line of the script that is refused.
 fn put_refusal<K: Sink>(reply: &mut TextBuffer, sink: &mut K, line: u64, refusal: &Refusal)
     ensures { Sends (K.state sink.old) (K.state sink.new) reply.old reply.new
         (refused_line line (plain_refusal refusal.now)) }
@@ -51,6 +52,8 @@ pub fn put_refused<K: Sink>(reply: &mut TextBuffer, sink: &mut K, number: u8)
     reply.put(sink, name_of(number));
 }
 
+/// What follows the name of a refusal: a place, an element, or the axis and the members of a cycle. Nothing if it is
+/// plain.
 fn put_detail<K: Sink>(reply: &mut TextBuffer, sink: &mut K, detail: &Detail)
     ensures { Sends (K.state sink.old) (K.state sink.new) reply.old reply.new (reason_text (reason_of detail.now)) }
 {
@@ -74,12 +77,14 @@ pub fn put_counted<K: Sink>(reply: &mut TextBuffer, sink: &mut K, word: &[u8], n
     reply.natural(sink, number);
 }
 
+/// The word for an axis, after a space.
 fn axis(down: bool) -> &'static [u8]
     ensures { result.now ≡ axis_text down }
 {
     if down { b" vertical" } else { b" horizontal" }
 }
 
+/// The members of a cycle, in order.
 fn put_members<K: Sink>(reply: &mut TextBuffer, sink: &mut K, members: &[Member])
     ensures { Sends (K.state sink.old) (K.state sink.new) reply.old reply.new (texts_of member_text members.now) }
 {
@@ -88,6 +93,7 @@ fn put_members<K: Sink>(reply: &mut TextBuffer, sink: &mut K, members: &[Member]
     }
 }
 
+/// A member of a cycle after a space: `v` and the number of a view, or `e` and that of an element.
 #[tactic(auto, unfolding(crate::specs::Refusals::member_text))]
 fn put_member<K: Sink>(reply: &mut TextBuffer, sink: &mut K, member: Member)
     ensures { Sends (K.state sink.old) (K.state sink.new) reply.old reply.new (member_text member) }

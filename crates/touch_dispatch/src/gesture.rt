@@ -96,6 +96,7 @@ impl Gesture {
         set_marks(&mut self.marks, group, new);
     }
 
+    /// Sets whether a view is pressed. The view has a place here.
     pub(crate) fn press(&mut self, view: u64, on: bool)
         requires { is_open self.old view ≡ true }
         ensures opened { (other : ℕ) → is_open self.new other ≡ is_open self.old other }
@@ -109,6 +110,7 @@ impl Gesture {
         set_marks(&mut self.marks, view, new);
     }
 
+    /// Sets the drag of a view. The view has a place here.
     pub(crate) fn set_drag(&mut self, view: u64, drag: Drag)
         requires { is_open self.old view ≡ true }
         ensures opened { (other : ℕ) → is_open self.new other ≡ is_open self.old other }
@@ -118,18 +120,21 @@ impl Gesture {
         set_marks(&mut self.marks, view, Marks { drag, ..marks });
     }
 
+    /// Whether a group may not take events away from its children.
     pub(crate) fn disallows(&self, group: u64) -> bool
         ensures { result ≡ (gesture_of self.now).disallows group }
     {
         marks_of(&self.marks, group).disallows
     }
 
+    /// Whether a view is pressed.
     pub(crate) fn presses(&self, view: u64) -> bool
         ensures { result ≡ (gesture_of self.now).presses view }
     {
         marks_of(&self.marks, view).pressed
     }
 
+    /// The drag of a view; it follows no pointer if none was set.
     pub(crate) fn drag(&self, view: u64) -> Drag
         ensures { result ≡ (gesture_of self.now).drags view }
     {
@@ -210,6 +215,7 @@ impl Gesture {
     }
 }
 
+/// The marks of a view that never got some: it is not pressed, and follows no pointer.
 fn no_marks() -> Marks
     ensures { result ≡ no_marks }
 {

@@ -80,6 +80,7 @@ fn look(gesture: &mut Gesture, own: &Receiver, event: &Event)
     }
 }
 
+/// Whether a group that is asked takes an event away: its plan has the action, or it is a scroll view whose drag is on.
 fn intercepts(gesture: &Gesture, own: &Receiver, event: &Event) -> bool
     ensures { result ≡ intercepts own.now event.now (gesture_of gesture.now) }
 {
@@ -116,6 +117,8 @@ pub fn handle(gesture: &mut Gesture, log: &mut Log, own: &Receiver, event: &Even
     }
 }
 
+/// A view that can be clicked handles an event: it is pressed as long as the first point stays near it, and a click is
+/// noted if the last pointer goes up there.
 fn click(gesture: &mut Gesture, log: &mut Log, own: &Receiver, event: &Event)
     requires open { IsOpen gesture.old own.now.number }
     requires fits { (offsets : ℕ → ℤ)
@@ -135,6 +138,7 @@ fn click(gesture: &mut Gesture, log: &mut Log, own: &Receiver, event: &Event)
     }
 }
 
+/// Whether a view is pressed after an action, by whether the first point is near it and whether it was pressed before.
 fn pressed_after(action: Action, near: bool, pressed: bool) -> bool
     ensures { result ≡ pressed_after action near pressed }
 {
@@ -146,6 +150,7 @@ fn pressed_after(action: Action, near: bool, pressed: bool) -> bool
     }
 }
 
+/// Whether an action is a click on a view: the last pointer goes up near it, and it was pressed.
 fn clicks(action: Action, near: bool, pressed: bool) -> bool
     ensures { result ≡ clicks action near pressed }
 {

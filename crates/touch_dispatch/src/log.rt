@@ -45,6 +45,7 @@ impl Log {
     ghost use Rattle.std.specs.Prelude.{List};
     ghost use Rattle.touch_dispatch.specs.declared.log.Entry.{Entry as EntryHere};
 
+    /// A log without entries.
     pub fn new(alloc: Global) -> Log
         ensures { result.entries.items ≡ [] }
     {
@@ -62,6 +63,7 @@ impl Log {
         self.entries.reserve(entries.max(LEAST_ROOM))
     }
 
+    /// The entries, the oldest first.
     pub fn entries(&self) -> &[Entry]
         ensures { result.now ≡ self.now.entries.items }
     {

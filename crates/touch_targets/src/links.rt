@@ -11,6 +11,7 @@ use slab::Slab;
 use slab_link::{LINKS_END, Link};
 use std::alloc::AllocError;
 
+/// Sets the newest target of a group.
 fn set_newest(nodes: &mut Slab<Node>, group: usize, newest: Link)
     requires { ContainsKey nodes.old group }
     ensures nodes { (x : ℕ)
@@ -21,6 +22,7 @@ fn set_newest(nodes: &mut Slab<Node>, group: usize, newest: Link)
     node.newest = newest;
 }
 
+/// Sets which target of its group comes after this one.
 fn set_next(nodes: &mut Slab<Node>, slot: usize, next: Link)
     requires { ContainsKey nodes.old slot }
     ensures nodes { (x : ℕ) → get nodes.new x ≡ changed (get nodes.old) slot (λ node. record node { next = next }) x }
@@ -30,6 +32,7 @@ fn set_next(nodes: &mut Slab<Node>, slot: usize, next: Link)
     node.next = next;
 }
 
+/// Sets the pointers of a target, where bit `k` represents the id `k`.
 fn write_ids(nodes: &mut Slab<Node>, slot: usize, ids: u32)
     requires { ContainsKey nodes.old slot }
     ensures nodes { (x : ℕ) → get nodes.new x ≡ changed (get nodes.old) slot (λ node. record node { ids = ids }) x }

@@ -211,6 +211,8 @@ impl Facts {
         }
     }
 
+    /// The margin on the left of a view that may have a start or an end margin; the plain one if none is set for this
+    /// side.
     #[inline(never)]
     fn directed_margin_left(&self) -> i32
         ensures { result ≡ margin_left self.now }
@@ -218,6 +220,8 @@ impl Facts {
         left_of_two(self.rtl, self.margin_start, self.margin_end).unwrap_or(self.margins.left)
     }
 
+    /// The margin on the right of a view that may have a start or an end margin; the plain one if none is set for this
+    /// side.
     #[inline(never)]
     fn directed_margin_right(&self) -> i32
         ensures { result ≡ margin_right self.now }
@@ -225,6 +229,8 @@ impl Facts {
         right_of_two(self.rtl, self.margin_start, self.margin_end).unwrap_or(self.margins.right)
     }
 
+    /// The padding on the left of a view that may have a start or an end padding; the plain one if none is set for this
+    /// side.
     #[inline(never)]
     fn directed_padding_left(&self) -> i32
         ensures { result ≡ padding_left self.now }
@@ -232,6 +238,8 @@ impl Facts {
         left_of_two(self.rtl, self.padding_start, self.padding_end).unwrap_or(self.padding.left)
     }
 
+    /// The padding on the right of a view that may have a start or an end padding; the plain one if none is set for
+    /// this side.
     #[inline(never)]
     fn directed_padding_right(&self) -> i32
         ensures { result ≡ padding_right self.now }

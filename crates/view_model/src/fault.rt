@@ -15,6 +15,7 @@ pub enum Fault {
 impl From<Refusal> for Fault {
     ghost from_gives = { λ refusal fault. fault ≡ Refused refusal };
 
+    /// `Refused` with this refusal.
     fn from(refusal: Refusal) -> Fault {
         Fault::Refused(refusal)
     }
@@ -23,6 +24,7 @@ impl From<Refusal> for Fault {
 impl From<AllocError> for Fault {
     ghost from_gives = { λ _ fault. fault ≡ NoMemory };
 
+    /// `NoMemory`.
     fn from(_error: AllocError) -> Fault {
         Fault::NoMemory
     }
@@ -31,6 +33,7 @@ impl From<AllocError> for Fault {
 impl<T: Drop> From<AllocFailed<T>> for Fault {
     ghost from_gives = { λ _ fault. fault ≡ NoMemory };
 
+    /// `NoMemory`; what could not be stored is dropped.
     fn from(_error: AllocFailed<T>) -> Fault {
         Fault::NoMemory
     }

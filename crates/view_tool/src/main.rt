@@ -18,6 +18,7 @@ use tool_replies::status::{NO_MEMORY, USAGE};
 use view_model::Work;
 use whole_tool::tool;
 
+/// Ends with the status of the tool. Where its words can't be read, that is `NO_MEMORY` or `USAGE`, by the reason.
 fn main(rt: HostRuntime) -> ExitCode {
     ExitCode::from(match arguments(&rt) {
         Ok(arguments) => status_of(&rt, arguments.as_slice()),

@@ -17,6 +17,7 @@ impl From<AllocError> for Fault {
 
     ghost from_gives = { λ _ fault. fault ≡ NoMemory };
 
+    /// `NoMemory`.
     fn from(_: AllocError) -> Fault {
         Fault::NoMemory
     }
@@ -28,6 +29,7 @@ impl<T: Drop> From<AllocFailed<T>> for Fault {
 
     ghost from_gives = { λ _ fault. fault ≡ NoMemory };
 
+    /// `NoMemory`; what could not be stored is dropped.
     fn from(_: AllocFailed<T>) -> Fault {
         Fault::NoMemory
     }

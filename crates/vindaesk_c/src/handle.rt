@@ -84,6 +84,7 @@ impl Handle {
 }
 
 impl Drop for Handle {
+    /// Frees the open session, if one is.
     fn drop(self) {
         if let Some(loose) = self.into_loose() {
             drop(loose.into_box());

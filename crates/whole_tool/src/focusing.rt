@@ -158,6 +158,7 @@ fn write_answer<K: Sink>(sink: &mut K, answer: Result<Option<u64>, u8>) -> Resul
     reply.finish(sink)
 }
 
+/// The line for an answer: the view that gets the focus, that none does, or the number of the refusal.
 fn put_answer<K: Sink>(reply: &mut TextBuffer, sink: &mut K, answer: Result<Option<u64>, u8>)
     requires { IfErr answer IsNamed }
     ensures { Sends (K.state sink.old) (K.state sink.new) reply.old reply.new (answer_text answer) }
@@ -169,6 +170,7 @@ fn put_answer<K: Sink>(reply: &mut TextBuffer, sink: &mut K, answer: Result<Opti
     }
 }
 
+/// The line for the view of this number, which gets the focus.
 #[tactic(auto, using(text_lines::proofs::Sending::sends_both), unfolding(crate::specs::Focus::found_text))]
 fn put_found<K: Sink>(reply: &mut TextBuffer, sink: &mut K, number: u64)
     ensures { Sends (K.state sink.old) (K.state sink.new) reply.old reply.new (found_text number) }
@@ -177,6 +179,7 @@ fn put_found<K: Sink>(reply: &mut TextBuffer, sink: &mut K, number: u64)
     reply.put(sink, b"\n");
 }
 
+/// The line for a question that is refused, by the number of the refusal.
 #[tactic(auto, using(text_lines::proofs::Sending::sends_both), unfolding(crate::specs::Focus::refused_question))]
 fn put_refused_question<K: Sink>(reply: &mut TextBuffer, sink: &mut K, number: u8)
     requires { IsNamed number }

@@ -162,6 +162,7 @@ fn write_outcome<K: Sink>(sink: &mut K, outcome: Outcome) -> Result<(), Failed>
     reply.finish(sink)
 }
 
+/// The three lines of an outcome: how many lines the load has, how many were refused, and the digest of the page.
 #[tactic(auto, using(text_lines::proofs::Sending::sends_both), unfolding(crate::specs::Gen::outcome_text))]
 fn put_outcome<K: Sink>(reply: &mut TextBuffer, sink: &mut K, outcome: Outcome)
     ensures { Sends (K.state sink.old) (K.state sink.new) reply.old reply.new (outcome_text outcome) }

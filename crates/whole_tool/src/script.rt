@@ -36,6 +36,7 @@ impl From<Stop> for End {
 
     ghost from_gives = { λ stop end. end ≡ Stopped stop };
 
+    /// `Stopped` with this reason.
     fn from(stop: Stop) -> End {
         End::Stopped(stop)
     }

@@ -81,6 +81,7 @@ fn gen_form(number: &String) -> Option<Form<'_>>
     }
 }
 
+/// `gen` with a size from 1 to 100; `None` for any other number.
 fn form_of_size<'a>(n: u64) -> Option<Form<'a>>
     ensures form { form_now result ≡ gen_of (Some n) }
     ensures size { IfSome result HasSize }
@@ -200,6 +201,7 @@ fn is_resource_id(word: &String) -> bool
     word.len() == 8 && hex(word.as_bytes()).is_some()
 }
 
+/// Whether a word is this text, byte for byte.
 fn is(word: &String, text: &str) -> bool
     ensures { result ≡ bytes_eq (string_bytes word.now) text.now }
 {

@@ -20,6 +20,7 @@ impl From<AllocError> for StepFault {
 
     ghost from_gives = { λ _ fault. fault ≡ NoMemory };
 
+    /// `NoMemory`.
     fn from(_error: AllocError) -> StepFault {
         StepFault::NoMemory
     }
@@ -31,6 +32,7 @@ impl From<Fault> for StepFault {
 
     ghost from_gives = { λ given fault. fault ≡ step_fault_of given };
 
+    /// The refusal or the lack of memory, as a line has it.
     fn from(given: Fault) -> StepFault {
         match given {
             Fault::Refused(refusal) => StepFault::Refused(refusal),

@@ -22,12 +22,14 @@ fn put_pointer<K: Sink>(text: &mut TextBuffer, sink: &mut K, pointer: u8)
     text.put(sink, b")");
 }
 
+/// The id of a pointer in decimal.
 fn put_id<K: Sink>(text: &mut TextBuffer, sink: &mut K, id: u8)
     ensures { Sends (K.state sink.old) (K.state sink.new) text.old text.new (decimal id) }
 {
     text.natural(sink, u64::from(id));
 }
 
+/// The name of the action, and the pointer that goes down besides others.
 fn put_pointer_down<K: Sink>(text: &mut TextBuffer, sink: &mut K, pointer: u8)
     ensures { Sends (K.state sink.old) (K.state sink.new) text.old text.new (action_text Action.PointerDown pointer) }
 {
@@ -35,6 +37,7 @@ fn put_pointer_down<K: Sink>(text: &mut TextBuffer, sink: &mut K, pointer: u8)
     put_pointer(text, sink, pointer);
 }
 
+/// The name of the action, and the pointer that goes up and leaves others.
 fn put_pointer_up<K: Sink>(text: &mut TextBuffer, sink: &mut K, pointer: u8)
     ensures { Sends (K.state sink.old) (K.state sink.new) text.old text.new (action_text Action.PointerUp pointer) }
 {
@@ -42,6 +45,7 @@ fn put_pointer_up<K: Sink>(text: &mut TextBuffer, sink: &mut K, pointer: u8)
     put_pointer(text, sink, pointer);
 }
 
+/// The name of an action, with the pointer that acts if there are others.
 fn put_action<K: Sink>(text: &mut TextBuffer, sink: &mut K, action: Action, pointer: u8)
     ensures { Sends (K.state sink.old) (K.state sink.new) text.old text.new (action_text action pointer) }
 {
@@ -65,6 +69,7 @@ fn put_point<K: Sink>(text: &mut TextBuffer, sink: &mut K, point: Point)
     put_place(text, sink, point.x, point.y);
 }
 
+/// The two coordinates of a point in pixels, with a comma between them.
 fn put_place<K: Sink>(text: &mut TextBuffer, sink: &mut K, x: i32, y: i32)
     ensures { Sends (K.state sink.old) (K.state sink.new) text.old text.new (place_text x y) }
 {
@@ -73,12 +78,14 @@ fn put_place<K: Sink>(text: &mut TextBuffer, sink: &mut K, x: i32, y: i32)
     put_number(text, sink, y);
 }
 
+/// A coordinate in decimal, with its sign if it is negative.
 fn put_number<K: Sink>(text: &mut TextBuffer, sink: &mut K, number: i32)
     ensures { Sends (K.state sink.old) (K.state sink.new) text.old text.new (signed_decimal number) }
 {
     text.number(sink, i64::from(number));
 }
 
+/// Where each pointer is, in the order of the points.
 fn put_points<K: Sink>(text: &mut TextBuffer, sink: &mut K, points: &[Point])
     ensures { Sends (K.state sink.old) (K.state sink.new) text.old text.new (points_text points.now) }
 {
@@ -136,6 +143,7 @@ fn put_reported<K: Sink>(text: &mut TextBuffer, sink: &mut K, entry: &Entry)
     }
 }
 
+/// The line of a delivery: the name of its view, and what happened there.
 fn put_entry<K: Sink>(text: &mut TextBuffer, sink: &mut K, entry: &Entry)
     ensures { Sends (K.state sink.old) (K.state sink.new) text.old text.new (entry_text entry.now) }
 {

@@ -53,6 +53,7 @@ impl Response {
     ghost use Rattle.std.specs.Prelude.{◌≡◌};
     ghost use Rattle.world_replies.specs.Responses.{is_nothing};
 
+    /// Whether nothing is printed.
     fn is_nothing(self) -> bool
         ensures { result ≡ is_nothing self }
     {

@@ -49,6 +49,8 @@ fn text_size(own: &Facts, text: &Text, ws: Spec, hs: Spec) -> Size
     }
 }
 
+/// The width of a view with this text under a spec: what its widest line and its padding need, within what the least
+/// width and the spec allow.
 #[tactic(auto, unfolding(view_model::specs::TextView::text_width))]
 fn text_width(own: &Facts, text: &Text, spec: Spec) -> i32
     ensures { result ≡ text_width (layout_facts own.now) text.now spec }
@@ -57,6 +59,8 @@ fn text_width(own: &Facts, text: &Text, spec: Spec) -> i32
     own_side(own.min.w, most, own.padding_across(), spec)
 }
 
+/// The height of a view with this text and of this width under a spec: what the lines and its padding need, within what
+/// the least height and the spec allow.
 #[tactic(auto, unfolding(view_model::specs::TextView::text_height))]
 fn text_height(own: &Facts, text: &Text, spec: Spec, width: i32) -> i32
     ensures { result ≡ text_height (layout_facts own.now) text.now spec width }

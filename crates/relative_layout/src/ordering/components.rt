@@ -135,6 +135,7 @@ impl Search {
         Ok(())
     }
 
+    /// The part at the end of the path, `None` if there is no part.
     fn last_part(&self) -> Option<Part>
         ensures some { IfSome result (λ part. IsLastPart self.now.parts.items part) }
         ensures none { IfNone result (self.now.parts.items ≡ []) }

@@ -23,6 +23,7 @@ pub struct Naming {
 impl Naming {
     ghost use Rattle.relative_layout.specs.ordering.Naming.{IsNaming};
 
+    /// Which of these children name which ids on an axis. `Err` where there is no memory.
     pub fn new(alloc: Global, axis: Axis, kids: &[Link]) -> Result<Naming, AllocError>
         requires few { AreFewKids kids.now }
         ensures axis { IfOk result (λ naming. naming.axis ≡ axis) }
@@ -54,6 +55,7 @@ impl Naming {
     }
 }
 
+/// For each child, those that name the id of which it is the last in `lasts`. `Err` where there is no memory.
 fn namers(
     alloc: Global,
     axis: Axis,

@@ -210,6 +210,7 @@ fn count_up(left: &mut Vec<u32>, last: Option<usize>)
     }
 }
 
+/// `count` zeros. `Err` where there is no memory.
 fn zeros(alloc: Global, count: usize) -> Result<Vec<u32>, AllocError>
     ensures { IfOk result (λ left. left.items ≡ replicate count 0) }
 {

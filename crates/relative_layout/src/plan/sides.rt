@@ -54,6 +54,8 @@ pub fn far_inset(group: &GroupAxis, kid: &ChildAxis) -> i64
     i64::from(group.padding_far) + i64::from(kid.margin_far)
 }
 
+/// The near side of a child that begins after an anchor, with both margins between them, brought into the range of
+/// edges.
 fn after(kid: &ChildAxis, anchor: &Anchor) -> i32
     ensures value { result ≡ after_anchor kid.now anchor.now }
     ensures edge { IsCoordinate result }
@@ -61,6 +63,7 @@ fn after(kid: &ChildAxis, anchor: &Anchor) -> i32
     to_coordinate(outer_far(anchor) + i64::from(kid.margin_near))
 }
 
+/// The near side of a child that begins with an anchor, after its own margin, brought into the range of edges.
 fn begins_with(kid: &ChildAxis, anchor: &Anchor) -> i32
     ensures value { result ≡ begins_with kid.now anchor.now }
     ensures edge { IsCoordinate result }
@@ -68,6 +71,8 @@ fn begins_with(kid: &ChildAxis, anchor: &Anchor) -> i32
     to_coordinate(i64::from(anchor.near) + i64::from(kid.margin_near))
 }
 
+/// The near side of a child that begins where its group does, after padding and margin, brought into the range of
+/// edges.
 fn begins_at_parent(group: &GroupAxis, kid: &ChildAxis) -> i32
     ensures value { result ≡ begins_at_parent group.now kid.now }
     ensures edge { IsCoordinate result }
@@ -75,6 +80,7 @@ fn begins_at_parent(group: &GroupAxis, kid: &ChildAxis) -> i32
     to_coordinate(near_inset(group, kid))
 }
 
+/// The far side of a child that ends before an anchor, with both margins between them, brought into the range of edges.
 fn before(kid: &ChildAxis, anchor: &Anchor) -> i32
     ensures value { result ≡ before_anchor kid.now anchor.now }
     ensures edge { IsCoordinate result }
@@ -82,6 +88,7 @@ fn before(kid: &ChildAxis, anchor: &Anchor) -> i32
     to_coordinate(outer_near(anchor) - i64::from(kid.margin_far))
 }
 
+/// The far side of a child that ends with an anchor, before its own margin, brought into the range of edges.
 fn ends_with(kid: &ChildAxis, anchor: &Anchor) -> i32
     ensures value { result ≡ ends_with kid.now anchor.now }
     ensures edge { IsCoordinate result }
@@ -89,6 +96,8 @@ fn ends_with(kid: &ChildAxis, anchor: &Anchor) -> i32
     to_coordinate(i64::from(anchor.far) - i64::from(kid.margin_far))
 }
 
+/// The far side of a child that ends where its group does, before padding and margin, brought into the range of edges;
+/// `None` if the group's spec gives no size.
 fn ends_at_parent(group: &GroupAxis, kid: &ChildAxis) -> Option<i32>
     ensures value { result ≡ option_map (ends_at_parent group.now kid.now) (room_of group.now) }
     ensures edge { IfSome result (λ side. IsCoordinate side) }
@@ -136,6 +145,7 @@ const ANYTHING: Spec = Spec {
     size: 0,
 };
 
+/// The spec for exactly this size, brought into the range of sizes.
 fn exactly(size: i64) -> Spec
     ensures { result ≡ exactly size }
 {
@@ -145,6 +155,7 @@ fn exactly(size: i64) -> Spec
     }
 }
 
+/// The spec for at most this size, brought into the range of sizes.
 fn at_most(size: i64) -> Spec
     ensures { result ≡ at_most size }
 {
@@ -219,6 +230,7 @@ fn available(
     far_limit(group, kid, far, room) - near_limit(group, kid, near)
 }
 
+/// The spec of a child by those of its sides that are set; without a size of the group, they do not count.
 fn spec_in(group: &GroupAxis, kid: &ChildAxis, near: Option<i32>, far: Option<i32>) -> Spec
     ensures { result ≡ spec_in group.now kid.now near far (room_of group.now) }
 {

@@ -133,6 +133,7 @@ fn color_of(surface: &Surface, column: usize, row: usize) -> Argb
 }
 
 impl Composed<'_> {
+    /// The rows of the part of the picture, from top to bottom.
     fn put_rows<K: Sink>(&self, text: &mut TextBuffer, sink: &mut K)
         requires { IsComposed self.now }
         ensures { Sends (K.state sink.old) (K.state sink.new) text.old text.new

@@ -25,6 +25,7 @@ pub struct Pull {
     pub by: Option<i64>,
 }
 
+/// The drag that follows the pointer of this point from there on; the same drag if there is no point.
 fn following(point: Option<Point>, drag: Drag) -> Drag
     ensures { result ≡ following point drag }
 {
@@ -38,6 +39,7 @@ fn following(point: Option<Point>, drag: Drag) -> Drag
     }
 }
 
+/// The drag once a first pointer went down: it is followed, and does not move the child yet.
 fn pressed_drag(event: &Event, drag: Drag) -> Drag
     ensures { result ≡ pressed_drag event.now drag }
 {
@@ -49,6 +51,7 @@ fn pressed_drag(event: &Event, drag: Drag) -> Drag
     }
 }
 
+/// The drag once the pointers went up or were taken away: it follows none.
 fn ended_drag(drag: Drag) -> Drag
     ensures { result ≡ ended_drag drag }
 {
@@ -59,12 +62,14 @@ fn ended_drag(drag: Drag) -> Drag
     }
 }
 
+/// The first of the points that is not of this pointer, `None` if there is no other.
 fn other_point(id: u8, points: &[Point]) -> Option<Point>
     ensures { result ≡ other_point id points.now }
 {
     points.iter().copied().find(|point| point.id != id)
 }
 
+/// Whether a drag follows this pointer.
 fn is_active(id: u8, drag: Drag) -> bool
     ensures { result ≡ is_active id drag }
 {
@@ -74,6 +79,7 @@ fn is_active(id: u8, drag: Drag) -> bool
     }
 }
 
+/// The drag once the acting pointer goes up: if that was followed, the first of the others is from then on.
 fn lifted_drag(event: &Event, drag: Drag) -> Drag
     ensures { result ≡ lifted_drag event.now drag }
 {
@@ -84,6 +90,7 @@ fn lifted_drag(event: &Event, drag: Drag) -> Drag
     }
 }
 
+/// The point of the pointer that a drag follows; `None` if it follows none, or if the event has no point of it.
 fn active_point(event: &Event, drag: Drag) -> Option<Point>
     ensures { result ≡ active_point event.now drag }
 {
@@ -93,6 +100,7 @@ fn active_point(event: &Event, drag: Drag) -> Option<Point>
     }
 }
 
+/// Whether a way up or down, in pixels, is longer than the slop.
 #[tactic(auto, unfolding(crate::specs::handling::Drags::is_past))]
 fn is_past(own: &Receiver, way: i64) -> bool
     ensures { result ≡ is_past own.now.slop way }
@@ -101,6 +109,7 @@ fn is_past(own: &Receiver, way: i64) -> bool
     way > slop || way < -slop
 }
 
+/// How far a pointer has gone up since it was last looked at, in pixels; negative if it has gone down.
 #[tactic(auto, unfolding(crate::specs::handling::Drags::way_up))]
 fn way_up(drag: Drag, point: Point) -> i64
     ensures value { result ≡ way_up drag point }
@@ -110,12 +119,14 @@ fn way_up(drag: Drag, point: Point) -> i64
     i64::from(drag.last) - i64::from(point.y)
 }
 
+/// Whether a drag that is not on begins, since its pointer has gone further than the slop.
 fn begins_drag(own: &Receiver, drag: Drag, point: Point) -> bool
     ensures { result ≡ begins_drag own.now.slop drag point }
 {
     !drag.dragging && is_past(own, way_up(drag, point))
 }
 
+/// The drag that is on, with its pointer at this point.
 fn dragging_at(point: Point, drag: Drag) -> Drag
     ensures { result ≡ dragging_at point drag }
 {
@@ -126,6 +137,7 @@ fn dragging_at(point: Point, drag: Drag) -> Drag
     }
 }
 
+/// The drag of a group that was asked about a move. It begins only in one that can scroll; otherwise it stays the same.
 fn asked_move(own: &Receiver, point: Option<Point>, drag: Drag) -> Drag
     ensures { result ≡ asked_move own.now.range own.now.slop point drag }
 {
@@ -148,6 +160,7 @@ pub fn asked_drag(own: &Receiver, event: &Event, drag: Drag) -> Drag
     }
 }
 
+/// A way, in pixels, without the slop at its beginning; up is positive.
 #[tactic(auto, unfolding(crate::specs::handling::Drags::beyond_slop))]
 fn beyond_slop(own: &Receiver, way: i64) -> i64
     requires low { negsuc 4294967295 ≤ℤ way }
@@ -159,12 +172,15 @@ fn beyond_slop(own: &Receiver, way: i64) -> i64
     if way > 0 { way - slop } else { way + slop }
 }
 
+/// This drag, and a child that does not move.
 fn still(drag: Drag) -> Pull
     ensures { result ≡ still drag }
 {
     Pull { drag, by: None }
 }
 
+/// What a move of the followed pointer to this point does. A drag that is on moves the child by the whole way, one that
+/// begins by what is beyond the slop.
 fn pulled_at(own: &Receiver, point: Point, drag: Drag) -> Pull
     ensures value { result ≡ pulled_at own.now.slop point drag }
     ensures way { IfSome result.by IsWay }
@@ -185,6 +201,7 @@ fn pulled_at(own: &Receiver, point: Point, drag: Drag) -> Pull
     }
 }
 
+/// What a move of the followed pointer does; without a point of it, the drag stays and the child does too.
 fn pulled_to(own: &Receiver, point: Option<Point>, drag: Drag) -> Pull
     ensures value { result ≡ pulled_to own.now.slop point drag }
     ensures way { IfSome result.by IsWay }

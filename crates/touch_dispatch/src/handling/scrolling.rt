@@ -153,6 +153,7 @@ fn moved_facts(own: &Receiver, facts: &Facts, way: i64) -> Facts
     }
 }
 
+/// The offset with the child this many pixels further up, brought into the range of the view.
 fn offset_after(own: &Receiver, facts: &Facts, way: i64) -> i32
     requires way { IsWay way }
     requires range { IsSide own.now.range }
@@ -174,6 +175,7 @@ fn offset_within(own: &Receiver, offset: i64) -> i64
     if top < 0 { 0 } else { top }
 }
 
+/// Whether a scroll view's child is moved up by the same number of pixels in both.
 #[tactic(auto, unfolding(crate::specs::handling::Handling::is_same_offset))]
 fn is_same_offset(old: &Facts, new: &Facts) -> bool
     ensures { result ≡ is_same_offset old.now.offset new.now.offset }

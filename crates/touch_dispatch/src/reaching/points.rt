@@ -15,18 +15,21 @@ use geom_core::{Rect, to_coordinate};
 use touch_event::{Action, Event, MAX_POINTERS, Point, has_id, has_point, split, split_action};
 use view_model::{Facts, Visibility};
 
+/// Whether an action is that of a first pointer going down.
 pub fn is_down(action: Action) -> bool
     ensures { result ≡ is_down action }
 {
     matches!(action, Action::Down)
 }
 
+/// Whether an action takes the gesture away.
 fn is_cancel(action: Action) -> bool
     ensures { result ≡ is_cancel action }
 {
     matches!(action, Action::Cancel)
 }
 
+/// The bit of an action in a plan: 1, 2, 4, 8, 16 and 32 for down, up, move, cancel, pointer down and pointer up.
 fn plan_bit(action: Action) -> u8
     ensures { result ≡ plan_bit action }
 {
@@ -83,6 +86,8 @@ pub fn acting_point(event: &Event) -> Option<Point>
     point_of(event.pointer, event.points.as_slice())
 }
 
+/// Whether a point of a group that has scrolled this far is in a rectangle, which does not have its right and its
+/// bottom edge.
 #[tactic(auto, unfolding(crate::specs::reaching::Points::is_inside))]
 fn is_inside(rect: Rect, offset: i32, point: Point) -> bool
     ensures { result ≡ is_inside rect offset point }
@@ -93,18 +98,21 @@ fn is_inside(rect: Rect, offset: i32, point: Point) -> bool
     both(across, down)
 }
 
+/// Whether both are so.
 fn both(first: bool, second: bool) -> bool
     ensures { result ≡ (first && second) }
 {
     first && second
 }
 
+/// Whether a number is at least `low` and below `high`.
 fn is_between(low: i64, x: i64, high: i64) -> bool
     ensures { result ≡ is_between low x high }
 {
     low <= x && x < high
 }
 
+/// Whether a point of a group that has scrolled this far is on a child with these bounds; not so if either is missing.
 fn is_under(rect: Option<Rect>, offset: i32, point: Option<Point>) -> bool
     ensures { result ≡ is_under rect offset point }
 {
@@ -121,12 +129,14 @@ pub fn is_tried(own: &Facts, kid: &Facts, rect: Option<Rect>, event: &Event) -> 
     is_visible(kid.visibility) && is_under(rect, own.offset, acting_point(event))
 }
 
+/// Whether a visibility is `Visible`: a child with another one is not tried.
 fn is_visible(visibility: Visibility) -> bool
     ensures { result ≡ is_visible visibility }
 {
     matches!(visibility, Visibility::Visible)
 }
 
+/// Whether a point in the coordinates of a view lies in its bounds, widened by the slop on each side.
 #[tactic(auto, unfolding(crate::specs::reaching::Points::is_near_point))]
 fn is_near_point(rect: Rect, own: &Receiver, point: Point) -> bool
     ensures { result ≡ is_near_point rect own.now.slop point }
@@ -136,6 +146,7 @@ fn is_near_point(rect: Rect, own: &Receiver, point: Point) -> bool
     both(across, down)
 }
 
+/// Whether a coordinate lies within the slop of a side from `low` to `high`, in pixels from `low`.
 fn is_near(low: i32, high: i32, slop: i32, x: i32) -> bool
     ensures { result ≡ is_near low high slop x }
 {
@@ -154,6 +165,8 @@ pub fn is_near_first(own: &Receiver, points: &[Point]) -> bool
     }
 }
 
+/// A point of a group that has scrolled this far, in the coordinates of a child with these bounds, brought into the
+/// range of edges.
 #[tactic(auto, unfolding(crate::specs::reaching::Points::local_point))]
 fn local_point(rect: Option<Rect>, offset: i32, point: Point) -> Point
     ensures { result ≡ local_point rect offset point }
@@ -167,6 +180,7 @@ fn local_point(rect: Option<Rect>, offset: i32, point: Point) -> Point
     }
 }
 
+/// The left edge of the bounds of a child, in its group's coordinates; 0 if it has none.
 fn corner_x(rect: Option<Rect>) -> i32
     ensures { result ≡ corner_x rect }
 {
@@ -176,6 +190,7 @@ fn corner_x(rect: Option<Rect>) -> i32
     }
 }
 
+/// The top edge of the bounds of a child, in its group's coordinates; 0 if it has none.
 fn corner_y(rect: Option<Rect>) -> i32
     ensures { result ≡ corner_y rect }
 {

@@ -73,6 +73,7 @@ pub fn settle(gesture: &mut Gesture, group: u64, event: &Event, taker: Taker)
     }
 }
 
+/// Gives a pointer to the oldest target of a group. Without targets nothing changes.
 fn give_to_oldest(gesture: &mut Gesture, group: u64, pointer: u8)
     requires pointer { IsPointer pointer }
     requires may { (child : ℕ)
@@ -107,6 +108,7 @@ pub fn end(gesture: &mut Gesture, group: u64, split: bool, event: &Event, interc
     }
 }
 
+/// Removes all targets of a group that has intercepted. Otherwise nothing changes.
 fn clear_intercepted(gesture: &mut Gesture, group: u64, intercepted: bool)
     ensures cleared { gesture_of gesture.new
         ≡ (if intercepted then set_targets group [] (gesture_of gesture.old) else gesture_of gesture.old) }

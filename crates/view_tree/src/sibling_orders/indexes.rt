@@ -39,6 +39,7 @@ fn lower(order: &mut [u32], gone: usize)
     }
 }
 
+/// A place once the child at `gone` is removed: one less if it is above that.
 #[tactic(auto, unfolding(crate::specs::sibling_orders::Indexes::passing))]
 fn lowered(place: u32, gone: usize) -> u32
     ensures { place ≢ gone → passing gone result ≡ place }
