@@ -1,5 +1,4 @@
 pub mod lines
 pub mod readings
 pub mod spelled
-pub mod texts
 mod written

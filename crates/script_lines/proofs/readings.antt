@@ -1,13 +1,11 @@
 -- Laws of lines that are read, and worked lines.
 pub mod ActionLaws
-pub mod BoundLaws
 pub mod ChangeExamples
 pub mod CommandExamples
 pub mod CommandLaws
 pub mod HookExamples
 pub mod HookLaws
 pub mod NumberLaws
-pub mod OkLaws
 pub mod PartLaws
 pub mod ReadLaws
 pub mod ResourceExamples

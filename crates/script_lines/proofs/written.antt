@@ -1,7 +1,7 @@
 -- The words from which commands are read.
+pub mod ReadActions
 pub mod ReadLines
-pub mod ReadWords
 pub mod WrittenActs
 pub mod WrittenCommands
 pub mod WrittenHooks
-pub mod WrittenWords
+pub mod WrittenTables

@@ -2,4 +2,3 @@ pub mod Numbers
 pub mod commands
 pub mod cutting
 pub mod reading
-pub mod words

@@ -28,23 +28,12 @@ max_touch = pos 1048576
 abbrev pub actions_end : ℕ
 actions_end = 64
 
--- the most bytes of the name of a file
-abbrev pub max_file_name : ℕ
-max_file_name = 64
-
 -- the least and the greatest density of a screen, in dots an inch
 abbrev pub min_dpi : ℕ
 min_dpi = 40
 
 abbrev pub max_dpi : ℕ
 max_dpi = 1000
-
--- the most whole ones of a weight, and the most 256ths beside them
-abbrev pub max_whole : ℕ
-max_whole = 65535
-
-abbrev pub max_parts : ℕ
-max_parts = 255
 
 -- the least and the greatest number of a dimension, in its unit
 abbrev pub min_mantissa : ℤ

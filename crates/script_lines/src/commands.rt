@@ -1,7 +1,7 @@
 //! What a line asks for.
 
-use crate::words::naming::Name;
 use geom_core::Argb;
+use line_words::Name;
 use view_model::{Act, Change, Class};
 
 /// The greatest side of a window, in pixels.

@@ -8,11 +8,13 @@
 
 ghost use Rattle.std.specs.Prelude.{◌≡◌, ◌≢◌, ℕ, ◌+◌, ◌<◌, ◌≤◌, ◌↔◌, ◌⊎◌, false, List, [], ◌++◌, length, take, drop, min, slice_index};
 ghost use Rattle.std.specs.List.{list_all, position_or_len};
-ghost use Rattle.script_lines.specs.cutting.Lines.{ArePassedOver, begins_passed, cut_of, is_line_feed, is_passed_over, is_space, last_of, lines_of, max_line, without_return};
+ghost use Rattle.script_lines.specs.cutting.Lines.{ArePassedOver, begins_passed, cut_of, is_line_feed, is_passed_over, last_of, lines_of, max_line, without_return};
+ghost use Rattle.line_words.specs.words.Words.{is_space};
 ghost use Rattle.script_lines.specs.cutting.LineBuffer.{LineBuffer, IsLent, IsAfter, lines_as, lines_at};
-ghost use Rattle.script_lines.specs.cutting.Pieces.{FeedSequence, Feed, bytes_in, lines_in, IsCut};
+ghost use Rattle.script_lines.specs.cutting.Pieces.{FeedSequence, Feed, bytes_in, lines_in};
+ghost use Rattle.line_words.specs.words.Words.{IsCut};
 
-use crate::offsets::offset_of;
+use line_words::offset_of;
 use std::marker::Model;
 
 /// The most bytes that a line may have before its line feed, a carriage return counted.

@@ -7,7 +7,7 @@ ghost use Rattle.script_lines.specs.reading.Commands.{IsInBounds, add_of, bounds
 ghost use Rattle.script_lines.specs.cutting.Lines.{is_passed_over};
 ghost use Rattle.script_lines.specs.commands.PlainCommands.{PlainCommand, plain_command, text_length};
 ghost use Rattle.script_lines.specs.commands.Spelled.{HasLine, spelled};
-ghost use Rattle.script_lines.specs.words.Words.{map_ok, words};
+ghost use Rattle.line_words.specs.words.Words.{map_ok, words};
 ghost use Rattle.script_lines.specs.commands.Written.{IsWritten};
 
 mod actions;
@@ -21,7 +21,6 @@ mod states;
 pub mod touches;
 
 use crate::commands::{Command, MAX_DPI, MAX_WINDOW, MIN_DPI};
-use crate::fault::LineFault;
 use crate::reading::changes::read_act;
 use crate::reading::hooks::hook;
 use crate::reading::pixels::pixels;
@@ -29,14 +28,16 @@ use crate::reading::resources::res;
 use crate::reading::states::{restore, save};
 use crate::reading::touches::{cancel, down, moved, up};
 use crate::verbs::{ActVerb, Verb, named_verb};
-use crate::words::dimension::extents;
-use crate::words::escapes::rest_text;
-use crate::words::file_name::file_name_word;
-use crate::words::naming::{Name, name_word, parent_word};
-use crate::words::number::{natural_within, number, pair};
-use crate::words::{end, is_text, literal, read_on, word};
+use line_words::LineFault;
+use line_words::words::dimension::extents;
+use line_words::words::escapes::rest_text;
+use line_words::words::file_name::file_name_word;
+use line_words::words::naming::{Name, name_word, parent_word};
+use line_words::words::number::{natural_within, number, pair};
+use line_words::words::{end, is_text, literal, read_on, word};
 use view_model::Class;
 
+/// A new window, by the two numbers that end the line.
 #[inline(never)]
 fn window(bytes: &[u8]) -> Result<Command<'_>, LineFault>
     ensures value { map_ok plain_command result ≡ window_of (words bytes.now) }
@@ -73,6 +74,7 @@ fn into(bytes: &[u8]) -> Result<Option<Name>, LineFault>
     Ok(Some(view))
 }
 
+/// The tree of a layout file, and below which view, if the line names one.
 #[inline(never)]
 #[tactic(auto, unfolding(crate::specs::reading::Commands::inflate_of))]
 fn inflate(bytes: &[u8]) -> Result<Command<'_>, LineFault>
@@ -84,6 +86,7 @@ fn inflate(bytes: &[u8]) -> Result<Command<'_>, LineFault>
     Ok(Command::Inflate { name, into })
 }
 
+/// A view that is added: its parent, its class and its two dimensions.
 #[inline(never)]
 #[tactic(auto, unfolding(crate::specs::reading::Commands::add_of))]
 fn add(bytes: &[u8]) -> Result<Command<'_>, LineFault>
@@ -104,6 +107,7 @@ fn add(bytes: &[u8]) -> Result<Command<'_>, LineFault>
     })
 }
 
+/// A view that is taken away.
 #[inline(never)]
 #[tactic(auto, unfolding(crate::specs::reading::Commands::remove_of))]
 fn remove(bytes: &[u8]) -> Result<Command<'_>, LineFault>
@@ -115,6 +119,7 @@ fn remove(bytes: &[u8]) -> Result<Command<'_>, LineFault>
     Ok(Command::Remove(view))
 }
 
+/// A frame; the line has no more words.
 #[tactic(auto, unfolding(crate::specs::reading::Commands::frame_of))]
 fn frame(bytes: &[u8]) -> Result<Command<'_>, LineFault>
     ensures value { map_ok plain_command result ≡ frame_of (words bytes.now) }
@@ -124,6 +129,7 @@ fn frame(bytes: &[u8]) -> Result<Command<'_>, LineFault>
     Ok(Command::Frame)
 }
 
+/// The digest of the picture; the line has no more words.
 #[tactic(auto, unfolding(crate::specs::reading::Commands::digest_of))]
 fn digest(bytes: &[u8]) -> Result<Command<'_>, LineFault>
     ensures value { map_ok plain_command result ≡ digest_of (words bytes.now) }
@@ -133,6 +139,7 @@ fn digest(bytes: &[u8]) -> Result<Command<'_>, LineFault>
     Ok(Command::Digest)
 }
 
+/// The bounds of one view, or of all if no word follows.
 #[inline(never)]
 #[tactic(auto, unfolding(crate::specs::reading::Commands::bounds_of))]
 fn bounds(bytes: &[u8]) -> Result<Command<'_>, LineFault>

@@ -3,7 +3,7 @@
 ghost use Rattle.std.specs.Prelude.{◌≡◌};
 ghost use Rattle.script_lines.specs.reading.Verbs.{act_named, change_named, verb_named};
 
-use crate::words::is;
+use line_words::words::is;
 
 /// What a line changes of a view that a hook can change too.
 #[derive(Clone, Copy)]

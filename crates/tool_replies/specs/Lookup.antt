@@ -7,7 +7,7 @@ use Rattle.arsc_reader.specs.Contents.{Contents}
 use Rattle.arsc_reader.specs.Lines.{value_line, value_lines}
 use Rattle.arsc_reader.specs.Table.{table_of}
 use Rattle.axml_chunks.specs.declared.fault.Fault.{Fault}
-use Rattle.script_lines.specs.words.Names.{hex_of}
+use Rattle.line_words.specs.words.Names.{hex_of}
 use Rattle.tool_io.specs.Fetched.{Files, file_of}
 use Rattle.tool_io.specs.Fetches.{Fetch}
 use Rattle.tool_replies.specs.Dump.{fault_text, refused_file_text}

@@ -18,7 +18,7 @@ use crate::file_replies::{write_fault, write_refused_file};
 use crate::status::{ACCEPTED, NO_MEMORY, REFUSED, SHELF_FAILED};
 use arsc_reader::Table;
 use axml_chunks::ReadFault;
-use script_lines::hex;
+use line_words::hex;
 use std::alloc::Global;
 use text_lines::TextBuffer;
 use tool_io::{Failed, Found, Shelf, ShelfFault, Sink};

@@ -8,9 +8,9 @@ use Rattle.std.specs.declared.string.String.{String}
 use Rattle.std.proofs.lemmas.List.{length-map}
 use Rattle.std.proofs.lemmas.Str.{IsUtf8-from_ascii}
 use Rattle.std.proofs.lemmas.Str.Ascii.{IsAscii-cons, IsAscii-nil}
-use Rattle.script_lines.specs.words.FileNames.{is_file_name}
-use Rattle.script_lines.specs.words.Names.{hex_of, hex_value}
-use Rattle.script_lines.proofs.readings.CommandLaws.{and-left, and-right}
+use Rattle.line_words.specs.words.FileNames.{is_file_name}
+use Rattle.line_words.specs.words.Names.{hex_of, hex_value}
+use Rattle.line_words.proofs.texts.BothLaws.{and-left, and-right}
 use Rattle.vindaesk_c.specs.Lookups.{IsWordOf, can_look_up}
 use Rattle.whole_tool.specs.Usage.{Lookup, are_ids, usage}
 use Rattle.tool_replies.specs.Lookup.{resource_id, resource_ids}

@@ -9,16 +9,16 @@ use Rattle.std.proofs.lemmas.Bool.{cases_Bool}
 use Rattle.std.proofs.lemmas.Bool.Decides.{nat_tests}
 use Rattle.std.proofs.lemmas.Str.{IsUtf8-from_ascii}
 use Rattle.focus_finder.specs.declared.side.Side.{Side}
-use Rattle.script_lines.proofs.spelled.SpelledNumbers.{digits_graphic}
-use Rattle.script_lines.specs.words.Names.{begins_with, hex_of, id_of, known, name_of}
-use Rattle.script_lines.specs.declared.fault.LineFault.TheVariants.{Syntax}
-use Rattle.script_lines.specs.declared.words.naming.Name.{Name}
-use Rattle.script_lines.specs.declared.words.naming.Name.TheVariants.{Number, Id}
-use Rattle.script_lines.specs.words.Words.{map_ok}
-use Rattle.script_lines.specs.words.Numbers.{is_natural, natural_of}
-use Rattle.script_lines.proofs.readings.CommandLaws.{and-left, and-right}
-use Rattle.script_lines.proofs.spelled.SpelledNames.{all_graphic}
-use Rattle.script_lines.proofs.spelled.SpelledWords.{ascii}
+use Rattle.line_words.proofs.spelled.SpelledNumbers.{digits_graphic}
+use Rattle.line_words.specs.words.Names.{begins_with, hex_of, id_of, known, name_of}
+use Rattle.line_words.specs.declared.fault.LineFault.TheVariants.{Syntax}
+use Rattle.line_words.specs.declared.words.naming.Name.{Name}
+use Rattle.line_words.specs.declared.words.naming.Name.TheVariants.{Number, Id}
+use Rattle.line_words.specs.words.Words.{map_ok}
+use Rattle.line_words.specs.words.Numbers.{is_natural, natural_of}
+use Rattle.line_words.proofs.texts.BothLaws.{and-left, and-right}
+use Rattle.line_words.proofs.spelled.SpelledNames.{all_graphic}
+use Rattle.line_words.proofs.spelled.SpelledWords.{ascii}
 use Rattle.vindaesk_c.specs.Questions.{asked, can_ask}
 use Rattle.whole_tool.specs.Usage.{Unknown, name_from, question_usage, side_of}
 

@@ -1,6 +1,6 @@
 -- What may be looked up in a table.
 use Rattle.std.specs.Prelude.{◌≡◌, ℕ, nat_le, nat_lt, Bool, true, ◌&&◌, List, length}
-use Rattle.script_lines.specs.words.FileNames.{is_file_name}
+use Rattle.line_words.specs.words.FileNames.{is_file_name}
 use Rattle.whole_tool.specs.Numbers.{max_ids}
 use Rattle.whole_tool.specs.Usage.{is_resource_id}
 use Rattle.tool_replies.specs.Lookup.{resource_id}

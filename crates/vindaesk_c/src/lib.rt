@@ -14,7 +14,7 @@
 #![tactic(auto)]
 
 ghost use Rattle.std.specs.Prelude.{◌≡◌, ◌<◌, ◌↔◌, [], ◌∷◌, length, IsFalse, IsTrue, if◌then◌else◌};
-ghost use Rattle.script_lines.specs.words.FileNames.{is_file_name};
+ghost use Rattle.line_words.specs.words.FileNames.{is_file_name};
 ghost use Rattle.tool_io.specs.Fetched.{Files};
 ghost use Rattle.vindaesk_c.specs.Answer.{IsAnswer, LacksRoom, KeepsBuffer, SaysNoSize, SaysBroken, HasRead};
 ghost use Rattle.vindaesk_c.specs.Lookups.{can_look_up};
@@ -44,7 +44,7 @@ use crate::answer::put_page;
 use crate::page::{file_page, question_page, script_page, table_page};
 use crate::questions::can_ask;
 use crate::words::can_look_up;
-use script_lines::is_file_name;
+use line_words::is_file_name;
 use std::alloc::Global;
 use tool_replies::status::{LONG_SCRIPT, USAGE};
 

@@ -1,7 +1,7 @@
 //! Pages that the tool writes in memory.
 
 ghost use Rattle.std.specs.Prelude.{◌≡◌, ◌≢◌, ◌↔◌, IfOk, IsTrue, OnOk};
-ghost use Rattle.script_lines.specs.words.FileNames.{is_file_name};
+ghost use Rattle.line_words.specs.words.FileNames.{is_file_name};
 ghost use Rattle.tool_io.specs.Fetched.{Files};
 ghost use Rattle.vindaesk_c.specs.Lookups.{can_look_up};
 ghost use Rattle.vindaesk_c.specs.Packed.{packed, ArePacked};

@@ -4,8 +4,8 @@ ghost use Rattle.std.specs.Prelude.{◌≡◌, IfOk, IsTrue, is_some};
 ghost use Rattle.vindaesk_c.specs.Questions.{asked, can_ask};
 ghost use Rattle.whole_tool.specs.Usage.{name_from, side_of, usage};
 
-use script_lines::readers::is;
-use script_lines::{hex, natural};
+use line_words::words::is;
+use line_words::{hex, natural};
 use std::alloc::{AllocError, Global};
 
 /// Whether these words for a side and for a view make up a question.
@@ -36,7 +36,7 @@ fn is_side(word: &[u8]) -> bool
 }
 
 /// Whether a word names a view as a line of a script does.
-#[tactic(auto, unfolding(script_lines::specs::words::Names::name_of, script_lines::specs::words::Names::id_of))]
+#[tactic(auto, unfolding(line_words::specs::words::Names::name_of, line_words::specs::words::Names::id_of))]
 fn is_view(word: &[u8]) -> bool
     ensures { result ≡ is_some (name_from word.now) }
 {

@@ -3,13 +3,13 @@
 ghost use Rattle.std.specs.Prelude.{◌≡◌, ◌<◌, true, IfOk, IsTrue, string_bytes};
 ghost use Rattle.std.specs.Char.{is_ascii_hexdigit};
 ghost use Rattle.std.specs.Str.{IsUtf8};
-ghost use Rattle.script_lines.specs.words.FileNames.{is_file_name};
-ghost use Rattle.script_lines.specs.words.Names.{hex_digit_of};
+ghost use Rattle.line_words.specs.words.FileNames.{is_file_name};
+ghost use Rattle.line_words.specs.words.Names.{hex_digit_of};
 ghost use Rattle.vindaesk_c.specs.Lookups.{IsWordOf, can_look_up};
 ghost use Rattle.whole_tool.specs.Usage.{Dump, Lookup, are_ids, run_usage, usage};
 ghost use Rattle.tool_replies.specs.Lookup.{resource_ids};
 
-use script_lines::is_file_name;
+use line_words::is_file_name;
 use std::alloc::{AllocError, Global};
 
 /// The most resources that are looked up at a time.
@@ -101,7 +101,7 @@ fn id_digits(id: u32) -> [u8; 8]
 }
 
 /// The digit of a number below 16.
-#[tactic(auto, unfolding(script_lines::specs::words::Names::hex_digit_of))]
+#[tactic(auto, unfolding(line_words::specs::words::Names::hex_digit_of))]
 fn hex_digit(n: u32) -> u8
     requires { n < 16 }
     ensures value { hex_digit_of result ≡ n }

@@ -2,8 +2,8 @@
 use Rattle.std.specs.Prelude.{ℕ, List, Option, None, Result, Ok, Err}
 use Rattle.script_lines.specs.reading.Commands.{command_of}
 use Rattle.script_lines.specs.commands.PlainCommands.{PlainCommand}
-use Rattle.script_lines.specs.declared.fault.LineFault.{LineFault}
-use Rattle.script_lines.specs.declared.fault.LineFault.TheVariants as fault
+use Rattle.line_words.specs.declared.fault.LineFault.{LineFault}
+use Rattle.line_words.specs.declared.fault.LineFault.TheVariants as fault
 use Rattle.stack_worlds.specs.PlainStack.{PlainStack, StackReply, asked_by, stack_step}
 use Rattle.stack_worlds.specs.PlainStack as stack_reply
 use Rattle.stack_worlds.specs.StackCarried.{LineWants}

@@ -1,7 +1,7 @@
 -- The windows of the page of a stack, each with its share of the lines.
 use Rattle.std.specs.Prelude.{◌≡◌, ℕ, if◌then◌else◌, List, [], ◌∷◌, ◌++◌, Result, Ok, Err}
 use Rattle.script_lines.specs.cutting.Lines.{Line, Text, LongLine, is_passed_over, lines_of}
-use Rattle.script_lines.specs.declared.fault.LineFault.{LineFault}
+use Rattle.line_words.specs.declared.fault.LineFault.{LineFault}
 use Rattle.stack_worlds.specs.Isolation.{DependsOnShare, IsIsolated, shared_by}
 use Rattle.stack_worlds.specs.PlainStack.{empty_stack}
 use Rattle.tool_io.specs.Fetched.{Files}

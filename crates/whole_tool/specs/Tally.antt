@@ -3,7 +3,7 @@ use Rattle.std.specs.Prelude.{ℕ, ◌+◌, if◌then◌else◌, List, Result, O
 use Rattle.script_lines.specs.reading.Commands.{command_of}
 use Rattle.script_lines.specs.cutting.Lines.{Line, Text, LongLine, is_passed_over, lines_of}
 use Rattle.script_lines.specs.commands.PlainCommands.{PlainCommand}
-use Rattle.script_lines.specs.declared.fault.LineFault.{LineFault}
+use Rattle.line_words.specs.declared.fault.LineFault.{LineFault}
 use Rattle.stack_worlds.specs.PlainStack.{StackReply, empty_stack, stack_step, way_of}
 use Rattle.stack_worlds.specs.PlainStack as stack_reply
 use Rattle.tool_io.specs.Fetched.{Files}

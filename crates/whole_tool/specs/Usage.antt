@@ -8,10 +8,10 @@ use Rattle.std.specs.declared.alloc.Global.{Global}
 use Rattle.std.specs.declared.string.String.{String}
 use Rattle.focus_finder.specs.declared.side.Side.{Side}
 use Rattle.focus_finder.specs.declared.side.Side.TheVariants.{Left, Right, Up, Down}
-use Rattle.script_lines.specs.words.FileNames.{is_file_name}
-use Rattle.script_lines.specs.words.Names.{hex_of, name_of}
-use Rattle.script_lines.specs.words.Numbers.{natural_of}
-use Rattle.script_lines.specs.declared.words.naming.Name.{Name}
+use Rattle.line_words.specs.words.FileNames.{is_file_name}
+use Rattle.line_words.specs.words.Names.{hex_of, name_of}
+use Rattle.line_words.specs.words.Numbers.{natural_of}
+use Rattle.line_words.specs.declared.words.naming.Name.{Name}
 use Rattle.tool_replies.specs.Lookup.{resource_ids}
 use Rattle.whole_tool.specs.declared.focusing.Question.{Question}
 use Rattle.whole_tool.specs.declared.usage.Form.{Form}

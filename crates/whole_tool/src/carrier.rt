@@ -17,7 +17,7 @@ ghost use Rattle.view_world.specs.world.Carried.{IsDone, IsDoneOrKeepsBoth, IsDo
 ghost use Rattle.world_parts.specs.World.{empty_world};
 ghost use Rattle.view_model.specs.Works.{KeepsPainted, KeepsMeasured};
 
-use script_lines::LineFault;
+use line_words::LineFault;
 use stack_worlds::Stack;
 use std::alloc::Global;
 use tool_io::{Shelf, Sink};

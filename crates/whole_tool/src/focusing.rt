@@ -23,7 +23,7 @@ use crate::run::{Run, Stop};
 use crate::script::{End, run_to_end};
 use crate::status::status;
 use focus_finder::{Side, next};
-use script_lines::Name;
+use line_words::Name;
 use std::alloc::Global;
 use text_lines::TextBuffer;
 use tool_io::{Failed, Shelf, Sink, Source};

@@ -9,7 +9,7 @@ ghost use Rattle.whole_tool.specs.Usage.{HasSize, are_ids, dump_usage, focus_usa
 
 use crate::focusing::Question;
 use focus_finder::Side;
-use script_lines::{Name, hex, is_file_name, natural};
+use line_words::{Name, hex, is_file_name, natural};
 
 /// The most resources that are looked up at a time.
 const MAX_IDS: usize = 64;
@@ -149,7 +149,7 @@ fn side_of(word: &String) -> Option<Side>
 }
 
 /// The view that a word names, as in a line of a script.
-#[tactic(auto, unfolding(script_lines::specs::words::Names::name_of, script_lines::specs::words::Names::id_of))]
+#[tactic(auto, unfolding(line_words::specs::words::Names::name_of, line_words::specs::words::Names::id_of))]
 fn name_from(word: &[u8]) -> Option<Name>
     ensures { result ≡ name_from word.now }
 {

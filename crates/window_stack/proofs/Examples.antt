@@ -5,14 +5,14 @@ use Rattle.std.specs.Str.{is_utf8, chars}
 use lib.Utf8.{encode}
 use Rattle.geom_core.specs.declared.geometry.Size.{Size}
 use Rattle.script_lines.specs.reading.Commands.{command_by, command_in, command_of, frame_of, set_of}
-use Rattle.script_lines.specs.words.Names.{id_of, name_of}
-use Rattle.script_lines.specs.words.Numbers.{integer_of, natural_of, natural_within, pair_of, within_of}
+use Rattle.line_words.specs.words.Names.{id_of, name_of}
+use Rattle.line_words.specs.words.Numbers.{integer_of, natural_of, natural_within, pair_of, within_of}
 use Rattle.script_lines.specs.reading.Pixels.{is_small}
 use Rattle.script_lines.specs.commands.PlainCommands.{Frame, Window}
 use Rattle.script_lines.specs.reading.Touches.{pointer_of, touch_of}
 use Rattle.script_lines.specs.reading.Verbs.{act_named, change_named, verb_named}
-use Rattle.script_lines.specs.words.Words.{after_word, words}
-use Rattle.script_lines.specs.declared.fault.LineFault.TheVariants.{Syntax, Range}
+use Rattle.line_words.specs.words.Words.{after_word, words}
+use Rattle.line_words.specs.declared.fault.LineFault.TheVariants.{Syntax, Range}
 use Rattle.window_stack.specs.PlainPanes.{PlainPanes, closed, corner_of, no_panes, order_of, raised, set_at, topmost}
 use Rattle.window_stack.specs.StackLines.{At, Cancel, Close, Compose, Down, In, Move, Raise, Up, at_of, close_of, compose_of, given_of, in_of, is_touch_word, pane_of, part_by, raise_of, scancel_of, stack_line_by, stack_line_of, sup_of}
 

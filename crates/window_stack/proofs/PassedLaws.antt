@@ -4,11 +4,12 @@ use Rattle.std.proofs.lemmas.Bool.{cases_Bool}
 use Rattle.std.specs.List.{list_all}
 use Rattle.std.specs.Prelude.{◌==◌, ◌&&◌, nat_lt, slice_index, Err}
 use Rattle.std.specs.Str.{is_utf8}
-use Rattle.script_lines.specs.cutting.Lines.{is_passed_over, is_space}
-use Rattle.script_lines.specs.words.Words.{◌>>=◌, after_word, first_word, word_in, words}
-use Rattle.script_lines.specs.declared.fault.LineFault.TheVariants.{Syntax}
-use Rattle.script_lines.proofs.readings.CommandLaws.{first_word-mark, words-spaces}
-use Rattle.script_lines.proofs.texts.WordLaws.{words_some}
+use Rattle.script_lines.specs.cutting.Lines.{is_passed_over}
+use Rattle.line_words.specs.words.Words.{is_space}
+use Rattle.line_words.specs.words.Words.{◌>>=◌, after_word, first_word, word_in, words}
+use Rattle.line_words.specs.declared.fault.LineFault.TheVariants.{Syntax}
+use Rattle.line_words.proofs.texts.WordLaws.{first_word-mark, words-spaces}
+use Rattle.line_words.proofs.texts.WordLaws.{words_some}
 use Rattle.window_stack.specs.StackLines.{stack_line_by, stack_line_of}
 
 -- a line without words

@@ -1,9 +1,9 @@
 -- The text of a line is no longer than the line.
 use Rattle.std.proofs.Common.{◌≡◌, ℕ, ◌≤◌, List, ap, length, arith}
 use Rattle.std.specs.Prelude.{IfOk, Result, Ok, Err}
-use Rattle.script_lines.proofs.readings.TextLengthLaws.{after_word-short}
-use Rattle.script_lines.specs.words.Words.{after_word}
-use Rattle.script_lines.specs.declared.fault.LineFault.{LineFault}
+use Rattle.line_words.proofs.texts.LengthLaws.{after_word-short}
+use Rattle.line_words.specs.words.Words.{after_word}
+use Rattle.line_words.specs.declared.fault.LineFault.{LineFault}
 use Rattle.window_stack.specs.StackLines.{plain_line, text_length_in}
 use Rattle.window_stack.specs.declared.lines.StackLine.{StackLine}
 

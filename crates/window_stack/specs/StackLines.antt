@@ -2,14 +2,14 @@
 use Rattle.std.specs.Prelude.{ℕ, ◌≤◌, ◌||◌, Bool, if◌then◌else◌, ℤ, pos, List, codes, length, Result, Ok, Err}
 use Rattle.std.specs.Str.{bytes_eq, is_utf8}
 use Rattle.script_lines.specs.reading.Commands.{IsInBounds, command_of}
-use Rattle.script_lines.specs.words.Numbers.{IsWithin, integer_in, integer_of, natural_within, within_of}
+use Rattle.line_words.specs.words.Numbers.{IsWithin, integer_in, integer_of, natural_within, within_of}
 use Rattle.script_lines.specs.reading.Pixels.{IsPart, is_small}
 use Rattle.script_lines.specs.commands.PlainCommands.{PlainCommand, plain_command, text_length}
 use Rattle.script_lines.specs.reading.Touches.{IsTouchInBounds, pointer_of, touch_of}
-use Rattle.script_lines.specs.words.Words.{after_word, ◌>>=◌, map_ok, word_in, end_of, words}
+use Rattle.line_words.specs.words.Words.{after_word, ◌>>=◌, map_ok, word_in, end_of, words}
 use Rattle.window_stack.specs.Numbers.{max_corner, max_pane, max_point, max_pointer, max_window, min_corner}
-use Rattle.script_lines.specs.declared.fault.LineFault.{LineFault}
-use Rattle.script_lines.specs.declared.fault.LineFault.TheVariants.{Syntax, Range}
+use Rattle.line_words.specs.declared.fault.LineFault.{LineFault}
+use Rattle.line_words.specs.declared.fault.LineFault.TheVariants.{Syntax, Range}
 use Rattle.window_stack.specs.declared.lines.StackLine.{StackLine}
 use Rattle.window_stack.specs.declared.lines.StackLine.TheVariants as line
 

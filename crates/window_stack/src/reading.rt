@@ -2,18 +2,18 @@
 
 ghost use Rattle.std.specs.Prelude.{◌≡◌, ◌≤◌, true, length, Err, IfOk};
 ghost use Rattle.script_lines.specs.cutting.Lines.{is_passed_over};
-ghost use Rattle.script_lines.specs.words.Words.{map_ok, words};
+ghost use Rattle.line_words.specs.words.Words.{map_ok, words};
 ghost use Rattle.window_stack.specs.StackLines.{at_of, close_of, compose_of, given_of, in_of, is_touch_word, pane_of, part_by, plain_line, raise_of, stack_line_of, scancel_of, sdown_of, smove_of, sup_of, text_length_in, touch_line_by, IsStackLineInBounds, HasTextIn};
 ghost use Rattle.script_lines.specs.reading.Commands.{IsCommandInBounds};
 ghost use Rattle.script_lines.specs.commands.PlainCommands.{plain_command, text_length};
 ghost use Rattle.window_stack.specs.Numbers.{max_pane};
 
 use crate::lines::{MAX_CORNER, MAX_PANE, MIN_CORNER, StackLine};
-use script_lines::readers::{
-    MAX_POINT, MAX_WINDOW, end, integer, is, is_small, is_text, natural_within, number,
-    read_pointer, read_touch, within, word,
-};
-use script_lines::{Command, LineFault, line};
+use line_words::LineFault;
+use line_words::words::number::{integer, natural_within, number, within};
+use line_words::words::{end, is, is_text, word};
+use script_lines::readers::{MAX_POINT, MAX_WINDOW, is_small, read_pointer, read_touch};
+use script_lines::{Command, line};
 
 /// The name of a window.
 #[tactic(auto, unfolding(crate::specs::StackLines::pane_of))]

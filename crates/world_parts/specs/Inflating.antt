@@ -7,7 +7,7 @@ use Rattle.axml_reader.specs.Document.{Document}
 use Rattle.inflater.specs.Inflating.{Plan, inflated}
 use Rattle.script_lines.specs.commands.PlainCommands.{PlainCommand}
 use Rattle.script_lines.specs.commands.PlainCommands as command
-use Rattle.script_lines.specs.declared.words.naming.Name.{Name}
+use Rattle.line_words.specs.declared.words.naming.Name.{Name}
 use Rattle.tool_io.specs.Fetched.{Files, file_of}
 use Rattle.view_model.specs.Forest.{Forest, Nothing, Branch}
 use Rattle.view_model.specs.PlainTree.{PlainView}

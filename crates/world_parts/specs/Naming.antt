@@ -1,8 +1,8 @@
 -- The views that lines name.
 use Rattle.std.specs.Prelude.{ℕ, ◌==◌, if◌then◌else◌, Option, None}
 use Rattle.std.specs.Option.{option_map}
-use Rattle.script_lines.specs.declared.words.naming.Name.{Name}
-use Rattle.script_lines.specs.declared.words.naming.Name.TheVariants as name
+use Rattle.line_words.specs.declared.words.naming.Name.{Name}
+use Rattle.line_words.specs.declared.words.naming.Name.TheVariants as name
 use Rattle.view_model.specs.Forest.{Forest}
 use Rattle.view_model.specs.PlainTree.{PlainView, number_by_id, view_in}
 

@@ -1,6 +1,6 @@
 -- What comes of a line: the world after it and its text, or why it is refused.
 use Rattle.std.specs.Prelude.{ℕ, List, Option, None, Some}
-use Rattle.script_lines.specs.declared.words.naming.Name.{Name}
+use Rattle.line_words.specs.declared.words.naming.Name.{Name}
 use Rattle.view_model.specs.Forest.{Forest, Nothing, Branch}
 use Rattle.view_model.specs.Numbers.{no_root, no_view}
 use Rattle.view_model.specs.PlainTree.{PlainView}

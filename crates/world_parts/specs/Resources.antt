@@ -2,7 +2,7 @@
 use Rattle.std.specs.Prelude.{chars}
 use Rattle.script_lines.specs.commands.PlainCommands.{PlainGiven}
 use Rattle.script_lines.specs.commands.PlainCommands as command
-use Rattle.script_lines.specs.words.Escapes.{unescaped}
+use Rattle.line_words.specs.words.Escapes.{unescaped}
 use Rattle.view_model.specs.Resources.{Resource, Color, Dimen, Text}
 
 -- the resource that a line gives

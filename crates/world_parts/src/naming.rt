@@ -9,7 +9,7 @@ ghost use Rattle.world_parts.specs.Naming.{named};
 ghost use Rattle.world_parts.specs.Faults.{HasFile, HasMemory};
 
 use crate::fault::StepFault;
-use script_lines::Name;
+use line_words::Name;
 use view_model::Refusal;
 use view_model::refusals::{HAS_ROOT, NO_ROOT, NO_VIEW};
 use view_tree::{Key, ViewTree};

@@ -2,13 +2,14 @@
 
 ghost use Rattle.std.specs.Prelude.{◌≡◌, ◌<◌, ◌^◌, IfOk, chars};
 ghost use Rattle.res_values.specs.Values.{resource};
-ghost use Rattle.script_lines.specs.words.Escapes.{unescaped};
+ghost use Rattle.line_words.specs.words.Escapes.{unescaped};
 ghost use Rattle.script_lines.specs.commands.PlainCommands.{given_text_length, plain_given};
 ghost use Rattle.world_parts.specs.Resources.{resource_given};
 ghost use Rattle.view_model.specs.Texts.{IsShortText};
 
+use line_words::Unescaped;
 use res_values::Value;
-use script_lines::{Given, Unescaped};
+use script_lines::Given;
 use std::alloc::{AllocError, Global};
 use view_model::Text;
 

@@ -2,9 +2,9 @@
 
 ghost use Rattle.std.specs.Prelude.{◌≡◌, ◌≤◌, IfOk, chars, encode_utf8_all, length};
 ghost use Rattle.std.specs.String.{string_bytes};
-ghost use Rattle.script_lines.specs.words.Escapes.{unescaped};
+ghost use Rattle.line_words.specs.words.Escapes.{unescaped};
 
-use script_lines::Unescaped;
+use line_words::Unescaped;
 use std::alloc::{AllocError, Global};
 
 /// The bytes of a text with escapes as written, which are resolved here.

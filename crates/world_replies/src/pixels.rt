@@ -5,7 +5,7 @@ ghost use Rattle.std.specs.Prelude.{◌≡◌, ◌<◌, ◌+ℤ◌, int_le, pos,
 ghost use Rattle.std.specs.Option.{is_some};
 ghost use Rattle.hex.specs.Hex.{encode_lower};
 ghost use Rattle.pixel_raster.specs.Bytes.{digest_of};
-ghost use Rattle.script_lines.specs.words.Numbers.{IsWithin};
+ghost use Rattle.line_words.specs.words.Numbers.{IsWithin};
 ghost use Rattle.script_lines.specs.reading.Pixels.{IsPart};
 ghost use Rattle.script_lines.specs.Numbers.{max_point, max_window};
 ghost use Rattle.text_lines.specs.BufferedText.{Sends};

@@ -1,16 +1,12 @@
 -- Actions, word by word.
-use Rattle.std.proofs.Common.{◌≡◌, ℕ, ◌+◌, ◌-◌, ◌<◌, ◌≤◌, true, false, refl, ap, sym, ◌∙◌, inl, inr, List, [], ◌∷◌, length, drop, drop-drop, arith, length-drop, length-take}
+use Rattle.std.proofs.Common.{◌≡◌, ℕ, ◌-◌, ◌<◌, true, false, refl, ap, sym, ◌∙◌, List, [], ◌∷◌, length, drop}
 use Rattle.std.specs.Prelude.{bit_or, Result, Ok, Err}
-use Rattle.std.specs.List.{prefix_len}
 use Rattle.std.specs.Result.{is_err}
-use Rattle.std.proofs.lemmas.Bool.{cases_lt}
-use Rattle.std.proofs.lemmas.List.{drop_all}
 use Rattle.std.proofs.lemmas.Nat.{or_lt}
 use Rattle.script_lines.specs.reading.Actions.{action_in, action_of, with_actions}
-use Rattle.script_lines.specs.cutting.Lines.{is_space}
-use Rattle.script_lines.specs.words.Words.{◌>>=◌, after_spaces, after_word, end_of, first_word, in_word, word_in, words}
-use Rattle.script_lines.specs.declared.fault.LineFault.{LineFault}
-use Rattle.script_lines.proofs.texts.WordLaws.{words_none}
+use Rattle.line_words.specs.words.Words.{◌>>=◌, after_word, end_of, word_in, words}
+use Rattle.line_words.specs.declared.fault.LineFault.{LineFault}
+use Rattle.line_words.proofs.texts.AfterLaws.{following}
 
 -- no words are left
 pub actions_end : (actions : ℕ) (ws : List (List ℕ)) → is_err (end_of ws) ≡ false → with_actions actions ws ≡ Ok actions
@@ -51,36 +47,6 @@ pub actions_stop : (actions : ℕ) (ws : List (List ℕ)) (fault : LineFault) �
 unfolding with_actions
 actions_stop actions [] fault e h = absurd (cc)
 actions_stop actions (w ∷ ws) fault e h = fault_then (action_of w) ws fault (λ action. with_actions (bit_or actions action) ws) h
-
--- what comes after a word is shorter than all from that word on
-pub shorter : (bytes w : List ℕ) (ws : List (List ℕ)) → word_in (words bytes) ≡ Ok (w, ws) → length (after_word bytes) < length bytes
-unfolding first_word after_word
-shorter bytes w ws h = elim (cases_lt 0 (length (first_word bytes))) [
-  | inl some ↦ (
-      let p = prefix_len in_word (after_spaces bytes) in
-      omega (arith, some, length-take p (after_spaces bytes), length-drop p (after_spaces bytes), length-drop (prefix_len is_space bytes) bytes))
-  | inr none ↦ absurd (let e = words_none bytes (omega (arith, none)) in cc)
-]
-
-dropped_again : (xs : List ℕ) (n : ℕ) → drop (length xs - length (drop n xs)) xs ≡ drop n xs
-dropped_again xs n = elim (cases_lt n (length xs)) [
-  | inl less ↦ ap (λ k. drop k xs) (let e : length xs - length (drop n xs) ≡ n = omega (arith, length-drop n xs, less) in e)
-  | inr more ↦ (
-      let most : length xs ≤ length xs - length (drop n xs) = omega (arith, length-drop n xs, more) in
-      drop_all (length xs - length (drop n xs)) xs most ∙ sym (drop_all n xs (omega (arith, more))))
-]
-
-dropped_twice : (bytes : List ℕ) (at q p : ℕ) → drop p (drop q (drop at bytes)) ≡ drop (at + (q + p)) bytes
-dropped_twice bytes at q p = drop-drop p q (drop at bytes) ∙ drop-drop (q + p) at bytes
-
--- the place after a word
-pub following : (bytes : List ℕ) (at : ℕ) → drop (length bytes - length (after_word (drop at bytes))) bytes ≡ after_word (drop at bytes)
-unfolding after_word
-following bytes at =
-    let q = prefix_len is_space (drop at bytes) in
-    let p = prefix_len in_word (after_spaces (drop at bytes)) in
-    let e : after_word (drop at bytes) ≡ drop (at + (q + p)) bytes = dropped_twice bytes at q p in
-    ap (λ rest. drop (length bytes - length rest) bytes) e ∙ dropped_again bytes (at + (q + p)) ∙ sym e
 
 -- an action, and the place after its word
 pub read_after : (bytes : List ℕ) (at action : ℕ) (name rest : List ℕ) → word_in (words (drop at bytes)) ≡ Ok (name, words rest) → rest ≡ after_word (drop at bytes) → action_of name ≡ Ok action

@@ -4,8 +4,8 @@ use Rattle.std.specs.Prelude.{codes, Ok, Err, false, true, pos, negsuc}
 use Rattle.std.specs.Str.{is_utf8, chars}
 use lib.Utf8.{encode}
 use Rattle.script_lines.specs.commands.PlainCommands.{Act}
-use Rattle.script_lines.specs.declared.fault.LineFault.TheVariants.{Syntax, Range}
-use Rattle.script_lines.specs.declared.words.naming.Name.TheVariants.{Number, Id}
+use Rattle.line_words.specs.declared.fault.LineFault.TheVariants.{Syntax, Range}
+use Rattle.line_words.specs.declared.words.naming.Name.TheVariants.{Number, Id}
 use Rattle.view_model.specs.declared.changes.Act.TheVariants as act
 use Rattle.view_model.specs.declared.changes.Change.TheVariants as change
 use Rattle.view_model.specs.declared.changes.Flag.TheVariants as flag
@@ -17,12 +17,12 @@ use Rattle.view_model.specs.Facts.{no_gravity}
 use Rattle.script_lines.specs.reading.Changes.{flag_named, flag_of, insets_of, new_id_of, scroll_of, gravity_change_of, kids_of, sides_of, visibility_of, visible_of, orient_of, vertical_of}
 use Rattle.script_lines.specs.reading.Commands.{add_of, bounds_of, command_by, command_in, command_of, frame_of, remove_of, set_of}
 use Rattle.script_lines.specs.reading.Verbs.{act_named, change_named, verb_named}
-use Rattle.script_lines.specs.words.Dimensions.{dimension_of, extents_of}
-use Rattle.script_lines.specs.words.Gravities.{across_of, down_of, gravity_of, one_across, one_down, with_word, with_words}
-use Rattle.script_lines.specs.words.Names.{hex_digit_of, hex_of, id_of, name_of, parent_of}
-use Rattle.script_lines.specs.words.Numbers.{integer_of, natural_of, pair_of, within_of, natural_within}
-use Rattle.script_lines.specs.words.Weights.{last_number, weight_of}
-use Rattle.script_lines.specs.words.Words.{on_of, after_word, words}
+use Rattle.line_words.specs.words.Dimensions.{dimension_of, extents_of}
+use Rattle.line_words.specs.words.Gravities.{across_of, down_of, gravity_of, one_across, one_down, with_word, with_words}
+use Rattle.line_words.specs.words.Names.{hex_digit_of, hex_of, id_of, name_of, parent_of}
+use Rattle.line_words.specs.words.Numbers.{integer_of, natural_of, pair_of, within_of, natural_within}
+use Rattle.line_words.specs.words.Weights.{last_number, weight_of}
+use Rattle.line_words.specs.words.Words.{on_of, after_word, words}
 
 pub a_size : command_of (codes "size v1 10 match") ≡ Ok (Act (Number 1) (act.Change (change.Size (pos 10) (negsuc 0))))
 unfolding is_utf8 chars encode words natural_of integer_of within_of pair_of hex_digit_of hex_of id_of name_of parent_of dimension_of extents_of class_named add_of remove_of frame_of bounds_of set_of change_named act_named verb_named command_by command_in command_of after_word across_of down_of one_across one_down with_word with_words gravity_of gravity_change_of kids_of sides_of insets_of visibility_of visible_of new_id_of

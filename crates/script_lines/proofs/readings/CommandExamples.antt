@@ -4,16 +4,16 @@ use Rattle.std.specs.Prelude.{codes, Ok, Err, Some, None, pos, negsuc}
 use Rattle.std.specs.Str.{is_utf8, chars}
 use lib.Utf8.{encode}
 use Rattle.script_lines.specs.commands.PlainCommands.{Window, Add, Remove, Frame, Bounds}
-use Rattle.script_lines.specs.declared.fault.LineFault.TheVariants.{Syntax, Range}
-use Rattle.script_lines.specs.declared.words.naming.Name.TheVariants.{Number, Id}
+use Rattle.line_words.specs.declared.fault.LineFault.TheVariants.{Syntax, Range}
+use Rattle.line_words.specs.declared.words.naming.Name.TheVariants.{Number, Id}
 use Rattle.view_model.specs.declared.class.Class.TheVariants as class
 use Rattle.view_model.specs.Classes.{class_named}
 use Rattle.script_lines.specs.reading.Commands.{add_of, bounds_of, command_by, command_in, command_of, frame_of, remove_of, set_of}
 use Rattle.script_lines.specs.reading.Verbs.{act_named, change_named, verb_named}
-use Rattle.script_lines.specs.words.Dimensions.{dimension_of, extents_of}
-use Rattle.script_lines.specs.words.Names.{hex_digit_of, hex_of, id_of, name_of, parent_of}
-use Rattle.script_lines.specs.words.Numbers.{integer_of, natural_of, pair_of, within_of}
-use Rattle.script_lines.specs.words.Words.{after_word, words}
+use Rattle.line_words.specs.words.Dimensions.{dimension_of, extents_of}
+use Rattle.line_words.specs.words.Names.{hex_digit_of, hex_of, id_of, name_of, parent_of}
+use Rattle.line_words.specs.words.Numbers.{integer_of, natural_of, pair_of, within_of}
+use Rattle.line_words.specs.words.Words.{after_word, words}
 
 pub a_window : command_of (codes "window 100 50") ≡ Ok (Window (pos 100) (pos 50))
 unfolding is_utf8 chars encode words natural_of integer_of within_of pair_of hex_digit_of hex_of id_of name_of parent_of dimension_of extents_of class_named add_of remove_of frame_of bounds_of set_of change_named act_named verb_named command_by command_in command_of after_word

@@ -1,16 +1,15 @@
 -- Lines that have no command.
-use Rattle.std.proofs.Common.{◌≡◌, ℕ, ◌<◌, Bool, true, false, refl, ap, ◌∙◌, inl, inr, List, [], ◌∷◌, length, take, arith}
-use Rattle.std.specs.Prelude.{◌==◌, ◌&&◌, ◌||◌, nat_lt, slice_index, Result, Ok, Err}
-use Rattle.std.specs.List.{list_all, prefix_len}
+use Rattle.std.proofs.Common.{◌≡◌, ℕ, ◌<◌, Bool, true, false, refl, ap, ◌∙◌, inl, inr, List, [], ◌∷◌, length, arith}
+use Rattle.std.specs.Prelude.{◌==◌, ◌&&◌, ◌||◌, nat_lt, slice_index, Err}
+use Rattle.std.specs.List.{list_all}
 use Rattle.std.specs.Str.{is_utf8}
 use Rattle.std.proofs.lemmas.Bool.{cases_Bool}
 use Rattle.script_lines.specs.reading.Commands.{command_in, command_of}
-use Rattle.script_lines.specs.cutting.Lines.{is_passed_over, is_space}
+use Rattle.script_lines.specs.cutting.Lines.{is_passed_over}
+use Rattle.line_words.specs.words.Words.{is_space, after_word, first_word, ◌>>=◌, word_in, words}
 use Rattle.script_lines.specs.reading.Verbs.{act_named, change_named, verb_named}
-use Rattle.script_lines.specs.words.Words.{after_word, first_word, in_word, map_ok, ◌>>=◌, word_in, words}
-use Rattle.script_lines.specs.declared.fault.LineFault.{LineFault}
-use Rattle.script_lines.specs.declared.fault.LineFault.TheVariants.{Syntax}
-use Rattle.script_lines.proofs.texts.WordLaws.{one_add, word_space, words_some}
+use Rattle.line_words.specs.declared.fault.LineFault.TheVariants.{Syntax}
+use Rattle.line_words.proofs.texts.WordLaws.{words_some, words-spaces, first_word-mark}
 
 -- a line without words
 no_words : (line : List ℕ) → words line ≡ [] → command_of line ≡ Err Syntax
@@ -20,26 +19,9 @@ no_words line e = elim (cases_Bool (is_utf8 line)) [
   | inr f ↦ rw f refl
 ]
 
-pub and-left : (a b : Bool) → (a && b) ≡ true → a ≡ true
-and-left true b h = refl
-and-left false b h = absurd (cc)
-
-pub and-right : (a b : Bool) → (a && b) ≡ true → b ≡ true
-and-right true b h = h
-and-right false b h = absurd (cc)
-
 or-right : (a b : Bool) → a ≡ false → (a || b) ≡ true → b ≡ true
 or-right true b e h = absurd (cc)
 or-right false b e h = h
-
-pub words-spaces : (line : List ℕ) → list_all is_space line ≡ true → words line ≡ []
-unfolding words
-words-spaces [] h = refl
-words-spaces (b ∷ bs) h = word_space b bs (and-left (is_space b) (list_all is_space bs) h) ∙ words-spaces bs (and-right (is_space b) (list_all is_space bs) h)
-
-pub first_word-mark : (bs : List ℕ) → first_word (35 ∷ bs) ≡ 35 ∷ take (prefix_len in_word bs) bs
-unfolding first_word
-first_word-mark bs = ap (λ n. take n (35 ∷ bs)) (one_add (prefix_len in_word bs))
 
 -- no first word begins with the mark of a comment
 command_in-mark : (word rest : List ℕ) → command_in (35 ∷ word) rest ≡ Err Syntax
@@ -67,8 +49,3 @@ passed_over line h = elim (cases_Bool (list_all is_space line)) [
   | inl e ↦ no_words line (words-spaces line e)
   | inr e ↦ marked line (or-right (list_all is_space line) _ e h)
 ]
-
--- a reading of plain values that is a fault is that fault
-pub map_ok-fault : {A B : Type 0} (f : A → B) (r : Result A LineFault) (fault : LineFault) → map_ok f r ≡ Err fault → r ≡ Err fault
-map_ok-fault f (Ok a) fault h = absurd (cc)
-map_ok-fault f (Err other) fault h = ap Err (cc h)

@@ -10,20 +10,20 @@ use Rattle.view_model.specs.declared.placing.Across.TheVariants as across
 use Rattle.view_model.specs.declared.placing.Down.TheVariants as down
 use Rattle.script_lines.specs.commands.PlainCommands.{Hook}
 use Rattle.script_lines.specs.declared.commands.Asked.{Asked}
-use Rattle.script_lines.specs.declared.fault.LineFault.TheVariants.{Syntax, Range}
-use Rattle.script_lines.specs.declared.words.naming.Name.{Name}
-use Rattle.script_lines.specs.declared.words.naming.Name.TheVariants.{Number, Id}
+use Rattle.line_words.specs.declared.fault.LineFault.TheVariants.{Syntax, Range}
+use Rattle.line_words.specs.declared.words.naming.Name.{Name}
+use Rattle.line_words.specs.declared.words.naming.Name.TheVariants.{Number, Id}
 use Rattle.script_lines.specs.reading.Changes.{gravity_change_of, insets_of, kids_of, sides_of}
-use Rattle.script_lines.specs.words.Colors.{color_of, last_color}
+use Rattle.line_words.specs.words.Colors.{color_of, last_color}
 use Rattle.script_lines.specs.reading.Commands.{command_by, command_in, command_of, hook_of}
-use Rattle.script_lines.specs.words.Dimensions.{dimension_of, extents_of}
-use Rattle.script_lines.specs.words.Gravities.{across_of, down_of, gravity_of, one_across, one_down, with_word, with_words}
+use Rattle.line_words.specs.words.Dimensions.{dimension_of, extents_of}
+use Rattle.line_words.specs.words.Gravities.{across_of, down_of, gravity_of, one_across, one_down, with_word, with_words}
 use Rattle.script_lines.specs.reading.Hooks.{asked_of, edit_of, edits_of, joined, unmade_of}
 use Rattle.script_lines.specs.reading.Verbs.{act_named, change_named, verb_named}
-use Rattle.script_lines.specs.words.Names.{hex_digit_of, hex_of, id_of, name_of}
-use Rattle.script_lines.specs.words.Numbers.{integer_of, natural_of, natural_within, pair_of, within_of}
-use Rattle.script_lines.specs.words.Weights.{last_number, weight_of}
-use Rattle.script_lines.specs.words.Words.{after_word, words}
+use Rattle.line_words.specs.words.Names.{hex_digit_of, hex_of, id_of, name_of}
+use Rattle.line_words.specs.words.Numbers.{integer_of, natural_of, natural_within, pair_of, within_of}
+use Rattle.line_words.specs.words.Weights.{last_number, weight_of}
+use Rattle.line_words.specs.words.Words.{after_word, words}
 
 abbrev ask : Name → Change → Asked
 ask view change = record { view = view; change = change }

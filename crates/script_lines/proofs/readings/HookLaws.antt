@@ -9,8 +9,8 @@ use Rattle.view_model.specs.Numbers.{max_edits}
 use Rattle.script_lines.specs.reading.Gathered.{joined_after, reading_of}
 use Rattle.script_lines.specs.reading.Hooks.{asked_in, edits_of, joined, parts_edits, readings_of}
 use Rattle.script_lines.specs.declared.commands.Asked.{Asked}
-use Rattle.script_lines.specs.declared.fault.LineFault.{LineFault}
-use Rattle.script_lines.specs.declared.fault.LineFault.TheVariants.{Syntax, Range}
+use Rattle.line_words.specs.declared.fault.LineFault.{LineFault}
+use Rattle.line_words.specs.declared.fault.LineFault.TheVariants.{Syntax, Range}
 
 readings-next : (left : ℕ) (edit : List (List ℕ)) (edits : List (List (List ℕ))) → readings_of left (edit ∷ edits) ≡ reading_of left edit ∷ readings_of (left - 1) edits
 unfolding reading_of

@@ -1,63 +1,14 @@
 -- The words before a place and those after it, and the edits that the word `;` separates.
-use Rattle.std.proofs.Common.{◌≡◌, ℕ, ◌+◌, ◌<◌, Bool, true, false, refl, ap, sym, ◌∙◌, ◌-◌, ◌≤◌, inl, inr, List, [], ◌∷◌, ◌++◌, length, take, drop, arith, append_assoc, length-drop}
-use Rattle.std.specs.Prelude.{filter, Result, Ok, Err}
-use Rattle.std.specs.List.{All, onto_first, prefix_len, slice_split}
-use Rattle.std.proofs.lemmas.Bool.{cases_Bool}
+use Rattle.std.proofs.Common.{◌≡◌, ℕ, ◌+◌, ◌<◌, true, false, refl, ap, sym, ◌∙◌, ◌-◌, ◌≤◌, List, [], ◌∷◌, ◌++◌, length, take, drop, arith, append_assoc, length-drop}
+use Rattle.std.specs.Prelude.{Result, Ok, Err}
+use Rattle.std.specs.List.{All, prefix_len, slice_split}
 use Rattle.std.proofs.lemmas.List.{append-nil, append_cancel_right, take-append-drop, take_all}
-use Rattle.std.proofs.lemmas.List.Elements.{All-push, filter-append}
-use Rattle.std.proofs.lemmas.List.Splits.{length-slice_split, slice_split-cons_no, slice_split-cons_yes, slice_split_at, slice_split_none}
+use Rattle.std.proofs.lemmas.List.Elements.{All-push}
+use Rattle.std.proofs.lemmas.List.Splits.{slice_split_at, slice_split_none}
 use Rattle.script_lines.specs.reading.Hooks.{parts_edits}
-use Rattle.script_lines.specs.cutting.Lines.{is_space}
-use Rattle.script_lines.specs.words.Words.{after_spaces, after_word, in_word, is_word, word_in, words}
-use Rattle.script_lines.specs.declared.fault.LineFault.{LineFault}
-use Rattle.script_lines.proofs.readings.ActionLaws.{following, shorter}
-use Rattle.script_lines.proofs.texts.WordLaws.{one_add, word_space}
-
-onto_first-append : {X : Type 0} (x : X) (parts more : List (List X)) → 0 < length parts → onto_first x (parts ++ more) ≡ onto_first x parts ++ more
-onto_first-append x [] more h = absurd (omega (arith, h))
-onto_first-append x (part ∷ parts) more h = refl
-
-slice_split-append : {X : Type 0} (p : X → Bool) (xs : List X) (y : X) (ys : List X) → p y ≡ true → slice_split p (xs ++ y ∷ ys) ≡ slice_split p xs ++ slice_split p ys
-slice_split-append p [] y ys e = slice_split-cons_yes p y ys e
-slice_split-append p (x ∷ xs) y ys e = elim (cases_Bool (p x)) [
-  | inl t ↦ (
-      slice_split-cons_yes p x (xs ++ y ∷ ys) t ∙ ap (λ (parts : List (List _)). [] ∷ parts) (slice_split-append p xs y ys e)
-      ∙ ap (λ parts. parts ++ slice_split p ys) (sym (slice_split-cons_yes p x xs t)))
-  | inr f ↦ (
-      slice_split-cons_no p x (xs ++ y ∷ ys) f ∙ ap (onto_first x) (slice_split-append p xs y ys e)
-      ∙ onto_first-append x (slice_split p xs) (slice_split p ys) (omega (arith, length-slice_split p xs))
-      ∙ ap (λ parts. parts ++ slice_split p ys) (sym (slice_split-cons_no p x xs f)))
-]
-
-words-space : (xs ys : List ℕ) (b : ℕ) → is_space b ≡ true → words (xs ++ b ∷ ys) ≡ words xs ++ words ys
-unfolding words
-words-space xs ys b e = ap (filter is_word) (slice_split-append is_space xs b ys e) ∙ filter-append is_word (slice_split is_space xs) (slice_split is_space ys)
-
-words_nil : words [] ≡ []
-unfolding words
-words_nil = refl
-
--- where a word does not go on, words are separated
-words-append : (xs ys : List ℕ) → prefix_len in_word ys ≡ 0 → words (xs ++ ys) ≡ words xs ++ words ys
-words-append xs [] h = ap words (append-nil xs) ∙ sym (append-nil (words xs)) ∙ ap (λ ws. words xs ++ ws) (sym words_nil)
-words-append xs (b ∷ ys) h = elim (cases_Bool (is_space b)) [
-  | inl e ↦ words-space xs ys b e ∙ ap (λ ws. words xs ++ ws) (sym (word_space b ys e))
-  | inr e ↦ absurd (let q : prefix_len in_word (b ∷ ys) ≡ 1 + prefix_len in_word ys = rw e refl in omega (arith, q, h))
-]
-
-word_ended : (s : List ℕ) → prefix_len in_word (drop (prefix_len in_word s) s) ≡ 0
-word_ended [] = refl
-word_ended (b ∷ bs) = elim (cases_Bool (is_space b)) [
-  | inl e ↦ (let z : prefix_len in_word (b ∷ bs) ≡ 0 = rw e refl in ap (λ n. prefix_len in_word (drop n (b ∷ bs))) z ∙ z)
-  | inr e ↦ (
-      let q : prefix_len in_word (b ∷ bs) ≡ 1 + prefix_len in_word bs = rw e refl in
-      ap (λ n. prefix_len in_word (drop n (b ∷ bs))) (q ∙ one_add (prefix_len in_word bs)) ∙ word_ended bs)
-]
-
--- a word does not go on after it
-pub after_word-ended : (bytes : List ℕ) → prefix_len in_word (after_word bytes) ≡ 0
-unfolding after_word
-after_word-ended bytes = word_ended (after_spaces bytes)
+use Rattle.line_words.specs.words.Words.{after_word, in_word, word_in, words}
+use Rattle.line_words.specs.declared.fault.LineFault.{LineFault}
+use Rattle.line_words.proofs.texts.AfterLaws.{following, shorter, words_nil, words-append, after_word-ended}
 
 -- where a word does not go on
 pub words-parted : (bytes : List ℕ) (at : ℕ) → prefix_len in_word (drop at bytes) ≡ 0 → words bytes ≡ words (take at bytes) ++ words (drop at bytes)

@@ -7,12 +7,13 @@ use Rattle.script_lines.specs.commands.Spelled.{HasLine, spelled}
 use Rattle.script_lines.specs.commands.Written.{IsWritten}
 use Rattle.script_lines.specs.cutting.Lines.{is_passed_over}
 use Rattle.script_lines.specs.declared.commands.Command.{Command}
-use Rattle.script_lines.specs.declared.fault.LineFault.{LineFault}
-use Rattle.script_lines.specs.declared.fault.LineFault.TheVariants.{Syntax}
+use Rattle.line_words.specs.declared.fault.LineFault.{LineFault}
+use Rattle.line_words.specs.declared.fault.LineFault.TheVariants.{Syntax}
 use Rattle.script_lines.specs.reading.Commands.{IsInBounds, command_of}
-use Rattle.script_lines.specs.words.Words.{map_ok}
-use Rattle.script_lines.proofs.readings.CommandLaws.{map_ok-fault, passed_over}
-use Rattle.script_lines.proofs.readings.OkLaws.{from_plain}
+use Rattle.line_words.specs.words.Words.{map_ok}
+use Rattle.line_words.proofs.texts.OkLaws.{map_ok-fault}
+use Rattle.script_lines.proofs.readings.CommandLaws.{passed_over}
+use Rattle.line_words.proofs.texts.OkLaws.{from_plain}
 use Rattle.script_lines.proofs.readings.TextLengthLaws.{command_of-short}
 use Rattle.script_lines.proofs.spelled.SpelledCommands.{command_of-spelled}
 use Rattle.script_lines.proofs.written.ReadLines.{command_of-given}

@@ -4,17 +4,17 @@ use Rattle.std.specs.Prelude.{codes, Ok, Err, Some, None, true, false}
 use Rattle.std.specs.Str.{is_utf8, chars}
 use lib.Utf8.{encode}
 use Rattle.script_lines.specs.reading.Commands.{command_by, command_in, command_of, dpi_of, inflate_of, into_of}
-use Rattle.script_lines.specs.words.Escapes.{escaped_text_of, rest_of, unescaped}
-use Rattle.script_lines.specs.words.FileNames.{is_file_name}
-use Rattle.script_lines.specs.words.Names.{hex_digit_of, hex_of, id_of, name_of}
-use Rattle.script_lines.specs.words.Numbers.{integer_of, natural_of, natural_within, within_of}
+use Rattle.line_words.specs.words.Escapes.{escaped_text_of, rest_of, unescaped}
+use Rattle.line_words.specs.words.FileNames.{is_file_name}
+use Rattle.line_words.specs.words.Names.{hex_digit_of, hex_of, id_of, name_of}
+use Rattle.line_words.specs.words.Numbers.{integer_of, natural_of, natural_within, within_of}
 use Rattle.script_lines.specs.commands.PlainCommands.{Dpi, Res, Inflate, Color, Dimen, Text}
-use Rattle.script_lines.specs.words.Colors.{color_of, last_color}
+use Rattle.line_words.specs.words.Colors.{color_of, last_color}
 use Rattle.script_lines.specs.reading.Resources.{dimen_given, dimen_word, given_by, given_of, res_of, resource_id, unit_of}
 use Rattle.script_lines.specs.reading.Verbs.{act_named, change_named, verb_named}
-use Rattle.script_lines.specs.words.Words.{after_word, text_of, words}
-use Rattle.script_lines.specs.declared.fault.LineFault.TheVariants.{Syntax, Range}
-use Rattle.script_lines.specs.declared.words.naming.Name.TheVariants.{Number, Id}
+use Rattle.line_words.specs.words.Words.{after_word, text_of, words}
+use Rattle.line_words.specs.declared.fault.LineFault.TheVariants.{Syntax, Range}
+use Rattle.line_words.specs.declared.words.naming.Name.TheVariants.{Number, Id}
 
 pub the_least_density : command_of (codes "dpi 40") ≡ Ok (Dpi 40)
 unfolding is_utf8 chars encode words natural_of integer_of within_of natural_within hex_digit_of hex_of id_of name_of change_named act_named verb_named command_by command_in command_of after_word dpi_of

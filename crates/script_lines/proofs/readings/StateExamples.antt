@@ -4,11 +4,11 @@ use Rattle.std.specs.Prelude.{codes, Ok, Err, Some, None}
 use Rattle.std.specs.Str.{is_utf8, chars}
 use lib.Utf8.{encode}
 use Rattle.script_lines.specs.commands.PlainCommands.{Save, Restore}
-use Rattle.script_lines.specs.declared.fault.LineFault.TheVariants.{Syntax}
+use Rattle.line_words.specs.declared.fault.LineFault.TheVariants.{Syntax}
 use Rattle.script_lines.specs.reading.Commands.{command_by, command_in, command_of, set_of}
 use Rattle.script_lines.specs.reading.States.{is_state_text, restore_of, save_of, state_text_of}
 use Rattle.script_lines.specs.reading.Verbs.{act_named, change_named, verb_named}
-use Rattle.script_lines.specs.words.Words.{after_word, words}
+use Rattle.line_words.specs.words.Words.{after_word, words}
 
 pub the_state_is_kept : command_of (codes "save") ≡ Ok Save
 unfolding is_utf8 chars encode words is_state_text state_text_of save_of restore_of set_of change_named act_named verb_named command_by command_in command_of after_word

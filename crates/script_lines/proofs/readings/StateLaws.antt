@@ -4,10 +4,10 @@ use Rattle.std.specs.Prelude.{nat_lt, Ok}
 use Rattle.std.proofs.lemmas.Bool.Decides.{nat_tests}
 use Rattle.std.proofs.lemmas.Str.{IsUtf8-from_ascii, is_utf8-from_IsUtf8}
 use Rattle.script_lines.specs.reading.States.{is_state_text, state_text_of}
-use Rattle.script_lines.specs.words.Words.{text_of}
-use Rattle.script_lines.proofs.readings.CommandLaws.{and-left, and-right}
-use Rattle.script_lines.proofs.spelled.SpelledNames.{all_graphic}
-use Rattle.script_lines.proofs.spelled.SpelledWords.{IsWord, ascii}
+use Rattle.line_words.specs.words.Words.{text_of}
+use Rattle.line_words.proofs.texts.BothLaws.{and-left, and-right}
+use Rattle.line_words.proofs.spelled.SpelledNames.{all_graphic}
+use Rattle.line_words.proofs.spelled.SpelledWords.{IsWord, ascii}
 
 pub state_word : (word : List ℕ) → is_state_text word ≡ true → IsWord word
 unfolding is_state_text

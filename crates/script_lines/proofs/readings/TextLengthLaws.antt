@@ -1,63 +1,33 @@
 -- The text of a command is no longer than its line.
-use Rattle.std.proofs.Common.{ℕ, ◌≤◌, Bool, inl, inr, List, [], ◌∷◌, length, drop, arith, length-drop, length-take}
-use Rattle.std.specs.Prelude.{ℤ, pos, nat_lt, codes, if◌then◌else◌, IfOk, Ok, Err}
-use Rattle.std.specs.List.{prefix_len}
+use Rattle.std.proofs.Common.{ℕ, ◌≤◌, Bool, List, [], ◌∷◌, length, arith}
+use Rattle.std.specs.Prelude.{ℤ, pos, codes, if◌then◌else◌, IfOk, Ok, Err}
 use Rattle.std.specs.Str.{bytes_eq, is_utf8}
-use Rattle.std.proofs.lemmas.Bool.{cases_lt}
 use Rattle.script_lines.specs.reading.Changes.{act_by}
 use Rattle.script_lines.specs.reading.Commands.{add_of, bounds_of, command_by, command_in, command_of, digest_of, dpi_of, disallow_of, frame_of, inflate_of, into_of, remove_of, set_of, set_text_of, hook_of}
-use Rattle.script_lines.specs.words.Dimensions.{extents_of}
-use Rattle.script_lines.specs.words.Escapes.{escaped_text_of, has_escapes, rest_of}
+use Rattle.line_words.specs.words.Dimensions.{extents_of}
+use Rattle.line_words.specs.words.Escapes.{rest_of}
 use Rattle.view_model.specs.Classes.{class_named}
-use Rattle.script_lines.specs.words.FileNames.{file_name_in}
+use Rattle.line_words.specs.words.FileNames.{file_name_in}
 use Rattle.script_lines.specs.reading.Hooks.{edits_of}
-use Rattle.script_lines.specs.cutting.Lines.{is_space}
-use Rattle.script_lines.specs.words.Names.{id_in, known, name_in, parent_in}
-use Rattle.script_lines.specs.words.Numbers.{integer_in, natural_within, pair_of, within_of}
+use Rattle.line_words.specs.words.Words.{after_word, end_of, on_of, word_in, words}
+use Rattle.line_words.specs.words.Names.{id_in, known, name_in, parent_in}
+use Rattle.line_words.specs.words.Numbers.{integer_in, natural_within, pair_of, within_of}
 use Rattle.script_lines.specs.commands.PlainCommands.{PlainCommand, PlainGiven, Window, Dpi, Inflate, Act, SetText, Hook, Down, Move, Up, Text, Color, given_text_length, text_length}
-use Rattle.script_lines.specs.words.Colors.{last_color}
+use Rattle.line_words.specs.words.Colors.{last_color}
 use Rattle.script_lines.specs.reading.Pixels.{is_small, part_of, pixels_of}
 use Rattle.script_lines.specs.reading.Resources.{dimen_given, given_by, given_of, res_of, resource_id, unit_of}
 use Rattle.script_lines.specs.reading.States.{is_state_text, restore_of, save_of, state_text_of}
 use Rattle.script_lines.specs.reading.Touches.{cancel_of, pointer_of, touch_of, up_of}
 use Rattle.script_lines.specs.reading.Verbs.{verb_named}
-use Rattle.script_lines.specs.words.Words.{after_spaces, after_word, end_of, first_word, in_word, on_of, text_of, word_in, words}
 use Rattle.script_lines.specs.declared.commands.Asked.{Asked}
 use Rattle.script_lines.specs.Numbers.{max_dpi, max_mantissa, max_point, max_window, min_dpi, min_mantissa}
-use Rattle.script_lines.specs.declared.fault.LineFault.TheVariants.{Syntax}
+use Rattle.line_words.specs.declared.fault.LineFault.TheVariants.{Syntax}
 use Rattle.script_lines.specs.declared.reading.touches.Touch.{Touch}
 use Rattle.script_lines.specs.declared.verbs.ActVerb.{ActVerb}
 use Rattle.script_lines.specs.declared.verbs.Verb.{Verb}
 use Rattle.script_lines.specs.declared.verbs.Verb.TheVariants as verb
-use Rattle.script_lines.proofs.readings.OkLaws.{if_either, if_map, if_map_with, if_ok_more, if_then, if_then_with}
-use Rattle.script_lines.proofs.texts.WordLaws.{words_none, words_some}
-
--- what follows a word is no longer
-pub after_word-short : (bytes : List ℕ) → length (after_word bytes) ≤ length bytes
-unfolding after_word
-after_word-short bytes =
-    omega (arith, length-drop (prefix_len is_space bytes) bytes, length-drop (prefix_len in_word (after_spaces bytes)) (after_spaces bytes))
-
-rest_of-short : (rest : List ℕ) → IfOk (rest_of rest) (λ text. length text ≤ length rest)
-unfolding rest_of escaped_text_of text_of
-rest_of-short rest =
-    let P = λ (text : List ℕ). length text ≤ length rest in
-    if_either P (nat_lt 0 (length rest)) _ _ (if_either P (has_escapes (drop 1 rest)) _ _ (if_either P (is_utf8 (drop 1 rest)) _ _ (omega (arith, length-drop 1 rest)) tt) tt) tt
-
-first_word-short : (bytes : List ℕ) → length (first_word bytes) ≤ length bytes
-unfolding first_word
-first_word-short bytes =
-    omega (arith, length-take (prefix_len in_word (after_spaces bytes)) (after_spaces bytes), length-drop (prefix_len is_space bytes) bytes)
-
--- the first of the words has at most n bytes
-abbrev FirstShort : ℕ → List (List ℕ) → Type 0
-FirstShort n words = IfOk (word_in words) (λ first. length first.0 ≤ n)
-
-words-first_short : (bytes : List ℕ) → FirstShort (length bytes) (words bytes)
-words-first_short bytes = elim (cases_lt 0 (length (first_word bytes))) [
-  | inl some ↦ rw (words_some bytes some) (first_word-short bytes)
-  | inr none ↦ rw (words_none bytes (omega (arith, none))) tt
-]
+use Rattle.line_words.proofs.texts.OkLaws.{if_either, if_map, if_map_with, if_ok_more, if_then, if_then_with}
+use Rattle.line_words.proofs.texts.LengthLaws.{after_word-short, rest_of-short, FirstShort, words-first_short}
 
 abbrev GivenShort : ℕ → PlainGiven → Type 0
 GivenShort n value = given_text_length value ≤ n

@@ -4,19 +4,19 @@ use Rattle.std.specs.Prelude.{codes, Ok, Err, false, true, pos, negsuc}
 use Rattle.std.specs.Str.{is_utf8, chars}
 use lib.Utf8.{encode}
 use Rattle.script_lines.specs.commands.PlainCommands.{Act, Disallow, Down, Move, Up, Cancel}
-use Rattle.script_lines.specs.declared.fault.LineFault.TheVariants.{Syntax, Range}
-use Rattle.script_lines.specs.declared.words.naming.Name.TheVariants.{Number, Id}
+use Rattle.line_words.specs.declared.fault.LineFault.TheVariants.{Syntax, Range}
+use Rattle.line_words.specs.declared.words.naming.Name.TheVariants.{Number, Id}
 use Rattle.view_model.specs.declared.changes.Act.TheVariants as act
 use Rattle.view_model.specs.declared.changes.Flag.TheVariants as flag
 use Rattle.view_model.specs.declared.answer.Answer.TheVariants as answer
 use Rattle.script_lines.specs.reading.Actions.{action_of, actions_of, with_actions}
 use Rattle.script_lines.specs.reading.Changes.{answer_named, answer_of, flag_named, flag_of}
 use Rattle.script_lines.specs.reading.Commands.{command_by, command_in, command_of, disallow_of, set_of}
-use Rattle.script_lines.specs.words.Names.{hex_digit_of, hex_of, id_of, name_of}
-use Rattle.script_lines.specs.words.Numbers.{integer_of, natural_of, natural_within, within_of}
+use Rattle.line_words.specs.words.Names.{hex_digit_of, hex_of, id_of, name_of}
+use Rattle.line_words.specs.words.Numbers.{integer_of, natural_of, natural_within, within_of}
 use Rattle.script_lines.specs.reading.Touches.{cancel_of, pointer_of, touch_of, up_of}
 use Rattle.script_lines.specs.reading.Verbs.{act_named, change_named, verb_named}
-use Rattle.script_lines.specs.words.Words.{after_word, on_of, words}
+use Rattle.line_words.specs.words.Words.{after_word, on_of, words}
 
 pub a_view_that_answers_no : command_of (codes "answer v3 off") ≡ Ok (Act (Number 3) (act.Answer answer.Off))
 unfolding is_utf8 chars encode words natural_of integer_of within_of natural_within hex_digit_of hex_of id_of name_of on_of flag_named flag_of answer_named answer_of action_of with_actions actions_of pointer_of touch_of up_of cancel_of disallow_of set_of change_named act_named verb_named command_by command_in command_of after_word

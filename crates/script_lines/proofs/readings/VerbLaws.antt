@@ -4,14 +4,14 @@ use Rattle.std.specs.Prelude.{IfOk, Option, Some, None}
 use Rattle.view_model.proofs.WordLaws.{named_is}
 use Rattle.view_model.specs.Words.{named}
 use Rattle.script_lines.specs.reading.Verbs.{act_named, act_verbs, act_word, change_named, change_verbs, change_word, line_verbs, line_word, or_else, verb_named}
-use Rattle.script_lines.specs.words.Names.{known}
+use Rattle.line_words.specs.words.Names.{known}
 use Rattle.script_lines.specs.declared.verbs.ActVerb.{ActVerb}
 use Rattle.script_lines.specs.declared.verbs.ActVerb.TheVariants as act_verb
 use Rattle.script_lines.specs.declared.verbs.ChangeVerb.{ChangeVerb}
 use Rattle.script_lines.specs.declared.verbs.ChangeVerb.TheVariants as change_verb
 use Rattle.script_lines.specs.declared.verbs.Verb.{Verb}
 use Rattle.script_lines.specs.declared.verbs.Verb.TheVariants as verb
-use Rattle.script_lines.proofs.readings.OkLaws.{if_known}
+use Rattle.line_words.proofs.texts.OkLaws.{if_known}
 
 -- a word names what has it
 or_else_is : {A B : Type 0} (P : B → Type 0) (make : A → B) (first : Option A) (second : Option B) → ((a : A) → first ≡ Some a → P (make a)) → ((b : B) → second ≡ Some b → P b) → (b : B) → or_else make first second ≡ Some b → P b

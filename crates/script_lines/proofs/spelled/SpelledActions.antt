@@ -5,9 +5,9 @@ use Rattle.std.specs.Char.{is_ascii_graphic}
 use Rattle.std.specs.List.{list_all}
 use Rattle.script_lines.specs.reading.Actions.{action_of, actions_of, with_actions}
 use Rattle.script_lines.specs.commands.Spelled.{intercept_words}
-use Rattle.script_lines.proofs.readings.CommandLaws.{and-left, and-right}
+use Rattle.line_words.proofs.texts.BothLaws.{and-left, and-right}
 use Rattle.script_lines.proofs.spelled.SpelledRules.{all_below, all_below-at, is_ok_of, ok_of}
-use Rattle.script_lines.proofs.spelled.SpelledWords.{AreWords, word_by}
+use Rattle.line_words.proofs.spelled.SpelledWords.{AreWords, word_by}
 
 abbrev are_words : List (List ℕ) → Bool
 are_words [] = true

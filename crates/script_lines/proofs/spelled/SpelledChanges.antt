@@ -1,115 +1,21 @@
 -- Changes, read from their texts.
-use Rattle.std.proofs.Common.{◌≡◌, ◌≢◌, ℕ, suc, zero, ◌+◌, ◌*◌, ◌/◌, ◌%◌, ◌<◌, ◌≤◌, ◌^◌, Bool, true, false, refl, sym, subst, inl, inr, List, [], ◌∷◌, arith}
-use Rattle.std.specs.Prelude.{◌||◌, if◌then◌else◌, IsTrue, ℤ, pos, negsuc, slice_index, codes, Ok}
-use Rattle.std.specs.Fmt.{decimal}
-use Rattle.std.specs.Str.{bytes_eq}
+use Rattle.std.proofs.Common.{◌≡◌, ℕ, ◌<◌, ◌^◌, Bool, true, false, refl, arith}
+use Rattle.std.specs.Prelude.{if◌then◌else◌, ℤ, pos, negsuc, codes, Ok}
 use Rattle.std.proofs.lemmas.Int.{ints}
 use Rattle.geom_core.specs.declared.geometry.Insets.{Insets}
-use Rattle.view_model.specs.Facts.{no_gravity}
-use Rattle.view_model.specs.Numbers.{max_inset, max_size, max_weight}
+use Rattle.view_model.specs.Numbers.{max_inset, max_size}
 use Rattle.view_model.specs.declared.changes.Change.{Change}
 use Rattle.view_model.specs.declared.changes.Change.TheVariants as change
-use Rattle.view_model.specs.declared.placing.Across.{Across}
-use Rattle.view_model.specs.declared.placing.Across.TheVariants as across
-use Rattle.view_model.specs.declared.placing.Down.{Down}
-use Rattle.view_model.specs.declared.placing.Down.TheVariants as down
-use Rattle.view_model.specs.declared.placing.Gravity.{Gravity}
 use Rattle.script_lines.specs.reading.Changes.{AreWithin, IsChangeInBounds, change_by, gravity_change_of, insets_of, kids_of, sides_of}
-use Rattle.script_lines.specs.words.Dimensions.{IsExtent, dimension_of, extent_of, extents_of}
-use Rattle.script_lines.specs.words.Gravities.{across_of, down_of, gravity_of, is_set_across, is_set_down, one_across, one_down, with_word, with_words}
-use Rattle.script_lines.specs.words.Numbers.{IsWithin}
-use Rattle.script_lines.specs.commands.Spelled.{ChangeHasLine, HasWord, change_head, change_verb_of, change_words, extent_text, gravity_text, insets_words, weight_words}
-use Rattle.script_lines.specs.words.Weights.{last_number, weight_of}
-use Rattle.script_lines.specs.Numbers.{max_parts, max_whole}
+use Rattle.line_words.specs.words.Numbers.{IsWithin}
+use Rattle.script_lines.specs.commands.Spelled.{ChangeHasLine, change_head, change_verb_of, change_words, insets_words}
 use Rattle.script_lines.specs.declared.reading.changes.Sides.{Sides}
-use Rattle.script_lines.specs.declared.words.dimension.Dimension.{Dimension}
-use Rattle.script_lines.specs.declared.words.dimension.Dimension.TheVariants.{Match, Wrap, Pixels}
-use Rattle.script_lines.proofs.spelled.SpelledColors.{color_word, last_color-text}
-use Rattle.script_lines.proofs.spelled.SpelledNumbers.{IsShort, decimal_first, decimal_word, differs, integer_of-signed, natural_within-within, pair_of-signed, short_within, signed_word, within_of-within}
-use Rattle.script_lines.proofs.spelled.SpelledWords.{AreWords, IsWord, word_by}
-
--- dimensions
-abbrev dimension_as : ℤ → Dimension
-dimension_as (pos n) = Pixels (pos n)
-dimension_as (negsuc zero) = Match
-dimension_as (negsuc (suc n)) = Wrap
-
-other_word : (word : List ℕ) (b : ℕ) (bs : List ℕ) → slice_index word 0 ≢ b → bytes_eq word (b ∷ bs) ≡ false
-other_word [] b bs h = refl
-other_word (c ∷ cs) b bs h = rw (differs c b h) refl
-
-extent_short : (n : ℕ) → IsExtent (pos n) → n < 10 ^ 10
-extent_short n h = omega (arith, ints, h.1)
-
-pub dimension_of-text : (z : ℤ) → IsExtent z → dimension_of (extent_text z) ≡ Ok (dimension_as z)
-unfolding dimension_of
-dimension_of-text (pos n) h =
-    let k = extent_short n h in
-    let m : bytes_eq (decimal n) (codes "match") ≡ false = other_word (decimal n) 109 _ (decimal_first n 109 k (λ r. absurd (omega (arith, r.1)))) in
-    let w : bytes_eq (decimal n) (codes "wrap") ≡ false = other_word (decimal n) 119 _ (decimal_first n 119 k (λ r. absurd (omega (arith, r.1)))) in
-    rw (m, w, integer_of-signed (pos n) k) refl
-dimension_of-text (negsuc zero) h = refl
-dimension_of-text (negsuc (suc n)) h = refl
-
-extent_of-as : (z : ℤ) → IsExtent z → extent_of (dimension_as z) ≡ Ok z
-extent_of-as (pos n) h = within_of-within (pos 0) max_size (pos n) (omega (arith, ints), h.1)
-extent_of-as (negsuc zero) h = refl
-extent_of-as (negsuc (suc zero)) h = refl
-extent_of-as (negsuc (suc (suc n))) h = absurd (omega (arith, ints, h.0))
-
-pub extents_of-text : (w h : ℤ) → IsExtent w → IsExtent h → extents_of (extent_text w ∷ extent_text h ∷ []) ≡ Ok (w, h)
-unfolding extents_of
-extents_of-text w h iw ih = rw (dimension_of-text w iw, dimension_of-text h ih, extent_of-as w iw, extent_of-as h ih) refl
-
-pub extent_word : (z : ℤ) → IsExtent z → IsWord (extent_text z)
-extent_word (pos n) h = decimal_word n (extent_short n h)
-extent_word (negsuc zero) h = word_by (codes "match") refl
-extent_word (negsuc (suc n)) h = word_by (codes "wrap") refl
-
--- gravities
-abbrev given : Across → Down → Gravity
-given a d = record { given = true; across = a; down = d }
-
-pub record ReadsBack (gravity : Gravity) : Type 0 where
-  pub word : IsWord (gravity_text gravity)
-  pub value : gravity_of (gravity_text gravity) ≡ Ok gravity
-
-given_back : (a : Across) (d : Down) → IsTrue (is_set_across a || is_set_down d) → ReadsBack (given a d)
-unfolding across_of down_of one_across one_down with_word with_words gravity_of
-given_back across.Unset down.Unset h = absurd (cc)
-given_back across.Unset down.Top h = record { word = word_by _ refl; value = refl }
-given_back across.Unset down.Bottom h = record { word = word_by _ refl; value = refl }
-given_back across.Unset down.Center h = record { word = word_by _ refl; value = refl }
-given_back across.Left down.Unset h = record { word = word_by _ refl; value = refl }
-given_back across.Left down.Top h = record { word = word_by _ refl; value = refl }
-given_back across.Left down.Bottom h = record { word = word_by _ refl; value = refl }
-given_back across.Left down.Center h = record { word = word_by _ refl; value = refl }
-given_back across.Right down.Unset h = record { word = word_by _ refl; value = refl }
-given_back across.Right down.Top h = record { word = word_by _ refl; value = refl }
-given_back across.Right down.Bottom h = record { word = word_by _ refl; value = refl }
-given_back across.Right down.Center h = record { word = word_by _ refl; value = refl }
-given_back across.Center down.Unset h = record { word = word_by _ refl; value = refl }
-given_back across.Center down.Top h = record { word = word_by _ refl; value = refl }
-given_back across.Center down.Bottom h = record { word = word_by _ refl; value = refl }
-given_back across.Center down.Center h = record { word = word_by _ refl; value = refl }
-given_back across.Start down.Unset h = record { word = word_by _ refl; value = refl }
-given_back across.Start down.Top h = record { word = word_by _ refl; value = refl }
-given_back across.Start down.Bottom h = record { word = word_by _ refl; value = refl }
-given_back across.Start down.Center h = record { word = word_by _ refl; value = refl }
-given_back across.End down.Unset h = record { word = word_by _ refl; value = refl }
-given_back across.End down.Top h = record { word = word_by _ refl; value = refl }
-given_back across.End down.Bottom h = record { word = word_by _ refl; value = refl }
-given_back across.End down.Center h = record { word = word_by _ refl; value = refl }
-
-none_back : ReadsBack no_gravity
-unfolding gravity_of
-none_back = record { word = word_by (codes "none") refl; value = refl }
-
-pub gravity_back : (gravity : Gravity) → HasWord gravity → ReadsBack gravity
-gravity_back gravity (inl e) = subst ReadsBack (sym e) none_back
-gravity_back gravity (inr h) =
-    let P : Bool → Type 0 = λ b. ReadsBack (record { given = b; across = gravity.across; down = gravity.down }) in
-    subst P (sym h.0) (given_back gravity.across gravity.down h.1)
+use Rattle.line_words.proofs.spelled.SpelledColors.{color_word, last_color-text}
+use Rattle.line_words.proofs.spelled.SpelledNumbers.{IsShort, integer_of-signed, pair_of-signed, short_within, signed_word, within_of-within}
+use Rattle.line_words.proofs.spelled.SpelledWords.{AreWords, IsWord, word_by}
+use Rattle.line_words.proofs.spelled.SpelledDimensions.{extents_of-text, extent_word}
+use Rattle.line_words.proofs.spelled.SpelledGravities.{gravity_back}
+use Rattle.line_words.proofs.spelled.SpelledWeights.{weight_reads_words, weight_of-words}
 
 -- sides
 side_short : (low : ℕ) (z : ℤ) → low < 2 ^ 31 → IsWithin (negsuc low) max_inset z → IsShort z
@@ -148,25 +54,6 @@ padding_short sides h = sides_short 0 sides (omega arith) (from_0 sides.left h.0
 
 pub size_short : (z : ℤ) → IsWithin (pos 0) max_size z → IsShort z
 size_short z h = short_within 0 16777215 z (omega (arith, ints, h.0)) h.1 (omega arith) (omega arith)
-
--- weights
-pub whole_short : (weight : ℕ) → weight ≤ max_weight → weight / 256 ≤ max_whole
-whole_short weight h = omega (arith, h)
-
-pub digits_short : (n : ℕ) → n ≤ 65535 → n < 10 ^ 10
-digits_short n h = omega (arith, h)
-
-pub weight_reads_words : (weight : ℕ) → weight ≤ max_weight → AreWords (weight_words weight)
-weight_reads_words weight h = (decimal_word (weight / 256) (digits_short _ (whole_short weight h)), (decimal_word (weight % 256) (digits_short _ (omega arith)), tt))
-
-pub weight_of-words : (weight : ℕ) → weight ≤ max_weight → weight_of (weight_words weight) ≡ Ok weight
-unfolding weight_of last_number
-weight_of-words weight h =
-    let whole = whole_short weight h in
-    let parts : weight % 256 ≤ max_parts = omega arith in
-    let same : weight / 256 * 256 + weight % 256 ≡ weight = omega arith in
-    rw (integer_of-signed (pos (weight / 256)) (digits_short _ whole), integer_of-signed (pos (weight % 256)) (digits_short _ (omega (arith, parts))), natural_within-within 0 max_whole (weight / 256) (omega arith) whole, natural_within-within 0 max_parts (weight % 256) (omega arith) parts, same)
-    (natural_within-within 0 max_weight weight (omega arith) h)
 
 -- words of two
 kids_word : (kids : Bool) → IsWord (if kids then codes "kids" else codes "self")

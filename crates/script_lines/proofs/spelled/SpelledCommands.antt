@@ -20,31 +20,35 @@ use Rattle.view_model.specs.declared.placing.Direction.{Direction}
 use Rattle.view_model.specs.declared.placing.Direction.TheVariants.{Inherit, Ltr, Rtl}
 use Rattle.script_lines.specs.reading.Changes.{IsActInBounds, act_by, answer_named, answer_of, direction_named, direction_of, flag_named, flag_of, new_id_of, orient_of, scroll_of, vertical_of, visibility_of, visible_of}
 use Rattle.script_lines.specs.reading.Commands.{IsInBounds, add_of, bounds_of, command_by, command_of, digest_of, disallow_of, dpi_of, frame_of, inflate_of, into_of, remove_of, set_of, hook_of}
-use Rattle.script_lines.specs.words.Numbers.{IsWithin}
+use Rattle.line_words.specs.words.Numbers.{IsWithin}
 use Rattle.script_lines.specs.reading.Pixels.{IsPart, is_small, part_of, pixels_of}
 use Rattle.script_lines.specs.reading.Rules.{rule_of}
-use Rattle.script_lines.specs.commands.Spelled.{ActHasLine, HasLine, act_head, act_verb_of, act_words, edits_words, event_answer_text, extent_text, flag_text, hook_edits, name_text, on_text, parent_text, spelled, touch_words, visibility_text, direction_text}
+use Rattle.script_lines.specs.commands.Spelled.{ActHasLine, HasLine, act_head, act_verb_of, act_words, edits_words, event_answer_text, flag_text, hook_edits, spelled, touch_words, visibility_text, direction_text}
+use Rattle.line_words.specs.Spelled.{extent_text, name_text, on_text, parent_text}
 use Rattle.script_lines.specs.reading.States.{restore_of, save_of}
 use Rattle.script_lines.specs.reading.Touches.{cancel_of, up_of}
-use Rattle.script_lines.specs.words.Words.{on_of}
+use Rattle.line_words.specs.words.Words.{on_of}
 use Rattle.script_lines.specs.Numbers.{max_dpi, max_pixels, max_point, max_window, min_dpi}
 use Rattle.script_lines.specs.commands.PlainCommands.{PlainCommand}
 use Rattle.script_lines.specs.commands.PlainCommands as plain
-use Rattle.script_lines.specs.declared.words.naming.Name.TheVariants.{Id}
+use Rattle.line_words.specs.declared.words.naming.Name.TheVariants.{Id}
 use Rattle.script_lines.specs.declared.verbs.Verb.TheVariants as verb
-use Rattle.script_lines.proofs.texts.FileNameLaws.{file_name_word}
+use Rattle.line_words.proofs.texts.FileNameLaws.{file_name_word}
 use Rattle.script_lines.proofs.spelled.SpelledActions.{actions_of-words, intercept_reads_words}
-use Rattle.script_lines.proofs.spelled.SpelledColors.{color_word, last_color-text}
-use Rattle.script_lines.proofs.spelled.SpelledChanges.{AreShort, change_reads, extent_word, extents_of-text, size_short, weight_of-words, weight_reads_words}
+use Rattle.line_words.proofs.spelled.SpelledColors.{color_word, last_color-text}
+use Rattle.script_lines.proofs.spelled.SpelledChanges.{AreShort, change_reads, size_short}
+use Rattle.line_words.proofs.spelled.SpelledDimensions.{extent_word, extents_of-text}
+use Rattle.line_words.proofs.spelled.SpelledWeights.{weight_of-words, weight_reads_words}
 use Rattle.script_lines.proofs.spelled.SpelledHooks.{hook_reads}
 use Rattle.script_lines.proofs.spelled.SpelledResources.{command_of-resource}
 use Rattle.script_lines.proofs.spelled.SpelledRules.{rule_value_in-text, rule_value_word, verb_of-text, verb_word}
 use Rattle.script_lines.proofs.spelled.SpelledTexts.{command_of-text}
 use Rattle.script_lines.proofs.spelled.SpelledTouches.{pointer_of-id, pointer_short, touch_of-words, touch_reads_words}
-use Rattle.script_lines.proofs.spelled.SpelledNames.{id_of-text, name_of-text, name_word, parent_of-text, parent_word}
-use Rattle.script_lines.proofs.spelled.SpelledNumbers.{IsShort, decimal_word, integer_of-signed, natural_within-within, pair_of-signed, short_within, signed_word, within_of-within}
+use Rattle.line_words.proofs.spelled.SpelledNames.{id_of-text, name_of-text, name_word, parent_of-text, parent_word}
+use Rattle.line_words.proofs.spelled.SpelledNumbers.{IsShort, decimal_word, integer_of-signed, natural_within-within, pair_of-signed, short_within, signed_word, within_of-within}
 use Rattle.script_lines.proofs.readings.StateLaws.{state_text_of-text, state_word}
-use Rattle.script_lines.proofs.spelled.SpelledWords.{AreWords, IsWord, command_of-joined, word_by}
+use Rattle.line_words.proofs.spelled.SpelledWords.{AreWords, IsWord, word_by}
+use Rattle.script_lines.proofs.spelled.SpelledLines.{command_of-joined}
 
 -- classes
 class_is_word : (class : Class) → IsWord (class_word class)

@@ -13,7 +13,7 @@ use Rattle.view_model.specs.declared.placing.Across.TheVariants as across
 use Rattle.view_model.specs.declared.placing.Down.TheVariants as down
 use Rattle.script_lines.specs.commands.Spelled.{spelled}
 use Rattle.script_lines.specs.commands.PlainCommands.{Window, Add, Act, Bounds, Dpi, Res, Inflate, Disallow, Hook, Down, Move, Up, Cancel, Save, Restore, Color, Dimen, Text}
-use Rattle.script_lines.specs.declared.words.naming.Name.TheVariants.{Number, Id}
+use Rattle.line_words.specs.declared.words.naming.Name.TheVariants.{Number, Id}
 
 pub a_window : spelled (Window (pos 100) (pos 4096)) ≡ codes "window 100 4096"
 unfolding digits

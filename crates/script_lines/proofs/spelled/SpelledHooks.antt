@@ -15,24 +15,28 @@ use Rattle.view_model.specs.declared.changes.Change.TheVariants as change
 use Rattle.view_model.specs.Numbers.{max_edits}
 use Rattle.view_model.specs.declared.placing.Gravity.{Gravity}
 use Rattle.script_lines.specs.reading.Changes.{IsChangeInBounds}
-use Rattle.script_lines.specs.words.Dimensions.{IsExtent, dimension_of}
+use Rattle.line_words.specs.words.Dimensions.{IsExtent, dimension_of}
 use Rattle.script_lines.specs.reading.Gathered.{joined_after, reading_of}
-use Rattle.script_lines.specs.words.Gravities.{across_of, down_of, gravity_of, with_word, with_words}
+use Rattle.line_words.specs.words.Gravities.{across_of, down_of, gravity_of, with_word, with_words}
 use Rattle.script_lines.specs.reading.Hooks.{asked_of, edit_of, edits_of, joined, parts_edits, readings_of, unmade_of}
 use Rattle.script_lines.specs.reading.Verbs.{act_named, change_named, verb_named}
-use Rattle.script_lines.specs.words.Names.{id_of, name_of}
-use Rattle.script_lines.specs.words.Numbers.{integer_of, natural_of}
-use Rattle.script_lines.specs.commands.Spelled.{AskedHasLine, ChangeHasLine, HasText, HasWord, change_head, change_verb_of, change_words, edit_words, edits_words, extent_text, gravity_text, hook_edits, insets_words, name_text, unmade_edits}
+use Rattle.line_words.specs.words.Names.{id_of, name_of}
+use Rattle.line_words.specs.words.Numbers.{integer_of, natural_of}
+use Rattle.script_lines.specs.commands.Spelled.{AskedHasLine, ChangeHasLine, change_head, change_verb_of, change_words, edit_words, edits_words, hook_edits, insets_words, unmade_edits}
+use Rattle.line_words.specs.Spelled.{HasText, HasWord, extent_text, gravity_text, name_text}
 use Rattle.script_lines.specs.declared.commands.Asked.{Asked}
-use Rattle.script_lines.specs.declared.fault.LineFault.{LineFault}
-use Rattle.script_lines.specs.declared.fault.LineFault.TheVariants.{Syntax}
-use Rattle.script_lines.specs.declared.words.naming.Name.{Name}
+use Rattle.line_words.specs.declared.fault.LineFault.{LineFault}
+use Rattle.line_words.specs.declared.fault.LineFault.TheVariants.{Syntax}
+use Rattle.line_words.specs.declared.words.naming.Name.{Name}
 use Rattle.script_lines.proofs.readings.HookLaws.{edits_asked, edits_end, edits_start, edits_unmade}
 use Rattle.script_lines.proofs.readings.VerbLaws.{change_named-word}
-use Rattle.script_lines.proofs.spelled.SpelledChanges.{AreShort, change_reads, digits_short, dimension_of-text, gravity_back, padding_short, sides_short, size_short, whole_short}
-use Rattle.script_lines.proofs.spelled.SpelledNames.{name_of-text, name_word}
-use Rattle.script_lines.proofs.spelled.SpelledNumbers.{IsShort, integer_of-signed}
-use Rattle.script_lines.proofs.spelled.SpelledWords.{AreWords, word_by}
+use Rattle.script_lines.proofs.spelled.SpelledChanges.{AreShort, change_reads, padding_short, sides_short, size_short}
+use Rattle.line_words.proofs.spelled.SpelledWeights.{digits_short, whole_short}
+use Rattle.line_words.proofs.spelled.SpelledDimensions.{dimension_of-text}
+use Rattle.line_words.proofs.spelled.SpelledGravities.{gravity_back}
+use Rattle.line_words.proofs.spelled.SpelledNames.{name_of-text, name_word}
+use Rattle.line_words.proofs.spelled.SpelledNumbers.{IsShort, integer_of-signed}
+use Rattle.line_words.proofs.spelled.SpelledWords.{AreWords, word_by}
 
 -- an edit, read from its words
 record EditReads (asked : Asked) : Type 0 where

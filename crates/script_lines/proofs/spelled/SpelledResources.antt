@@ -10,23 +10,24 @@ use Rattle.std.proofs.lemmas.Str.{IsUtf8-from_is_utf8, is_utf8-from_IsUtf8}
 use Rattle.view_model.specs.Dimensions.{mantissa}
 use Rattle.script_lines.specs.reading.Commands.{command_by, command_in, command_of}
 use Rattle.script_lines.specs.declared.verbs.Verb.TheVariants as verb
-use Rattle.script_lines.specs.words.Escapes.{escaped_text_of, rest_of}
-use Rattle.script_lines.specs.words.Numbers.{IsWithin}
+use Rattle.line_words.specs.words.Escapes.{escaped_text_of, rest_of}
+use Rattle.line_words.specs.words.Numbers.{IsWithin}
 use Rattle.script_lines.specs.commands.PlainCommands.{PlainGiven, Color, Dimen, Text, Res}
 use Rattle.script_lines.specs.reading.Resources.{IsGivenInBounds, dimen_given, dimen_word, given_by, given_of, res_of, resource_id, unit_number, unit_of}
-use Rattle.script_lines.specs.commands.Spelled.{GivenHasLine, given_words, hex_places, name_text, unit_text}
-use Rattle.script_lines.specs.words.Colors.{last_color}
-use Rattle.script_lines.specs.words.Words.{text_of}
-use Rattle.script_lines.specs.declared.words.naming.Name.TheVariants.{Id}
+use Rattle.script_lines.specs.commands.Spelled.{GivenHasLine, given_words, unit_text}
+use Rattle.line_words.specs.Spelled.{hex_places, name_text}
+use Rattle.line_words.specs.words.Colors.{last_color}
+use Rattle.line_words.specs.words.Words.{text_of}
+use Rattle.line_words.specs.declared.words.naming.Name.TheVariants.{Id}
 use Rattle.script_lines.specs.declared.reading.resources.LengthUnit.{LengthUnit}
 use Rattle.script_lines.specs.declared.reading.resources.LengthUnit.TheVariants.{Px, Dp, Sp, Pt, In, Mm}
 use Rattle.script_lines.specs.Numbers.{max_mantissa, min_mantissa}
 use Rattle.script_lines.proofs.readings.VerbLaws.{verb_named-word}
-use Rattle.script_lines.proofs.spelled.SpelledColors.{color_of-text, color_word}
-use Rattle.script_lines.proofs.spelled.SpelledNames.{id_of-text, name_word}
-use Rattle.script_lines.proofs.spelled.SpelledNumbers.{differs, integer_of-signed, short_within, signed_word, within_of-within}
-use Rattle.script_lines.proofs.spelled.SpelledWords.{AreWords, IsWord, after_word-before, after_word-space, joined_text, utf8_before, word_by, words-before, words-joined}
-use Rattle.script_lines.proofs.texts.WordLaws.{word_space}
+use Rattle.line_words.proofs.spelled.SpelledColors.{color_of-text, color_word}
+use Rattle.line_words.proofs.spelled.SpelledNames.{id_of-text, name_word}
+use Rattle.line_words.proofs.spelled.SpelledNumbers.{differs, integer_of-signed, short_within, signed_word, within_of-within}
+use Rattle.line_words.proofs.spelled.SpelledWords.{AreWords, IsWord, after_word-before, after_word-space, joined_text, utf8_before, word_by, words-before, words-joined}
+use Rattle.line_words.proofs.texts.WordLaws.{word_space}
 
 -- dimensions
 unit_below : (unit : LengthUnit) → unit_number unit < 6

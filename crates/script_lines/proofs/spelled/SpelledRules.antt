@@ -5,15 +5,16 @@ use Rattle.std.specs.Char.{is_ascii_graphic}
 use Rattle.std.specs.List.{list_all}
 use Rattle.std.proofs.lemmas.Bool.{cases_lt}
 use Rattle.std.proofs.lemmas.Bool.Decides.{nat_tests}
-use Rattle.script_lines.specs.words.Names.{id_in}
+use Rattle.line_words.specs.words.Names.{id_in}
 use Rattle.script_lines.specs.reading.Rules.{answer_in, names_sibling, rule_value_in, verb_of}
-use Rattle.script_lines.specs.commands.Spelled.{answer_text, rule_value_text, verb_text, name_text}
-use Rattle.script_lines.specs.words.Words.{on_of}
-use Rattle.script_lines.specs.declared.fault.LineFault.{LineFault}
-use Rattle.script_lines.specs.declared.words.naming.Name.TheVariants.{Id}
-use Rattle.script_lines.proofs.readings.CommandLaws.{and-left, and-right}
-use Rattle.script_lines.proofs.spelled.SpelledNames.{id_of-text, name_word}
-use Rattle.script_lines.proofs.spelled.SpelledWords.{IsWord, word_by}
+use Rattle.script_lines.specs.commands.Spelled.{answer_text, rule_value_text, verb_text}
+use Rattle.line_words.specs.Spelled.{name_text}
+use Rattle.line_words.specs.words.Words.{on_of}
+use Rattle.line_words.specs.declared.fault.LineFault.{LineFault}
+use Rattle.line_words.specs.declared.words.naming.Name.TheVariants.{Id}
+use Rattle.line_words.proofs.texts.BothLaws.{and-left, and-right}
+use Rattle.line_words.proofs.spelled.SpelledNames.{id_of-text, name_word}
+use Rattle.line_words.proofs.spelled.SpelledWords.{IsWord, word_by}
 
 abbrev pub all_below : (ℕ → Bool) → ℕ → Bool
 all_below passes zero = true

@@ -7,15 +7,15 @@ use Rattle.std.proofs.lemmas.Bool.Decides.{nat_tests}
 use Rattle.std.proofs.lemmas.Str.{IsUtf8-from_is_utf8, is_utf8-from_IsUtf8}
 use Rattle.script_lines.specs.reading.Commands.{command_by, command_in, command_of, set_text_of}
 use Rattle.script_lines.specs.declared.verbs.Verb.TheVariants as verb
-use Rattle.script_lines.specs.words.Escapes.{escaped_text_of, has_escapes, rest_of}
+use Rattle.line_words.specs.words.Escapes.{escaped_text_of, has_escapes, rest_of}
 use Rattle.script_lines.specs.commands.PlainCommands.{SetText}
-use Rattle.script_lines.specs.commands.Spelled.{HasText, name_text}
-use Rattle.script_lines.specs.words.Words.{text_of}
-use Rattle.script_lines.specs.declared.words.naming.Name.{Name}
+use Rattle.line_words.specs.Spelled.{HasText, name_text}
+use Rattle.line_words.specs.words.Words.{text_of}
+use Rattle.line_words.specs.declared.words.naming.Name.{Name}
 use Rattle.script_lines.proofs.readings.VerbLaws.{verb_named-word}
-use Rattle.script_lines.proofs.spelled.SpelledNames.{name_of-text, name_word}
-use Rattle.script_lines.proofs.spelled.SpelledWords.{IsWord, after_word-before, after_word-space, utf8_before, word_by, words-before}
-use Rattle.script_lines.proofs.texts.WordLaws.{word_space}
+use Rattle.line_words.proofs.spelled.SpelledNames.{name_of-text, name_word}
+use Rattle.line_words.proofs.spelled.SpelledWords.{IsWord, after_word-before, after_word-space, utf8_before, word_by, words-before}
+use Rattle.line_words.proofs.texts.WordLaws.{word_space}
 
 text_word : IsWord (codes "text")
 text_word = word_by (codes "text") refl

@@ -1,12 +1,12 @@
 -- Touches, read from their texts.
 use Rattle.std.proofs.Common.{◌≡◌, ℕ, ◌<◌, ◌≤◌, ◌^◌, refl, arith}
 use Rattle.std.specs.Prelude.{ℤ, pos, Ok}
-use Rattle.script_lines.specs.words.Numbers.{IsWithin}
+use Rattle.line_words.specs.words.Numbers.{IsWithin}
 use Rattle.script_lines.specs.commands.Spelled.{touch_words}
 use Rattle.script_lines.specs.reading.Touches.{IsTouchInBounds, pointer_of, touch_of}
 use Rattle.script_lines.specs.Numbers.{max_pointer, max_touch, min_touch}
-use Rattle.script_lines.proofs.spelled.SpelledNumbers.{IsShort, decimal_word, integer_of-signed, natural_within-within, short_within, signed_word, within_of-within}
-use Rattle.script_lines.proofs.spelled.SpelledWords.{AreWords}
+use Rattle.line_words.proofs.spelled.SpelledNumbers.{IsShort, decimal_word, integer_of-signed, natural_within-within, short_within, signed_word, within_of-within}
+use Rattle.line_words.proofs.spelled.SpelledWords.{AreWords}
 
 pub pointer_short : (p : ℕ) → p ≤ max_pointer → p < 10 ^ 10
 pointer_short p h = omega (arith, h)

@@ -15,10 +15,10 @@ use Rattle.view_model.proofs.ClassLaws.{class_named-word}
 use Rattle.view_model.specs.Numbers.{max_edits}
 use Rattle.script_lines.specs.reading.Changes.{IsActInBounds, IsChangeInBounds, act_by, change_by, gravity_change_of, new_id_of}
 use Rattle.script_lines.specs.reading.Commands.{IsInBounds, add_of, bounds_of, command_by, command_in, command_of, digest_of, disallow_of, dpi_of, frame_of, inflate_of, into_of, remove_of, set_of, set_text_of, hook_of}
-use Rattle.script_lines.specs.words.Escapes.{escaped_text_of, has_escapes, rest_of}
+use Rattle.line_words.specs.words.Escapes.{escaped_text_of, has_escapes, rest_of}
 use Rattle.script_lines.specs.reading.Hooks.{asked_in, asked_of, edit_of, edits_of, is_range, is_syntax, is_unmade, joined, parts_edits, readings_of, unmade_of}
-use Rattle.script_lines.specs.words.Names.{id_in}
-use Rattle.script_lines.specs.words.Numbers.{IsWithin}
+use Rattle.line_words.specs.words.Names.{id_in}
+use Rattle.line_words.specs.words.Numbers.{IsWithin}
 use Rattle.script_lines.specs.commands.PlainCommands.{PlainCommand, PlainGiven}
 use Rattle.script_lines.specs.commands.PlainCommands as plain
 use Rattle.script_lines.specs.reading.Resources.{IsGivenInBounds, dimen_given, dimen_word, given_by, given_of, res_of, resource_id, unit_number}
@@ -27,27 +27,31 @@ use Rattle.script_lines.specs.commands.Spelled.{act_head, act_verb_of, change_ve
 use Rattle.script_lines.specs.reading.States.{restore_of, save_of}
 use Rattle.script_lines.specs.reading.Touches.{cancel_of, up_of}
 use Rattle.script_lines.specs.reading.Verbs.{change_named, line_word}
-use Rattle.script_lines.specs.words.Words.{after_word, first_word, text_of, words}
-use Rattle.script_lines.specs.commands.Written.{AreActWords, AreChangeWords, AreEditWords, AreEdits, AreUnmadeWords, IsGivenBy, IsHexWord, IsNameWord, IsRuleWord, IsWritten}
+use Rattle.line_words.specs.words.Words.{after_word, first_word, text_of, words}
+use Rattle.script_lines.specs.commands.Written.{AreActWords, AreChangeWords, AreEditWords, AreEdits, AreUnmadeWords, IsGivenBy, IsRuleWord, IsWritten}
+use Rattle.line_words.specs.Written.{IsHexWord, IsNameWord}
 use Rattle.script_lines.specs.declared.commands.Asked.{Asked}
 use Rattle.script_lines.specs.Numbers.{max_dpi, max_mantissa, max_window, min_dpi, min_mantissa}
-use Rattle.script_lines.specs.declared.fault.LineFault.{LineFault}
-use Rattle.script_lines.specs.declared.fault.LineFault.TheVariants.{Syntax, Range}
-use Rattle.script_lines.specs.declared.words.naming.Name.{Name}
-use Rattle.script_lines.specs.declared.words.naming.Name.TheVariants.{Number, Id}
+use Rattle.line_words.specs.declared.fault.LineFault.{LineFault}
+use Rattle.line_words.specs.declared.fault.LineFault.TheVariants.{Syntax, Range}
+use Rattle.line_words.specs.declared.words.naming.Name.{Name}
+use Rattle.line_words.specs.declared.words.naming.Name.TheVariants.{Number, Id}
 use Rattle.script_lines.specs.declared.verbs.Verb.{Verb}
 use Rattle.script_lines.specs.declared.verbs.Verb.TheVariants as verb
 use Rattle.script_lines.specs.declared.reading.resources.LengthUnit.{LengthUnit}
-use Rattle.script_lines.proofs.written.ReadWords.{actions_of-read, answer_in-read, gravity_of-read, id_of-read, last_color-read, name_of-read, parent_of-read, weight_of-read}
-use Rattle.script_lines.proofs.spelled.SpelledChanges.{change_reads, extents_of-text, kids_of-text}
+use Rattle.script_lines.proofs.written.ReadActions.{actions_of-read, answer_in-read}
+use Rattle.line_words.proofs.written.ReadGravities.{gravity_of-read}
+use Rattle.line_words.proofs.written.ReadWords.{id_of-read, last_color-read, name_of-read, parent_of-read, weight_of-read}
+use Rattle.script_lines.proofs.spelled.SpelledChanges.{change_reads, kids_of-text}
+use Rattle.line_words.proofs.spelled.SpelledDimensions.{extents_of-text}
 use Rattle.script_lines.proofs.spelled.SpelledCommands.{act_reads, dpi_short, on_of-text, pixels_of-text, side_of_window}
-use Rattle.script_lines.proofs.spelled.SpelledNumbers.{differs, integer_of-signed, natural_within-within, pair_of-signed, short_within, within_of-within}
+use Rattle.line_words.proofs.spelled.SpelledNumbers.{differs, integer_of-signed, natural_within-within, pair_of-signed, short_within, within_of-within}
 use Rattle.script_lines.proofs.spelled.SpelledResources.{dimen_word-unit, mantissa-dimen, unit_of-number}
 use Rattle.script_lines.proofs.spelled.SpelledRules.{verb_of-text}
 use Rattle.script_lines.proofs.spelled.SpelledTouches.{pointer_of-id, pointer_short, touch_of-words}
 use Rattle.script_lines.proofs.readings.StateLaws.{state_text_of-text}
 use Rattle.script_lines.proofs.readings.VerbLaws.{change_named-word, no_change, verb_named-word}
-use Rattle.script_lines.proofs.texts.WordLaws.{words_some}
+use Rattle.line_words.proofs.texts.WordLaws.{words_some}
 use Rattle.script_lines.proofs.written.WrittenCommands.{line_begins}
 
 -- what a line sets

@@ -11,39 +11,44 @@ use Rattle.view_model.proofs.ClassLaws.{class_named-is}
 use Rattle.view_model.specs.Classes.{class_named, class_word}
 use Rattle.view_model.specs.Numbers.{max_edits}
 use Rattle.script_lines.specs.reading.Changes.{act_by}
-use Rattle.script_lines.specs.words.Colors.{last_color}
+use Rattle.line_words.specs.words.Colors.{last_color}
 use Rattle.script_lines.specs.reading.Commands.{add_of, bounds_of, command_by, command_in, command_of, digest_of, disallow_of, dpi_of, frame_of, inflate_of, into_of, remove_of, set_of, set_text_of, hook_of}
-use Rattle.script_lines.specs.words.Dimensions.{extents_of}
-use Rattle.script_lines.specs.words.Escapes.{escaped_text_of, has_escapes, rest_of}
-use Rattle.script_lines.specs.words.FileNames.{file_name_in}
+use Rattle.line_words.specs.words.Dimensions.{extents_of}
+use Rattle.line_words.specs.words.Escapes.{escaped_text_of, has_escapes, rest_of}
+use Rattle.line_words.specs.words.FileNames.{file_name_in}
 use Rattle.script_lines.specs.reading.Hooks.{edits_of, parts_edits}
-use Rattle.script_lines.specs.words.Names.{id_in, known, name_in, parent_in}
-use Rattle.script_lines.specs.words.Numbers.{IsWithin, integer_in, natural_within, pair_of, within_of}
+use Rattle.line_words.specs.words.Names.{id_in, known, name_in, parent_in}
+use Rattle.line_words.specs.words.Numbers.{IsWithin, integer_in, natural_within, pair_of, within_of}
 use Rattle.script_lines.specs.reading.Pixels.{is_small, part_of, pixels_of}
 use Rattle.script_lines.specs.commands.PlainCommands.{PlainCommand, PlainGiven}
 use Rattle.script_lines.specs.commands.PlainCommands as plain
 use Rattle.script_lines.specs.reading.Resources.{dimen_given, given_by, given_of, res_of, resource_id, unit_number, unit_of}
-use Rattle.script_lines.specs.commands.Spelled.{extent_text, on_text, touch_words, unit_text}
+use Rattle.line_words.specs.Spelled.{extent_text, on_text}
+use Rattle.script_lines.specs.commands.Spelled.{touch_words, unit_text}
 use Rattle.script_lines.specs.reading.States.{is_state_text, restore_of, save_of, state_text_of}
 use Rattle.script_lines.specs.reading.Touches.{cancel_of, pointer_of, touch_of, up_of}
 use Rattle.script_lines.specs.reading.Verbs.{act_word, line_word, verb_named}
-use Rattle.script_lines.specs.words.Words.{◌>>=◌, after_spaces, after_word, end_of, first_word, in_word, literal_in, on_of, text_of, word_in, words}
-use Rattle.script_lines.specs.commands.Written.{AreEdits, IsColorWord, IsGivenBy, IsHexWord, IsNameWord, IsParentWord, IsWritten}
+use Rattle.line_words.specs.words.Words.{◌>>=◌, after_spaces, after_word, end_of, first_word, in_word, literal_in, on_of, text_of, word_in, words}
+use Rattle.script_lines.specs.commands.Written.{AreEdits, IsGivenBy, IsWritten}
+use Rattle.line_words.specs.Written.{IsColorWord, IsHexWord, IsNameWord, IsParentWord}
 use Rattle.script_lines.specs.declared.commands.Asked.{Asked}
 use Rattle.script_lines.specs.Numbers.{max_dpi, max_mantissa, max_point, max_pointer, max_touch, max_window, min_dpi, min_mantissa, min_touch}
-use Rattle.script_lines.specs.declared.fault.LineFault.{LineFault}
-use Rattle.script_lines.specs.declared.words.naming.Name.{Name}
+use Rattle.line_words.specs.declared.fault.LineFault.{LineFault}
+use Rattle.line_words.specs.declared.words.naming.Name.{Name}
 use Rattle.script_lines.specs.declared.reading.touches.Touch.{Touch}
 use Rattle.script_lines.specs.declared.verbs.ActVerb.{ActVerb}
 use Rattle.script_lines.specs.declared.verbs.Verb.{Verb}
 use Rattle.script_lines.specs.declared.verbs.Verb.TheVariants as verb
-use Rattle.script_lines.proofs.readings.OkLaws.{if_either, if_known, if_map_with, if_test, if_then_with, if_word}
+use Rattle.line_words.proofs.texts.OkLaws.{if_either, if_known, if_map_with, if_test, if_then_with, if_word}
 use Rattle.script_lines.proofs.readings.VerbLaws.{verb_named-written}
 use Rattle.script_lines.proofs.spelled.SpelledResources.{dimen_word-unit, mantissa-dimen}
-use Rattle.script_lines.proofs.texts.WordLaws.{one_add, words_none, words_some}
-use Rattle.script_lines.proofs.written.WrittenActs.{AreAct, act_by-written, extents_of-written, natural_within-written, pair_of-written, within_of-written}
+use Rattle.line_words.proofs.texts.WordLaws.{one_add, words_none, words_some}
+use Rattle.script_lines.proofs.written.WrittenActs.{AreAct, act_by-written}
+use Rattle.line_words.proofs.written.WrittenDimensions.{extents_of-written}
+use Rattle.line_words.proofs.written.WrittenBounds.{natural_within-written, pair_of-written, within_of-written}
 use Rattle.script_lines.proofs.written.WrittenHooks.{edits_of-written}
-use Rattle.script_lines.proofs.written.WrittenWords.{FirstWord, end_of-written, file_name_in-written, id_in-written, integer_in-written, last_color-written, literal_in-written, name_in-written, on_of-written, parent_in-written, unit_of-written, word_in-written}
+use Rattle.line_words.proofs.written.WrittenWords.{FirstWord, end_of-written, file_name_in-written, id_in-written, integer_in-written, last_color-written, literal_in-written, name_in-written, on_of-written, parent_in-written, word_in-written}
+use Rattle.script_lines.proofs.written.WrittenTables.{unit_of-written}
 
 -- a line that begins with a word
 pub record LineBegins (line head : List ℕ) : Type 0 where

@@ -7,18 +7,19 @@ use Rattle.view_model.specs.Numbers.{max_edits}
 use Rattle.script_lines.specs.reading.Changes.{change_by}
 use Rattle.script_lines.specs.reading.Hooks.{asked_in, asked_of, edit_by, edit_of, edits_of, is_range, is_syntax, is_unmade, joined, parts_edits, readings_of, unmade_of}
 use Rattle.script_lines.specs.reading.Verbs.{change_named, change_word, line_word, verb_named}
-use Rattle.script_lines.specs.words.Names.{known, name_in}
-use Rattle.script_lines.specs.words.Words.{word_in}
-use Rattle.script_lines.specs.commands.Written.{AreEditWords, AreEdits, AreUnmadeWords, IsNameWord}
+use Rattle.line_words.specs.words.Names.{known, name_in}
+use Rattle.line_words.specs.words.Words.{word_in}
+use Rattle.script_lines.specs.commands.Written.{AreEditWords, AreEdits, AreUnmadeWords}
+use Rattle.line_words.specs.Written.{IsNameWord}
 use Rattle.script_lines.specs.declared.commands.Asked.{Asked}
-use Rattle.script_lines.specs.declared.fault.LineFault.{LineFault}
-use Rattle.script_lines.specs.declared.fault.LineFault.TheVariants.{Syntax, Range}
+use Rattle.line_words.specs.declared.fault.LineFault.{LineFault}
+use Rattle.line_words.specs.declared.fault.LineFault.TheVariants.{Syntax, Range}
 use Rattle.script_lines.specs.declared.verbs.ChangeVerb.{ChangeVerb}
-use Rattle.script_lines.specs.declared.words.naming.Name.{Name}
-use Rattle.script_lines.proofs.readings.OkLaws.{if_map_with, if_ok_more, if_then_with}
+use Rattle.line_words.specs.declared.words.naming.Name.{Name}
+use Rattle.line_words.proofs.texts.OkLaws.{if_map_with, if_ok_more, if_then_with}
 use Rattle.script_lines.proofs.readings.VerbLaws.{change_named-is, other_word, verb_named-written}
 use Rattle.script_lines.proofs.written.WrittenActs.{AreChange, change_by-written}
-use Rattle.script_lines.proofs.written.WrittenWords.{FirstWord, name_in-written, word_in-written}
+use Rattle.line_words.proofs.written.WrittenWords.{FirstWord, name_in-written, word_in-written}
 
 -- an edit, with how many a hook may still have
 abbrev EditIs : ℕ → List (List ℕ) → Option Asked → Type 0

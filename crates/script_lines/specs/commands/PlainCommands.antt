@@ -8,7 +8,7 @@ use Rattle.script_lines.specs.declared.commands.Command.{Command}
 use Rattle.script_lines.specs.declared.commands.Command.TheVariants as command
 use Rattle.script_lines.specs.declared.commands.Given.{Given}
 use Rattle.script_lines.specs.declared.commands.Given.TheVariants as given
-use Rattle.script_lines.specs.declared.words.naming.Name.{Name}
+use Rattle.line_words.specs.declared.words.naming.Name.{Name}
 use Rattle.script_lines.specs.reading.Hooks.{edits_written}
 
 -- what a line gives a resource: a colour, the word of a dimension, or a text with its escapes as written

@@ -1,15 +1,12 @@
 -- The text of a command: one way to write it, of those that the grammar reads.
-use Rattle.std.specs.Prelude.{◌≡◌, ℕ, zero, suc, ◌<◌, ◌^◌, ◌/◌, ◌%◌, ◌==◌, not, ◌&&◌, ◌||◌, Bool, true, false, IsTrue}
-use Rattle.std.specs.Prelude.{if◌then◌else◌, ℤ, pos, negsuc, ◌⊎◌, List, [], ◌∷◌, ◌++◌, codes, Option, Some, None}
-use Rattle.std.specs.Prelude.{IfSome, slice_index_or, length, map, nat_lt}
-use Rattle.std.specs.Fmt.{decimal, signed_decimal, digits, digit_glyph}
+use Rattle.std.specs.Prelude.{ℕ, zero, suc, ◌<◌, ◌^◌, ◌/◌, ◌%◌, ◌==◌, ◌||◌, Bool, IsTrue, if◌then◌else◌, ℤ, List, []}
+use Rattle.std.specs.Prelude.{◌∷◌, ◌++◌, codes, Some, None, IfSome, slice_index_or, length, map, nat_lt}
+use Rattle.std.specs.Fmt.{decimal, signed_decimal}
 use Rattle.std.specs.List.{All, join_with_byte}
 use Rattle.std.specs.Str.{is_utf8}
-use Rattle.geom_core.specs.declared.color.Argb.{Argb}
 use Rattle.geom_core.specs.declared.geometry.Insets.{Insets}
 use Rattle.view_model.specs.Classes.{class_word}
 use Rattle.view_model.specs.Dimensions.{mantissa}
-use Rattle.view_model.specs.Facts.{no_gravity}
 use Rattle.view_model.specs.declared.changes.Act.{Act}
 use Rattle.view_model.specs.declared.changes.Act.TheVariants as act
 use Rattle.view_model.specs.declared.changes.Change.{Change}
@@ -20,14 +17,8 @@ use Rattle.view_model.specs.declared.answer.Answer.{Answer}
 use Rattle.view_model.specs.declared.answer.Answer.TheVariants as answer
 use Rattle.view_model.specs.declared.visibility.Visibility.{Visibility}
 use Rattle.view_model.specs.declared.visibility.Visibility.TheVariants as visibility
-use Rattle.view_model.specs.declared.placing.Across.{Across}
-use Rattle.view_model.specs.declared.placing.Across.TheVariants as across
 use Rattle.view_model.specs.declared.placing.Direction.{Direction}
 use Rattle.view_model.specs.declared.placing.Direction.TheVariants.{Inherit, Ltr, Rtl}
-use Rattle.view_model.specs.declared.placing.Down.{Down}
-use Rattle.view_model.specs.declared.placing.Down.TheVariants as down
-use Rattle.view_model.specs.declared.placing.Gravity.{Gravity}
-use Rattle.script_lines.specs.words.Gravities.{is_set_across, is_set_down}
 use Rattle.script_lines.specs.commands.PlainCommands.{PlainCommand, PlainGiven}
 use Rattle.script_lines.specs.commands.PlainCommands as plain
 use Rattle.script_lines.specs.reading.Rules.{names_sibling, verbs}
@@ -38,67 +29,18 @@ use Rattle.script_lines.specs.declared.verbs.ActVerb.TheVariants as act_verb
 use Rattle.script_lines.specs.declared.verbs.ChangeVerb.{ChangeVerb}
 use Rattle.script_lines.specs.declared.verbs.ChangeVerb.TheVariants as change_verb
 use Rattle.script_lines.specs.declared.verbs.Verb.TheVariants as verb
-use Rattle.script_lines.specs.declared.words.naming.Name.{Name}
-use Rattle.script_lines.specs.declared.words.naming.Name.TheVariants.{Number, Id}
-
--- `vN`, or `@HEX` in lower case without leading zeros
-abbrev pub name_text : Name → List ℕ
-name_text (Number n) = codes "v" ++ decimal n
-name_text (Id id) = codes "@" ++ digits 16 false id
-
-abbrev pub parent_text : Option Name → List ℕ
-parent_text None = codes "root"
-parent_text (Some view) = name_text view
-
--- a dimension as facts keep it
-abbrev pub extent_text : ℤ → List ℕ
-extent_text (pos n) = decimal n
-extent_text (negsuc zero) = codes "match"
-extent_text (negsuc (suc n)) = codes "wrap"
+use Rattle.line_words.specs.declared.words.naming.Name.TheVariants.{Id}
+use Rattle.line_words.specs.Spelled.{name_text, parent_text, extent_text, gravity_text, weight_words, color_text}
+use Rattle.line_words.specs.Spelled.{on_text, HasText, HasWord}
 
 abbrev pub insets_words : Insets → List (List ℕ)
 insets_words sides =
     signed_decimal sides.left ∷ signed_decimal sides.top ∷ signed_decimal sides.right ∷ signed_decimal sides.bottom ∷ []
 
-abbrev pub across_text : Across → List ℕ
-across_text across.Unset = []
-across_text across.Left = codes "left"
-across_text across.Right = codes "right"
-across_text across.Center = codes "center_horizontal"
-across_text across.Start = codes "start"
-across_text across.End = codes "end"
-
-abbrev pub down_text : Down → List ℕ
-down_text down.Unset = []
-down_text down.Top = codes "top"
-down_text down.Bottom = codes "bottom"
-down_text down.Center = codes "center_vertical"
-
--- a bar separates the words of two axes
-abbrev pub gravity_text : Gravity → List ℕ
-gravity_text gravity =
-    if not gravity.given then codes "none" else (
-    across_text gravity.across
-    ++ (if is_set_across gravity.across && is_set_down gravity.down then codes "|" else [])
-    ++ down_text gravity.down)
-
 abbrev pub visibility_text : Visibility → List ℕ
 visibility_text visibility.Visible = codes "visible"
 visibility_text visibility.Invisible = codes "invisible"
 visibility_text visibility.Gone = codes "gone"
-
--- whole ones, and 256ths
-abbrev pub weight_words : ℕ → List (List ℕ)
-weight_words weight = decimal (weight / 256) ∷ decimal (weight % 256) ∷ []
-
--- the n lowest hexadecimal digits of a number
-abbrev pub hex_places : ℕ → ℕ → List ℕ
-hex_places zero n = []
-hex_places (suc places) n = hex_places places (n / 16) ++ digit_glyph false (n % 16) ∷ []
-
--- `#` and eight hexadecimal digits, alpha first
-abbrev pub color_text : Argb → List ℕ
-color_text color = codes "#" ++ hex_places 8 color.0
 
 -- what the first word of the line asks for that makes a change
 abbrev pub change_verb_of : Change → ChangeVerb
@@ -128,9 +70,6 @@ abbrev pub flag_text : Flag → List ℕ
 flag_text flag.Clip = codes "clip"
 flag_text flag.Fill = codes "fill"
 flag_text flag.Split = codes "split"
-
-abbrev pub on_text : Bool → List ℕ
-on_text on = if on then codes "yes" else codes "no"
 
 -- how a view answers events
 abbrev pub event_answer_text : Answer → List ℕ
@@ -268,17 +207,6 @@ command_words (plain.Restore (Some text)) = line_word verb.Restore ∷ text ∷ 
 -- the text of a command, with single spaces between its words
 abbrev pub spelled : PlainCommand → List ℕ
 spelled command = join_with_byte 32 (command_words command)
-
--- a view that a line can name
-abbrev pub HasText : Name → Type 0
-HasText (Number n) = n < 10 ^ 10
-HasText (Id id) = id < 2 ^ 32
-
--- a gravity that a word can give: none, or one that is set on an axis
-abbrev pub HasWord : Gravity → Type 0
-HasWord gravity =
-    (gravity ≡ no_gravity) ⊎
-    ((gravity.given ≡ true) × IsTrue (is_set_across gravity.across || is_set_down gravity.down))
 
 -- a change that a line can make
 abbrev pub ChangeHasLine : Change → Type 0

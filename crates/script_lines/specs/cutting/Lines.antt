@@ -2,6 +2,7 @@
 use Rattle.std.specs.Prelude.{◌≡◌, ℕ, ◌-◌, ◌==◌, nat_lt, Bool, true, false, not, ◌&&◌, ◌||◌, List, [], ◌∷◌, ◌++◌}
 use Rattle.std.specs.Prelude.{if◌then◌else◌, length, take, fold, slice_index}
 use Rattle.std.specs.List.{list_all, position_or_len}
+use Rattle.line_words.specs.words.Words.{is_space}
 
 -- a line as it was read
 pub data Line : Type 0 where
@@ -50,9 +51,6 @@ last_of (b ∷ bytes) = last_line (b ∷ bytes) ∷ []
 -- the lines of a script
 unfoldable pub lines_of : List ℕ → List Line
 lines_of script = (cut_of script).lines ++ last_of (cut_of script).rest
-
-abbrev pub is_space : ℕ → Bool
-is_space b = b == 32
 
 -- a line of spaces only, or none, and a line that begins with `#`
 abbrev pub is_passed_over : List ℕ → Bool

@@ -1,11 +1,7 @@
 -- A script that comes in pieces, however they are cut.
-use Rattle.std.specs.Prelude.{◌≡◌, ◌≤◌, ℕ, List, [], ◌∷◌, ◌++◌, length}
+use Rattle.std.specs.Prelude.{◌≡◌, ℕ, List, [], ◌∷◌, ◌++◌}
 use Rattle.script_lines.specs.cutting.Lines.{Line, cut_of}
 use Rattle.script_lines.specs.cutting.LineBuffer.{LineBuffer, IsAfter}
-
--- a place in these bytes, or right after them
-abbrev pub IsCut : List ℕ → ℕ → Type 0
-IsCut bytes place = place ≤ length bytes
 
 -- bytes that were taken, the lines that were returned, and what is held from then on
 pub record Feed : Type 0 where

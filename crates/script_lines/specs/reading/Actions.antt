@@ -1,9 +1,9 @@
 -- The actions that a group takes away from its children, as bits of a number.
 use Rattle.std.specs.Prelude.{ℕ, if◌then◌else◌, bit_or, List, [], ◌∷◌, codes, Result, Ok, Err}
 use Rattle.std.specs.Str.{bytes_eq}
-use Rattle.script_lines.specs.words.Words.{◌>>=◌, end_of, word_in}
-use Rattle.script_lines.specs.declared.fault.LineFault.{LineFault}
-use Rattle.script_lines.specs.declared.fault.LineFault.TheVariants.{Syntax}
+use Rattle.line_words.specs.words.Words.{◌>>=◌, end_of, word_in}
+use Rattle.line_words.specs.declared.fault.LineFault.{LineFault}
+use Rattle.line_words.specs.declared.fault.LineFault.TheVariants.{Syntax}
 
 -- the bit of an action
 unfoldable pub action_of : List ℕ → Result ℕ LineFault

@@ -16,19 +16,19 @@ use Rattle.view_model.specs.declared.visibility.Visibility.TheVariants as visibi
 use Rattle.view_model.specs.Verbs.{verb_count}
 use Rattle.script_lines.specs.Numbers.{actions_end}
 use Rattle.script_lines.specs.reading.Actions.{actions_of}
-use Rattle.script_lines.specs.words.Colors.{last_color}
-use Rattle.script_lines.specs.words.Dimensions.{IsExtent, extents_of}
-use Rattle.script_lines.specs.words.Gravities.{gravity_of}
+use Rattle.line_words.specs.words.Colors.{last_color}
+use Rattle.line_words.specs.words.Dimensions.{IsExtent, extents_of}
+use Rattle.line_words.specs.words.Gravities.{gravity_of}
 use Rattle.view_model.specs.declared.placing.Direction.{Direction}
 use Rattle.view_model.specs.declared.placing.Direction.TheVariants.{Inherit, Ltr, Rtl}
-use Rattle.script_lines.specs.words.Names.{id_in}
-use Rattle.script_lines.specs.words.Numbers.{IsWithin, integer_in, pair_of, within_of}
+use Rattle.line_words.specs.words.Names.{id_in}
+use Rattle.line_words.specs.words.Numbers.{IsWithin, integer_in, pair_of, within_of}
 use Rattle.script_lines.specs.reading.Rules.{rule_of}
-use Rattle.script_lines.specs.words.Weights.{weight_of}
-use Rattle.script_lines.specs.words.Words.{◌>>=◌, map_ok, on_of, word_in, end_of}
+use Rattle.line_words.specs.words.Weights.{weight_of}
+use Rattle.line_words.specs.words.Words.{◌>>=◌, map_ok, on_of, word_in, end_of}
 use Rattle.script_lines.specs.declared.reading.changes.Sides.{Sides}
-use Rattle.script_lines.specs.declared.fault.LineFault.{LineFault}
-use Rattle.script_lines.specs.declared.fault.LineFault.TheVariants.{Syntax}
+use Rattle.line_words.specs.declared.fault.LineFault.{LineFault}
+use Rattle.line_words.specs.declared.fault.LineFault.TheVariants.{Syntax}
 use Rattle.script_lines.specs.declared.verbs.ActVerb.{ActVerb}
 use Rattle.script_lines.specs.declared.verbs.ActVerb.TheVariants as act_verb
 use Rattle.script_lines.specs.declared.verbs.ChangeVerb.{ChangeVerb}

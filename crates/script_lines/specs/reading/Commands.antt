@@ -6,13 +6,13 @@ use Rattle.std.specs.Str.{is_utf8}
 use Rattle.view_model.specs.Classes.{class_named}
 use Rattle.view_model.specs.Numbers.{max_edits}
 use Rattle.script_lines.specs.reading.Changes.{IsActInBounds, IsChangeInBounds, act_by}
-use Rattle.script_lines.specs.words.Dimensions.{IsExtent, extents_of}
-use Rattle.script_lines.specs.words.Escapes.{has_escapes, rest_of}
-use Rattle.script_lines.specs.words.FileNames.{file_name_in, is_file_name}
+use Rattle.line_words.specs.words.Dimensions.{IsExtent, extents_of}
+use Rattle.line_words.specs.words.Escapes.{has_escapes, rest_of}
+use Rattle.line_words.specs.words.FileNames.{file_name_in, is_file_name}
 use Rattle.script_lines.specs.reading.Hooks.{edits_of}
-use Rattle.script_lines.specs.words.Names.{known, name_in, parent_in}
-use Rattle.script_lines.specs.declared.words.naming.Name.{Name}
-use Rattle.script_lines.specs.words.Numbers.{IsWithin, integer_in, natural_within, pair_of}
+use Rattle.line_words.specs.words.Names.{known, name_in, parent_in}
+use Rattle.line_words.specs.declared.words.naming.Name.{Name}
+use Rattle.line_words.specs.words.Numbers.{IsWithin, integer_in, natural_within, pair_of}
 use Rattle.script_lines.specs.reading.Pixels.{IsPart, pixels_of}
 use Rattle.script_lines.specs.commands.PlainCommands.{PlainCommand, Window, Dpi, Res, Inflate, Add, Remove, Act}
 use Rattle.script_lines.specs.commands.PlainCommands.{SetText, Disallow, Hook, Down, Move, Up, Cancel, Frame, Bounds}
@@ -21,11 +21,11 @@ use Rattle.script_lines.specs.reading.Resources.{IsGivenInBounds, res_of}
 use Rattle.script_lines.specs.reading.States.{is_state_text, restore_of, save_of}
 use Rattle.script_lines.specs.reading.Touches.{IsTouchInBounds, cancel_of, down_of, move_of, up_of}
 use Rattle.script_lines.specs.reading.Verbs.{verb_named}
-use Rattle.script_lines.specs.words.Words.{after_word, ◌>>=◌, map_ok, literal_in, on_of, word_in, end_of, words}
+use Rattle.line_words.specs.words.Words.{after_word, ◌>>=◌, map_ok, literal_in, on_of, word_in, end_of, words}
 use Rattle.script_lines.specs.Numbers.{max_dpi, max_pointer, max_window, min_dpi}
 use Rattle.script_lines.specs.declared.commands.Command.{Command}
-use Rattle.script_lines.specs.declared.fault.LineFault.{LineFault}
-use Rattle.script_lines.specs.declared.fault.LineFault.TheVariants.{Syntax}
+use Rattle.line_words.specs.declared.fault.LineFault.{LineFault}
+use Rattle.line_words.specs.declared.fault.LineFault.TheVariants.{Syntax}
 use Rattle.script_lines.specs.declared.verbs.ActVerb.{ActVerb}
 use Rattle.script_lines.specs.declared.verbs.Verb.{Verb}
 use Rattle.script_lines.specs.declared.verbs.Verb.TheVariants as verb

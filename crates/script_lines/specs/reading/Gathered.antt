@@ -2,10 +2,10 @@
 use Rattle.std.specs.Prelude.{ℕ, nat_lt, Bool, ◌||◌, if◌then◌else◌, List, [], ◌++◌, Option, Result, Ok, Err}
 use Rattle.std.specs.List.{filter_map, list_any}
 use Rattle.script_lines.specs.reading.Hooks.{asked_in, edit_of, is_range, is_syntax, is_unmade, readings_of, unmade_of}
-use Rattle.script_lines.specs.words.Words.{◌>>=◌}
+use Rattle.line_words.specs.words.Words.{◌>>=◌}
 use Rattle.script_lines.specs.declared.commands.Asked.{Asked}
-use Rattle.script_lines.specs.declared.fault.LineFault.{LineFault}
-use Rattle.script_lines.specs.declared.fault.LineFault.TheVariants.{Syntax, Range}
+use Rattle.line_words.specs.declared.fault.LineFault.{LineFault}
+use Rattle.line_words.specs.declared.fault.LineFault.TheVariants.{Syntax, Range}
 use Rattle.script_lines.specs.declared.reading.hooks.Gathered.{Gathered}
 
 -- the next edit, if n more are read to their ends

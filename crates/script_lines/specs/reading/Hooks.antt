@@ -6,11 +6,11 @@ use Rattle.std.specs.Str.{bytes_eq}
 use Rattle.view_model.specs.Numbers.{max_edits}
 use Rattle.script_lines.specs.reading.Changes.{change_by}
 use Rattle.script_lines.specs.reading.Verbs.{change_named, verb_named}
-use Rattle.script_lines.specs.words.Names.{known, name_in}
-use Rattle.script_lines.specs.words.Words.{◌>>=◌, map_ok, word_in, words}
+use Rattle.line_words.specs.words.Names.{known, name_in}
+use Rattle.line_words.specs.words.Words.{◌>>=◌, map_ok, word_in, words}
 use Rattle.script_lines.specs.declared.commands.Asked.{Asked}
-use Rattle.script_lines.specs.declared.fault.LineFault.{LineFault}
-use Rattle.script_lines.specs.declared.fault.LineFault.TheVariants.{Syntax, Range}
+use Rattle.line_words.specs.declared.fault.LineFault.{LineFault}
+use Rattle.line_words.specs.declared.fault.LineFault.TheVariants.{Syntax, Range}
 use Rattle.script_lines.specs.declared.verbs.ChangeVerb.{ChangeVerb}
 
 -- `;`, which separates two edits

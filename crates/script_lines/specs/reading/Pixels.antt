@@ -1,11 +1,11 @@
 -- The part of the picture that a line asks for.
 use Rattle.std.specs.Prelude.{if◌then◌else◌, ℕ, ℤ, ◌*ℤ◌, ◌≤ℤ◌, Bool, int_le, pos, List, Result, Ok, Err}
-use Rattle.script_lines.specs.words.Numbers.{IsWithin, integer_in, within_of}
+use Rattle.line_words.specs.words.Numbers.{IsWithin, integer_in, within_of}
 use Rattle.script_lines.specs.commands.PlainCommands.{PlainCommand, Pixels}
-use Rattle.script_lines.specs.words.Words.{◌>>=◌, end_of}
+use Rattle.line_words.specs.words.Words.{◌>>=◌, end_of}
 use Rattle.script_lines.specs.Numbers.{max_pixels, max_point, max_window}
-use Rattle.script_lines.specs.declared.fault.LineFault.{LineFault}
-use Rattle.script_lines.specs.declared.fault.LineFault.TheVariants.{Range}
+use Rattle.line_words.specs.declared.fault.LineFault.{LineFault}
+use Rattle.line_words.specs.declared.fault.LineFault.TheVariants.{Range}
 
 -- whether a part of this width and height is not too large
 unfoldable pub is_small : ℤ → ℤ → Bool

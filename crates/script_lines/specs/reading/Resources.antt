@@ -2,17 +2,17 @@
 use Rattle.std.specs.Prelude.{◌≡◌, ℕ, ◌+◌, ◌*◌, ◌-◌, ◌^◌, ◌==◌, IsTrue, if◌then◌else◌, ℤ, pos, negsuc, List, codes}
 use Rattle.std.specs.Prelude.{Result, Ok, Err}
 use Rattle.std.specs.Str.{bytes_eq}
-use Rattle.script_lines.specs.words.Colors.{last_color}
-use Rattle.script_lines.specs.words.Escapes.{has_escapes, rest_of}
-use Rattle.script_lines.specs.words.Names.{id_in}
-use Rattle.script_lines.specs.words.Numbers.{IsWithin, integer_in, within_of}
+use Rattle.line_words.specs.words.Colors.{last_color}
+use Rattle.line_words.specs.words.Escapes.{has_escapes, rest_of}
+use Rattle.line_words.specs.words.Names.{id_in}
+use Rattle.line_words.specs.words.Numbers.{IsWithin, integer_in, within_of}
 use Rattle.script_lines.specs.commands.PlainCommands.{PlainCommand, PlainGiven, Res, Color, Dimen, Text}
-use Rattle.script_lines.specs.words.Words.{◌>>=◌, after_word, map_ok, word_in, end_of, words}
+use Rattle.line_words.specs.words.Words.{◌>>=◌, after_word, map_ok, word_in, end_of, words}
 use Rattle.script_lines.specs.Numbers.{max_mantissa, min_mantissa}
 use Rattle.script_lines.specs.declared.reading.resources.LengthUnit.{LengthUnit}
 use Rattle.script_lines.specs.declared.reading.resources.LengthUnit.TheVariants.{Px, Dp, Sp, Pt, In, Mm}
-use Rattle.script_lines.specs.declared.fault.LineFault.{LineFault}
-use Rattle.script_lines.specs.declared.fault.LineFault.TheVariants.{Syntax, Range}
+use Rattle.line_words.specs.declared.fault.LineFault.{LineFault}
+use Rattle.line_words.specs.declared.fault.LineFault.TheVariants.{Syntax, Range}
 
 -- `C`
 abbrev pub color_given : List (List ℕ) → Result PlainGiven LineFault

@@ -4,9 +4,9 @@ use Rattle.std.specs.Str.{bytes_eq}
 use Rattle.view_model.specs.declared.changes.Act.{Act}
 use Rattle.view_model.specs.declared.changes.Act.TheVariants as act
 use Rattle.view_model.specs.Verbs.{sibling_verbs}
-use Rattle.script_lines.specs.words.Names.{id_in, known}
-use Rattle.script_lines.specs.words.Words.{◌>>=◌, end_of, on_of, word_in}
-use Rattle.script_lines.specs.declared.fault.LineFault.{LineFault}
+use Rattle.line_words.specs.words.Names.{id_in, known}
+use Rattle.line_words.specs.words.Words.{◌>>=◌, end_of, on_of, word_in}
+use Rattle.line_words.specs.declared.fault.LineFault.{LineFault}
 
 -- the words of the verbs, by their places: those that name a sibling, and those of the parent
 abbrev pub verbs : List (List ℕ)

@@ -4,9 +4,9 @@ use Rattle.std.specs.Prelude.{Result, Ok, Err}
 use Rattle.std.specs.Char.{is_ascii_hexdigit}
 use Rattle.std.specs.List.{list_all}
 use Rattle.script_lines.specs.commands.PlainCommands.{PlainCommand, Save, Restore}
-use Rattle.script_lines.specs.words.Words.{◌>>=◌, end_of}
-use Rattle.script_lines.specs.declared.fault.LineFault.{LineFault}
-use Rattle.script_lines.specs.declared.fault.LineFault.TheVariants.{Syntax}
+use Rattle.line_words.specs.words.Words.{◌>>=◌, end_of}
+use Rattle.line_words.specs.declared.fault.LineFault.{LineFault}
+use Rattle.line_words.specs.declared.fault.LineFault.TheVariants.{Syntax}
 
 -- bytes in hexadecimal digits, two for each: at least one byte
 unfoldable pub is_state_text : List ℕ → Bool

@@ -1,10 +1,10 @@
 -- What a pointer does, and where. All words are read before a number's bounds are looked at.
 use Rattle.std.specs.Prelude.{ℕ, ℤ, ◌≤◌, List, Result, Ok}
-use Rattle.script_lines.specs.words.Numbers.{IsWithin, integer_in, natural_within, within_of}
+use Rattle.line_words.specs.words.Numbers.{IsWithin, integer_in, natural_within, within_of}
 use Rattle.script_lines.specs.commands.PlainCommands.{PlainCommand, Down, Move, Up, Cancel}
-use Rattle.script_lines.specs.words.Words.{◌>>=◌, end_of, map_ok}
+use Rattle.line_words.specs.words.Words.{◌>>=◌, end_of, map_ok}
 use Rattle.script_lines.specs.Numbers.{max_pointer, max_touch, min_touch}
-use Rattle.script_lines.specs.declared.fault.LineFault.{LineFault}
+use Rattle.line_words.specs.declared.fault.LineFault.{LineFault}
 use Rattle.script_lines.specs.declared.reading.touches.Touch.{Touch}
 
 -- the pointer of an id

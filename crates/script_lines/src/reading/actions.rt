@@ -2,10 +2,10 @@
 
 ghost use Rattle.std.specs.Prelude.{◌≡◌, ◌≤◌, ◌<◌, length, drop, IfOk};
 ghost use Rattle.script_lines.specs.reading.Actions.{action_in, action_of, actions_of, with_actions};
-ghost use Rattle.script_lines.specs.words.Words.{map_ok, words};
+ghost use Rattle.line_words.specs.words.Words.{map_ok, words};
 
-use crate::fault::LineFault;
-use crate::words::{end, is, word};
+use line_words::LineFault;
+use line_words::words::{end, is, word};
 
 /// The bit of the action that a word names.
 #[tactic(auto, unfolding(crate::specs::reading::Actions::action_of))]
@@ -35,7 +35,7 @@ fn read_action(word: &[u8]) -> Result<u8, LineFault>
 }
 
 /// The bit of the action that the first word from here on names, and the place after that word.
-#[tactic(auto, using(crate::proofs::readings::ActionLaws::shorter))]
+#[tactic(auto, using(line_words::proofs::texts::AfterLaws::shorter))]
 fn next_action(bytes: &[u8], at: usize) -> Result<(u8, usize), LineFault>
     requires { at ≤ length bytes.now }
     ensures value { map_ok (λ r. (r.0, words (drop r.1 bytes.now))) result ≡ action_in (words (drop at bytes.now)) }

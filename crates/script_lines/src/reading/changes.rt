@@ -2,21 +2,21 @@
 
 ghost use Rattle.std.specs.Prelude.{◌≡◌, negsuc, ◌≤ℤ◌, IfOk};
 ghost use Rattle.script_lines.specs.reading.Changes.{IsActInBounds, IsChangeInBounds, act_by, answer_named, answer_of, background_of, change_by, direction_named, direction_of, flag_named, flag_of, gravity_change_of, ink_of, insets_of, intercept_of, kids_of, margins_of, min_of, new_id_of, orient_of, padding_of, scroll_of, sides_of, size_of, vertical_of, visibility_of, visible_of, weight_change_of, weight_sum_of};
-ghost use Rattle.script_lines.specs.words.Numbers.{IsWithin};
-ghost use Rattle.script_lines.specs.words.Words.{words};
+ghost use Rattle.line_words.specs.words.Numbers.{IsWithin};
+ghost use Rattle.line_words.specs.words.Words.{words};
 
-use crate::fault::LineFault;
 use crate::reading::actions::read_actions;
 use crate::reading::rules::rule;
 use crate::verbs::{ActVerb, ChangeVerb};
-use crate::words::colors::last_color;
-use crate::words::dimension::extents;
-use crate::words::gravity::read_gravity;
-use crate::words::naming::id_word;
-use crate::words::number::{number, pair, within};
-use crate::words::weights::read_weight;
-use crate::words::{end, is, read_on, word};
 use geom_core::{Insets, Size};
+use line_words::LineFault;
+use line_words::words::colors::last_color;
+use line_words::words::dimension::extents;
+use line_words::words::gravity::read_gravity;
+use line_words::words::naming::id_word;
+use line_words::words::number::{number, pair, within};
+use line_words::words::weights::read_weight;
+use line_words::words::{end, is, read_on, word};
 use view_model::limits::{MAX_INSET, MAX_SIZE, MIN_MARGIN};
 use view_model::{Act, Answer, Change, Direction, Flag, Visibility};
 
@@ -69,6 +69,7 @@ fn insets(low: i64, sides: Sides) -> Result<Insets, LineFault>
     })
 }
 
+/// The dimensions that a view gets.
 fn size(bytes: &[u8]) -> Result<Change, LineFault>
     ensures value { result ≡ size_of (words bytes.now) }
     ensures bounds { IfOk result IsChangeInBounds }
@@ -77,6 +78,7 @@ fn size(bytes: &[u8]) -> Result<Change, LineFault>
     Ok(Change::Size { width, height })
 }
 
+/// The least size that a view gets.
 fn min(bytes: &[u8]) -> Result<Change, LineFault>
     ensures value { result ≡ min_of (words bytes.now) }
     ensures bounds { IfOk result IsChangeInBounds }
@@ -85,6 +87,7 @@ fn min(bytes: &[u8]) -> Result<Change, LineFault>
     Ok(Change::Min(Size { w, h }))
 }
 
+/// The margins that a view gets.
 fn margins(bytes: &[u8]) -> Result<Change, LineFault>
     ensures value { result ≡ margins_of (words bytes.now) }
     ensures bounds { IfOk result IsChangeInBounds }
@@ -93,6 +96,7 @@ fn margins(bytes: &[u8]) -> Result<Change, LineFault>
     Ok(Change::Margins(insets))
 }
 
+/// The padding that a view gets.
 fn padding(bytes: &[u8]) -> Result<Change, LineFault>
     ensures value { result ≡ padding_of (words bytes.now) }
     ensures bounds { IfOk result IsChangeInBounds }
@@ -101,6 +105,7 @@ fn padding(bytes: &[u8]) -> Result<Change, LineFault>
     Ok(Change::Padding(insets))
 }
 
+/// The weight that a view gets.
 fn weight(bytes: &[u8]) -> Result<Change, LineFault>
     ensures value { result ≡ weight_change_of (words bytes.now) }
     ensures bounds { IfOk result IsChangeInBounds }
@@ -123,6 +128,7 @@ fn read_kids(word: &[u8]) -> Result<bool, LineFault>
     Err(LineFault::Syntax)
 }
 
+/// The gravity that a view gets, of itself or of its children.
 #[tactic(auto, unfolding(crate::specs::reading::Changes::gravity_change_of))]
 fn gravity(bytes: &[u8]) -> Result<Change, LineFault>
     ensures value { result ≡ gravity_change_of (words bytes.now) }
@@ -136,6 +142,7 @@ fn gravity(bytes: &[u8]) -> Result<Change, LineFault>
     Ok(Change::Gravity { kids, gravity })
 }
 
+/// The colour of the background that a view gets.
 fn background(bytes: &[u8]) -> Result<Change, LineFault>
     ensures value { result ≡ background_of (words bytes.now) }
     ensures bounds { IfOk result IsChangeInBounds }
@@ -160,6 +167,7 @@ pub fn read_change(verb: ChangeVerb, bytes: &[u8]) -> Result<Change, LineFault>
     }
 }
 
+/// The visibility that a word gives.
 #[tactic(auto, unfolding(crate::specs::reading::Changes::visibility_of))]
 fn read_visibility(word: &[u8]) -> Result<Visibility, LineFault>
     ensures { result ≡ visibility_of word.now }
@@ -176,6 +184,7 @@ fn read_visibility(word: &[u8]) -> Result<Visibility, LineFault>
     Err(LineFault::Syntax)
 }
 
+/// The visibility that a view gets.
 #[tactic(auto, unfolding(crate::specs::reading::Changes::visible_of))]
 fn visible(bytes: &[u8]) -> Result<Act, LineFault>
     ensures value { result ≡ visible_of (words bytes.now) }
@@ -187,6 +196,7 @@ fn visible(bytes: &[u8]) -> Result<Act, LineFault>
     Ok(Act::Visible(visibility))
 }
 
+/// The id that a view gets.
 #[tactic(auto, unfolding(crate::specs::reading::Changes::new_id_of))]
 fn new_id(bytes: &[u8]) -> Result<Act, LineFault>
     ensures value { result ≡ new_id_of (words bytes.now) }
@@ -197,6 +207,7 @@ fn new_id(bytes: &[u8]) -> Result<Act, LineFault>
     Ok(Act::Id(id))
 }
 
+/// The sum of weights that a view gets.
 fn weight_sum(bytes: &[u8]) -> Result<Act, LineFault>
     ensures value { result ≡ weight_sum_of (words bytes.now) }
     ensures bounds { IfOk result IsActInBounds }
@@ -205,6 +216,7 @@ fn weight_sum(bytes: &[u8]) -> Result<Act, LineFault>
     Ok(Act::WeightSum(sum))
 }
 
+/// Whether a word says that children are one below the other and not side by side.
 #[tactic(auto, unfolding(crate::specs::reading::Changes::vertical_of))]
 fn read_vertical(word: &[u8]) -> Result<bool, LineFault>
     ensures { result ≡ vertical_of word.now }
@@ -218,6 +230,7 @@ fn read_vertical(word: &[u8]) -> Result<bool, LineFault>
     Err(LineFault::Syntax)
 }
 
+/// Whether the children of a view are one below the other from then on.
 #[tactic(auto, unfolding(crate::specs::reading::Changes::orient_of))]
 fn orient(bytes: &[u8]) -> Result<Act, LineFault>
     ensures value { result ≡ orient_of (words bytes.now) }
@@ -229,6 +242,7 @@ fn orient(bytes: &[u8]) -> Result<Act, LineFault>
     Ok(Act::Orient { vertical })
 }
 
+/// The flag that a word names.
 #[tactic(auto, unfolding(crate::specs::reading::Changes::flag_named))]
 fn read_flag(word: &[u8]) -> Result<Flag, LineFault>
     ensures { result ≡ flag_named word.now }
@@ -245,6 +259,7 @@ fn read_flag(word: &[u8]) -> Result<Flag, LineFault>
     Err(LineFault::Syntax)
 }
 
+/// A flag of a view, and whether it is on from then on.
 #[tactic(auto, unfolding(crate::specs::reading::Changes::flag_of))]
 fn flag(bytes: &[u8]) -> Result<Act, LineFault>
     ensures value { result ≡ flag_of (words bytes.now) }
@@ -258,6 +273,7 @@ fn flag(bytes: &[u8]) -> Result<Act, LineFault>
     Ok(Act::Flag { flag, on })
 }
 
+/// The colour of the text that a view gets.
 fn ink(bytes: &[u8]) -> Result<Act, LineFault>
     ensures value { result ≡ ink_of (words bytes.now) }
     ensures bounds { IfOk result IsActInBounds }
@@ -266,6 +282,7 @@ fn ink(bytes: &[u8]) -> Result<Act, LineFault>
     Ok(Act::Ink(color))
 }
 
+/// The offset to which a view scrolls.
 #[tactic(auto, unfolding(crate::specs::reading::Changes::scroll_of))]
 fn scroll(bytes: &[u8]) -> Result<Act, LineFault>
     ensures value { result ≡ scroll_of (words bytes.now) }
@@ -294,6 +311,7 @@ fn read_answer(word: &[u8]) -> Result<Answer, LineFault>
     Err(LineFault::Syntax)
 }
 
+/// How a view answers events from then on.
 #[tactic(auto, unfolding(crate::specs::reading::Changes::answer_of))]
 fn answer(bytes: &[u8]) -> Result<Act, LineFault>
     ensures value { result ≡ answer_of (words bytes.now) }
@@ -305,6 +323,7 @@ fn answer(bytes: &[u8]) -> Result<Act, LineFault>
     Ok(Act::Answer(answer))
 }
 
+/// The actions that a view takes from its children, as the sum of their bits.
 fn intercept(bytes: &[u8]) -> Result<Act, LineFault>
     ensures value { result ≡ intercept_of (words bytes.now) }
     ensures bounds { IfOk result IsActInBounds }
@@ -330,6 +349,7 @@ fn read_direction(word: &[u8]) -> Result<Direction, LineFault>
     Err(LineFault::Syntax)
 }
 
+/// The direction in which a view runs from then on.
 #[tactic(auto, unfolding(crate::specs::reading::Changes::direction_of))]
 fn direction(bytes: &[u8]) -> Result<Act, LineFault>
     ensures value { result ≡ direction_of (words bytes.now) }

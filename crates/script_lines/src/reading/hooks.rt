@@ -8,17 +8,17 @@ ghost use Rattle.script_lines.specs.reading.Commands.{hook_of, IsCommandInBounds
 ghost use Rattle.script_lines.specs.reading.Gathered.{following, edits_after, edits_in, reading_of};
 ghost use Rattle.script_lines.specs.reading.Hooks.{asked_of, edit_of, edits_of, edits_written, unmade_of};
 ghost use Rattle.script_lines.specs.commands.PlainCommands.{plain_command};
-ghost use Rattle.script_lines.specs.words.Words.{map_ok, words};
+ghost use Rattle.line_words.specs.words.Words.{map_ok, words};
 ghost use Rattle.view_model.specs.Numbers.{max_edits};
 
 use crate::commands::{Asked, Command};
-use crate::fault::LineFault;
 use crate::reading::changes::read_change;
 use crate::reading::parting::first_edit;
 use crate::verbs::{ChangeVerb, named_change, named_verb};
-use crate::words::naming::name_word;
-use crate::words::word;
 use arrayvec::ArrayVec;
+use line_words::LineFault;
+use line_words::words::naming::name_word;
+use line_words::words::word;
 use view_model::limits::MAX_EDITS;
 
 /// What an edit asks for, by what its first word asks for and what comes after that word.

@@ -3,9 +3,9 @@
 ghost use Rattle.std.specs.Prelude.{◌≡◌, ◌≤◌, ◌<◌, ◌∷◌, [], length, take, drop, IfSome};
 ghost use Rattle.std.specs.List.{slice_split};
 ghost use Rattle.script_lines.specs.reading.Hooks.{parts_edits};
-ghost use Rattle.script_lines.specs.words.Words.{words};
+ghost use Rattle.line_words.specs.words.Words.{words};
 
-use crate::words::{is, word};
+use line_words::words::{is, word};
 
 /// Where the edit at the front ends, and where the next one begins after its `;`; nothing if it is the last.
 pub fn first_edit(bytes: &[u8]) -> Option<(usize, usize)>

@@ -2,16 +2,16 @@
 
 ghost use Rattle.std.specs.Prelude.{◌≡◌, true, ◌*ℤ◌, ◌≤ℤ◌, pos, IfOk};
 ghost use Rattle.script_lines.specs.reading.Commands.{IsCommandInBounds};
-ghost use Rattle.script_lines.specs.words.Numbers.{IsWithin};
+ghost use Rattle.line_words.specs.words.Numbers.{IsWithin};
 ghost use Rattle.script_lines.specs.reading.Pixels.{is_small, part_of, pixels_of};
 ghost use Rattle.script_lines.specs.commands.PlainCommands.{plain_command};
-ghost use Rattle.script_lines.specs.words.Words.{map_ok, words};
+ghost use Rattle.line_words.specs.words.Words.{map_ok, words};
 ghost use Rattle.script_lines.specs.Numbers.{max_pixels, max_window};
 
 use crate::commands::{Command, MAX_PIXELS, MAX_POINT, MAX_WINDOW};
-use crate::fault::LineFault;
-use crate::words::end;
-use crate::words::number::{number, within};
+use line_words::LineFault;
+use line_words::words::end;
+use line_words::words::number::{number, within};
 
 /// Whether a part of this width and height has no more pixels than may be printed at once.
 #[tactic(auto, unfolding(crate::specs::reading::Pixels::is_small))]
@@ -40,6 +40,7 @@ fn part(x: i64, y: i64, w: i64, h: i64) -> Result<Command<'static>, LineFault>
     Ok(Command::Pixels { x, y, w, h })
 }
 
+/// The part of the picture whose pixels are printed.
 #[inline(never)]
 #[tactic(auto, unfolding(crate::specs::reading::Pixels::pixels_of))]
 pub fn pixels(bytes: &[u8]) -> Result<Command<'_>, LineFault>

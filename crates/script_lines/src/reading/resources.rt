@@ -2,19 +2,19 @@
 
 ghost use Rattle.std.specs.Prelude.{◌≡◌, ◌<◌, IfOk};
 ghost use Rattle.script_lines.specs.Numbers.{max_mantissa, min_mantissa};
-ghost use Rattle.script_lines.specs.words.Numbers.{IsWithin};
+ghost use Rattle.line_words.specs.words.Numbers.{IsWithin};
 ghost use Rattle.script_lines.specs.commands.PlainCommands.{plain_command, plain_given};
 ghost use Rattle.script_lines.specs.reading.Commands.{IsCommandInBounds};
 ghost use Rattle.script_lines.specs.reading.Resources.{IsGivenInBounds, color_given, dimen_given, dimen_word, given_by, given_of, in_24_bits, res_of, resource_id, unit_number, unit_of};
-ghost use Rattle.script_lines.specs.words.Words.{map_ok, words};
+ghost use Rattle.line_words.specs.words.Words.{map_ok, words};
 
 use crate::commands::{Command, Given};
-use crate::fault::LineFault;
-use crate::words::colors::last_color;
-use crate::words::escapes::rest_text;
-use crate::words::naming::id_word;
-use crate::words::number::{number, within};
-use crate::words::{end, is, word};
+use line_words::LineFault;
+use line_words::words::colors::last_color;
+use line_words::words::escapes::rest_text;
+use line_words::words::naming::id_word;
+use line_words::words::number::{number, within};
+use line_words::words::{end, is, word};
 
 /// The greatest number of a dimension.
 pub const MAX_MANTISSA: i64 = 8388607;
@@ -49,6 +49,7 @@ impl LengthUnit {
     }
 }
 
+/// A colour as the value of a resource.
 fn color(bytes: &[u8]) -> Result<Given<'_>, LineFault>
     ensures value { map_ok plain_given result ≡ color_given (words bytes.now) }
     ensures bounds { IfOk result (λ given. IsGivenInBounds (plain_given given)) }
@@ -57,6 +58,7 @@ fn color(bytes: &[u8]) -> Result<Given<'_>, LineFault>
     Ok(Given::Color(color))
 }
 
+/// The unit that a word names.
 #[tactic(auto, unfolding(crate::specs::reading::Resources::unit_of))]
 fn read_unit(word: &[u8]) -> Result<LengthUnit, LineFault>
     ensures { result ≡ unit_of word.now }
@@ -104,6 +106,7 @@ fn dimen_word(n: i32, unit: LengthUnit) -> u32
     in_24_bits(n) * 256 + unit.number()
 }
 
+/// A dimension as the value of a resource, by its number and its unit.
 #[tactic(auto, unfolding(crate::specs::reading::Resources::dimen_given))]
 fn dimen(bytes: &[u8]) -> Result<Given<'_>, LineFault>
     ensures value { map_ok plain_given result ≡ dimen_given (words bytes.now) }
@@ -135,6 +138,7 @@ fn given_by<'a>(kind: &[u8], rest: &'a [u8]) -> Result<Given<'a>, LineFault>
     Err(LineFault::Syntax)
 }
 
+/// The value of a resource, by the word for its kind and what comes after that.
 #[tactic(auto, unfolding(crate::specs::reading::Resources::given_of))]
 fn given(bytes: &[u8]) -> Result<Given<'_>, LineFault>
     ensures value { map_ok plain_given result ≡ given_of bytes.now }
@@ -144,6 +148,7 @@ fn given(bytes: &[u8]) -> Result<Given<'_>, LineFault>
     given_by(kind, rest)
 }
 
+/// The same id; `Range` if it is 0, which no resource has.
 #[tactic(auto, unfolding(crate::specs::reading::Resources::resource_id))]
 fn resource_id(id: u32) -> Result<u32, LineFault>
     ensures value { result ≡ resource_id id }

@@ -4,11 +4,11 @@ ghost use Rattle.std.specs.Prelude.{◌≡◌, ◌<◌, IfOk, IfSome, length, po
 ghost use Rattle.std.specs.Str.{bytes_eq};
 ghost use Rattle.script_lines.specs.reading.Changes.{IsActInBounds};
 ghost use Rattle.script_lines.specs.reading.Rules.{answer_in, rule_of, rule_value_in, verb_of};
-ghost use Rattle.script_lines.specs.words.Words.{map_ok, words};
+ghost use Rattle.line_words.specs.words.Words.{map_ok, words};
 
-use crate::fault::LineFault;
-use crate::words::naming::id_word;
-use crate::words::{end, read_on, word};
+use line_words::LineFault;
+use line_words::words::naming::id_word;
+use line_words::words::{end, read_on, word};
 use view_model::Act;
 use view_model::verbs::PARENT_LEFT;
 

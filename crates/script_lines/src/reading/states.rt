@@ -4,12 +4,12 @@ ghost use Rattle.std.specs.Prelude.{◌≡◌, IfOk, IsTrue};
 ghost use Rattle.script_lines.specs.reading.Commands.{IsCommandInBounds};
 ghost use Rattle.script_lines.specs.commands.PlainCommands.{plain_command};
 ghost use Rattle.script_lines.specs.reading.States.{is_state_text, restore_of, save_of, state_text_of};
-ghost use Rattle.script_lines.specs.words.Words.{map_ok, words};
+ghost use Rattle.line_words.specs.words.Words.{map_ok, words};
 
 use crate::commands::Command;
-use crate::fault::LineFault;
-use crate::words::naming::all_hex;
-use crate::words::{end, text, word};
+use line_words::LineFault;
+use line_words::words::naming::all_hex;
+use line_words::words::{end, text, word};
 
 /// Saves the state.
 #[tactic(auto, unfolding(crate::specs::reading::States::save_of))]

@@ -4,13 +4,13 @@ ghost use Rattle.std.specs.Prelude.{◌≡◌, ◌≤◌, IfOk};
 ghost use Rattle.script_lines.specs.reading.Commands.{IsCommandInBounds};
 ghost use Rattle.script_lines.specs.commands.PlainCommands.{plain_command};
 ghost use Rattle.script_lines.specs.reading.Touches.{IsTouchInBounds, cancel_of, down_of, move_of, pointer_of, touch_of, up_of};
-ghost use Rattle.script_lines.specs.words.Words.{map_ok, words};
+ghost use Rattle.line_words.specs.words.Words.{map_ok, words};
 ghost use Rattle.script_lines.specs.Numbers.{max_pointer};
 
 use crate::commands::{Command, MAX_POINTER, MAX_TOUCH, MIN_TOUCH};
-use crate::fault::LineFault;
-use crate::words::end;
-use crate::words::number::{natural_within, number, within};
+use line_words::LineFault;
+use line_words::words::end;
+use line_words::words::number::{natural_within, number, within};
 
 /// A pointer, and where it is.
 #[derive(Clone, Copy)]

@@ -3,7 +3,7 @@
 ghost use Rattle.std.specs.Prelude.{◌≡◌, ◌<◌, ◌^◌, true, IfSome, Some};
 ghost use Rattle.script_lines.specs.reading.Commands.{IsInBounds};
 ghost use Rattle.script_lines.specs.commands.PlainCommands.{Down, Move, plain_command, text_length};
-ghost use Rattle.script_lines.specs.words.Numbers.{IsWithin};
+ghost use Rattle.line_words.specs.words.Numbers.{IsWithin};
 ghost use Rattle.script_lines.specs.reading.Touches.{IsTouchInBounds};
 ghost use Rattle.stack_worlds.specs.KeptStack.{stack_of};
 ghost use Rattle.stack_worlds.specs.Numbers.{max_touch, min_touch};

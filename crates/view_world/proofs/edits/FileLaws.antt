@@ -3,7 +3,7 @@ use Rattle.std.proofs.Common.{◌≡◌, ◌≢◌, ℕ, List, [], refl, ap, sym
 use Rattle.std.specs.Prelude.{Option, None, Some, Result, Ok, Err}
 use Rattle.script_lines.specs.commands.PlainCommands.{PlainCommand}
 use Rattle.script_lines.specs.commands.PlainCommands as command
-use Rattle.script_lines.specs.declared.words.naming.Name.{Name}
+use Rattle.line_words.specs.declared.words.naming.Name.{Name}
 use Rattle.tool_io.specs.Fetched.{Files}
 use Rattle.tool_io.specs.Fetches.{Fetches}
 use Rattle.world_parts.specs.World.{World}

@@ -4,7 +4,7 @@ use Rattle.text_lines.specs.Joined.{◌⧺◌}
 use Rattle.std.specs.Prelude.{Option, None, Some, Result, Ok, Err}
 use Rattle.std.specs.Option.{option_map}
 use Rattle.inflater.specs.Inflating.{Plan}
-use Rattle.script_lines.specs.declared.words.naming.Name.{Name}
+use Rattle.line_words.specs.declared.words.naming.Name.{Name}
 use Rattle.tool_io.specs.Fetched.{Files, file_of}
 use Rattle.tool_io.specs.Fetches.{Fetches}
 use Rattle.view_model.specs.Directed.{directed, rtl_at}

@@ -1,7 +1,7 @@
 -- The view that a line names has the number that was found for it.
 use Rattle.std.proofs.Common.{◌≡◌, ℕ, List, [], Option, Some, None, Ok, ap, subst}
 use Rattle.script_lines.specs.commands.PlainCommands.{Inflate}
-use Rattle.script_lines.specs.declared.words.naming.Name.{Name}
+use Rattle.line_words.specs.declared.words.naming.Name.{Name}
 use Rattle.view_model.specs.Forest.{Forest, Nothing, Branch}
 use Rattle.view_model.specs.PlainTree.{PlainView}
 use Rattle.view_tree.specs.Views.{Views, number_of, plain_of}

@@ -8,7 +8,7 @@ use Rattle.std.proofs.lemmas.Bool.{and_parts, cases_Bool}
 use Rattle.std.proofs.lemmas.Bool.Decides.{nat_tests}
 use Rattle.std.proofs.lemmas.List.Folds.{list_all-append}
 use Rattle.std.proofs.lemmas.Str.{encodes-chars}
-use Rattle.script_lines.specs.words.Escapes.{is_backslash, unescaped}
+use Rattle.line_words.specs.words.Escapes.{is_backslash, unescaped}
 
 abbrev is_plain : ℕ → Bool
 is_plain b = not (is_backslash b)

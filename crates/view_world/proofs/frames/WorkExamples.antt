@@ -8,7 +8,7 @@ use Rattle.geom_core.specs.Spec.{child_spec_of, default_size_of, remaining_of, r
 use Rattle.geom_core.specs.declared.geometry.Insets.{Insets}
 use Rattle.pixel_raster.specs.Cuts.{from_zero}
 use Rattle.script_lines.specs.commands.PlainCommands.{PlainCommand, Window, Add, Act, Frame}
-use Rattle.script_lines.specs.declared.words.naming.Name.TheVariants.{Number}
+use Rattle.line_words.specs.declared.words.naming.Name.TheVariants.{Number}
 use Rattle.seen_edits.specs.Differing.{differing}
 use Rattle.text_lines.specs.Joined.{◌⧺◌}
 use Rattle.view_model.specs.declared.changes.Act.TheVariants as act

@@ -4,7 +4,7 @@ use Rattle.std.specs.Fmt.{digits}
 use Rattle.geom_core.specs.Limits.{clamp_coordinate}
 use Rattle.geom_core.specs.Spec.{child_spec_of, default_size_of, remaining_of, resolve_of}
 use Rattle.script_lines.specs.commands.PlainCommands.{PlainCommand, Window, Add, Remove, Act, Frame, Down, Move, Up, Cancel}
-use Rattle.script_lines.specs.declared.words.naming.Name.TheVariants.{Number}
+use Rattle.line_words.specs.declared.words.naming.Name.TheVariants.{Number}
 use Rattle.text_lines.specs.Joined.{◌⧺◌, texts_of}
 use Rattle.touch_dispatch.specs.reaching.Points.{is_inside, local_point}
 use Rattle.view_model.specs.declared.changes.Act.TheVariants as act

@@ -5,7 +5,7 @@ use Rattle.geom_core.specs.Limits.{clamp_coordinate}
 use Rattle.geom_core.specs.Spec.{child_spec_of, default_size_of, remaining_of, resolve_of}
 use Rattle.script_lines.specs.commands.PlainCommands.{PlainCommand}
 use Rattle.script_lines.specs.commands.PlainCommands.{Window, Add, Remove, Act, Frame, Bounds}
-use Rattle.script_lines.specs.declared.words.naming.Name.TheVariants.{Number, Id}
+use Rattle.line_words.specs.declared.words.naming.Name.TheVariants.{Number, Id}
 use Rattle.text_lines.specs.Joined.{◌⧺◌}
 use Rattle.view_model.specs.declared.changes.Act.TheVariants as act
 use Rattle.view_model.specs.declared.class.Class.TheVariants as class

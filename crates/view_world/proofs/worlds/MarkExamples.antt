@@ -2,7 +2,7 @@
 use Rattle.std.proofs.Common.{◌≡◌, true, false, [], None, refl}
 use Rattle.std.specs.Prelude.{pos}
 use Rattle.script_lines.specs.commands.PlainCommands as command
-use Rattle.script_lines.specs.declared.words.naming.Name.TheVariants.{Number}
+use Rattle.line_words.specs.declared.words.naming.Name.TheVariants.{Number}
 use Rattle.view_model.specs.declared.changes.Act.TheVariants as act
 use Rattle.view_model.specs.declared.changes.Change.TheVariants as change
 use Rattle.view_world.specs.world.Marks.{marks_after, measure_bound, no_marks}

@@ -7,7 +7,7 @@ use Rattle.geom_core.specs.declared.geometry.Size.{Size}
 use Rattle.pixel_raster.specs.Cuts.{from_zero}
 use Rattle.pixel_raster.specs.Raster.{Raster, black_raster, size_of}
 use Rattle.script_lines.specs.reading.Pixels.{IsPart}
-use Rattle.script_lines.specs.declared.words.naming.Name.{Name}
+use Rattle.line_words.specs.declared.words.naming.Name.{Name}
 use Rattle.tree_edits.specs.Applied.{AppliesEdit}
 use Rattle.view_model.specs.Classes.{has_text}
 use Rattle.tree_edits.specs.Editing.{NumberedEdit, Add, Remove, ActOn, SetText, Outcome, cycle_of_act, outcome_of_add, outcome_of_act, outcome_of_edit, outcome_unless, hidden, hides, outcome_of_text, tree_after_act}

@@ -11,11 +11,11 @@ use Rattle.pixel_raster.specs.Raster.{pixel_at}
 use Rattle.saved_state.specs.Restoring.{is_for_other_class, restored}
 use Rattle.saved_state.specs.Saving.{saved_of}
 use Rattle.saved_state.specs.State.{StateEntry, decoded, encoded}
-use Rattle.script_lines.specs.words.Escapes.{unescaped}
+use Rattle.line_words.specs.words.Escapes.{unescaped}
 use Rattle.script_lines.specs.commands.PlainCommands.{PlainCommand}
 use Rattle.script_lines.specs.commands.PlainCommands as command
 use Rattle.script_lines.specs.declared.commands.Asked.{Asked}
-use Rattle.script_lines.specs.declared.words.naming.Name.{Name}
+use Rattle.line_words.specs.declared.words.naming.Name.{Name}
 use Rattle.size_hooks.specs.Hook.{Hook}
 use Rattle.size_hooks.specs.Hooks.{armed, hook_of}
 use Rattle.text_lines.specs.Joined.{◌⧺◌}

@@ -2,7 +2,7 @@
 
 ghost use Rattle.std.specs.Prelude.{◌≡◌, true, not, chars};
 ghost use Rattle.std.specs.List.{list_all};
-ghost use Rattle.script_lines.specs.words.Escapes.{is_backslash, unescaped};
+ghost use Rattle.line_words.specs.words.Escapes.{is_backslash, unescaped};
 
 /// Whether none of these bytes is a backslash.
 fn has_no_backslash(bytes: &[u8]) -> bool

@@ -17,7 +17,7 @@ ghost use Rattle.touch_event.specs.Touches.{IsPointer};
 
 use super::Screen;
 use crate::screen::stage::Stage;
-use script_lines::Name;
+use line_words::Name;
 use seen_edits::note_scrolled;
 use touch_dispatch::dispatch;
 use touch_event::{Action, Event, Point};

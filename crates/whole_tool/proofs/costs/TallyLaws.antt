@@ -7,7 +7,7 @@ use Rattle.geom_core.specs.declared.geometry.Rect.{Rect}
 use Rattle.script_lines.specs.reading.Commands.{command_of}
 use Rattle.script_lines.specs.cutting.Lines.{Line, Text, LongLine, is_idle, is_passed_over}
 use Rattle.script_lines.specs.commands.PlainCommands.{PlainCommand}
-use Rattle.script_lines.specs.declared.fault.LineFault.{LineFault}
+use Rattle.line_words.specs.declared.fault.LineFault.{LineFault}
 use Rattle.stack_worlds.specs.KeptStack.{KeyedStack, stack_of}
 use Rattle.stack_worlds.specs.PlainStack.{PlainStack, StackReply, stack_step, way_of}
 use Rattle.stack_worlds.specs.PlainStack as stack_reply

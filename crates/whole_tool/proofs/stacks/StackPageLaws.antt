@@ -4,7 +4,7 @@ use Rattle.std.specs.Prelude.{fold, Result, Ok, Err}
 use Rattle.std.proofs.lemmas.Bool.{cases_Bool}
 use Rattle.std.proofs.lemmas.Grind.{fold-append}
 use Rattle.script_lines.specs.cutting.Lines.{Line, Text, LongLine, is_passed_over, lines_of}
-use Rattle.script_lines.specs.declared.fault.LineFault.{LineFault}
+use Rattle.line_words.specs.declared.fault.LineFault.{LineFault}
 use Rattle.stack_worlds.specs.Isolation.{Shared, after_shared, nothing_shared, stack_or}
 use Rattle.stack_worlds.specs.PlainStack.{PlainStack, StackReply, Done, Refused, empty_stack, stack_step}
 use Rattle.stack_worlds.proofs.IsolationLaws.{depends_on_share, isolated}

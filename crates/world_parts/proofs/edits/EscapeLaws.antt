@@ -3,7 +3,7 @@ use Rattle.std.proofs.Common.{◌≤◌, ℕ, List, [], ◌∷◌, length, arith
 use Rattle.std.specs.Str.{IsUtf8, chars}
 use Rattle.std.proofs.lemmas.Bool.{cases_Bool}
 use Rattle.std.proofs.lemmas.Str.{encodes-chars, length-le-encodes}
-use Rattle.script_lines.specs.words.Escapes.{is_backslash, unescaped}
+use Rattle.line_words.specs.words.Escapes.{is_backslash, unescaped}
 
 length-unescaped : (text : List ℕ) → length (unescaped text) ≤ length text
 length-unescaped [] = omega arith

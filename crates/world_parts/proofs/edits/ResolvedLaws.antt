@@ -5,7 +5,7 @@ use Rattle.std.specs.Str.{IsUtf8, chars}
 use lib.Utf8.{scalar, scalars, encode, encodes}
 use Rattle.std.proofs.lemmas.Bool.{and_parts, cases_Bool}
 use Rattle.std.proofs.lemmas.Str.{chars-encodes, encodes-chars, length-le-encodes, scalars-chars}
-use Rattle.script_lines.specs.words.Escapes.{is_backslash, meant_by, unescaped}
+use Rattle.line_words.specs.words.Escapes.{is_backslash, meant_by, unescaped}
 
 some_bytes : (d : ℕ) → 1 ≤ length (encode d)
 some_bytes d = let h = length-le-encodes (d ∷ []) in omega (arith, h, length-append (encode d) [])

@@ -1,6 +1,6 @@
 use Rattle.std.proofs.Common.{arith}
 use Rattle.std.specs.Prelude.{Err}
-use Rattle.script_lines.specs.declared.fault.LineFault.TheVariants.{Syntax}
+use Rattle.line_words.specs.declared.fault.LineFault.TheVariants.{Syntax}
 use Rattle.script_lines.specs.reading.Commands.{command_in, command_of}
 use Rattle.script_lines.proofs.readings.ReadLaws.{read_given, read_passed, read_spelled}
 use Rattle.script_lines.proofs.reading.line.Goals as goal

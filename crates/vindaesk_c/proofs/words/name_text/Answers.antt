@@ -1,6 +1,6 @@
 use Rattle.std.proofs.lemmas.Str.{IsUtf8-from_ascii}
-use Rattle.script_lines.proofs.spelled.SpelledWords.{ascii}
-use Rattle.script_lines.proofs.texts.FileNameLaws.{file_name_word}
+use Rattle.line_words.proofs.spelled.SpelledWords.{ascii}
+use Rattle.line_words.proofs.texts.FileNameLaws.{file_name_word}
 use Rattle.vindaesk_c.proofs.words.name_text.Goals as goal
 
 -- the name of a file is ASCII

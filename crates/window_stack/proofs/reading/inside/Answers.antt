@@ -1,5 +1,5 @@
 use Rattle.std.proofs.Common.{ap, length, arith}
-use Rattle.script_lines.proofs.readings.TextLengthLaws.{after_word-short}
+use Rattle.line_words.proofs.texts.LengthLaws.{after_word-short}
 use Rattle.window_stack.proofs.reading.inside.Goals as goal
 
 pub returns-clause-short : goal.returns-clause-short

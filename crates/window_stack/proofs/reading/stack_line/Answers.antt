@@ -1,6 +1,6 @@
 use Rattle.std.proofs.Common.{◌∙◌, arith}
-use Rattle.script_lines.proofs.readings.CommandLaws.{map_ok-fault}
-use Rattle.script_lines.specs.declared.fault.LineFault.TheVariants.{Syntax}
+use Rattle.line_words.proofs.texts.OkLaws.{map_ok-fault}
+use Rattle.line_words.specs.declared.fault.LineFault.TheVariants.{Syntax}
 use Rattle.window_stack.proofs.PassedLaws.{passed_over}
 use Rattle.window_stack.specs.StackLines.{plain_line, stack_line_by, stack_line_of}
 use Rattle.window_stack.proofs.reading.stack_line.Goals as goal

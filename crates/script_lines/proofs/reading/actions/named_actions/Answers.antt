@@ -4,7 +4,7 @@ use Rattle.std.specs.Result.{is_err}
 use Rattle.std.proofs.lemmas.List.{take_all}
 use Rattle.std.proofs.lemmas.Result.{err_from_is_err_and}
 use Rattle.script_lines.specs.reading.Actions.{action_in}
-use Rattle.script_lines.specs.words.Words.{end_of, words}
+use Rattle.line_words.specs.words.Words.{end_of, words}
 use Rattle.script_lines.proofs.readings.ActionLaws.{actions_end, actions_stop}
 use Rattle.script_lines.proofs.reading.actions.named_actions.Goals as goal
 

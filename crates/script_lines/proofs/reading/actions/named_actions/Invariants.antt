@@ -1,6 +1,6 @@
 use Rattle.std.proofs.Common.{◌≡◌, ◌≤◌, ◌<◌, ◌-◌, length, drop}
 use Rattle.script_lines.specs.reading.Actions.{with_actions}
-use Rattle.script_lines.specs.words.Words.{words}
+use Rattle.line_words.specs.words.Words.{words}
 use Rattle.script_lines.proofs.reading.actions.named_actions.Given as goal
 
 abbrev pub invariant-loop-at : goal.invariant-loop-at

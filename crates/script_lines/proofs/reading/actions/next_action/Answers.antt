@@ -2,7 +2,7 @@ use Rattle.std.proofs.Common.{◌≡◌, ◌-◌, sym, take, drop, length, lengt
 use Rattle.std.specs.Prelude.{Ok}
 use Rattle.std.proofs.lemmas.List.{take_all}
 use Rattle.script_lines.specs.reading.Actions.{action_of}
-use Rattle.script_lines.specs.words.Words.{after_word, word_in, words}
+use Rattle.line_words.specs.words.Words.{after_word, word_in, words}
 use Rattle.script_lines.proofs.readings.ActionLaws.{read_after}
 use Rattle.script_lines.proofs.reading.actions.next_action.Goals as goal
 

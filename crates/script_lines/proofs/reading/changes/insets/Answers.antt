@@ -1,7 +1,7 @@
 use Rattle.std.proofs.Common.{ℤ, pos, negsuc, ◌≤ℤ◌, w32, w64, FitsSigned, to_z, of_z, arith}
 use Rattle.std.proofs.lemmas.Int.{ints}
-use Rattle.script_lines.specs.words.Numbers.{IsWithin}
-use Rattle.script_lines.proofs.readings.BoundLaws.{kept_within}
+use Rattle.line_words.specs.words.Numbers.{IsWithin}
+use Rattle.line_words.proofs.texts.BoundLaws.{kept_within}
 use Rattle.script_lines.proofs.reading.changes.insets.Goals as goal
 
 kept : (low n : ℤ) → FitsSigned w64 low → negsuc 2147483646 ≤ℤ low → IsWithin (to_z w64 (of_z w64 low)) (pos 1048575) n → IsWithin low (pos 1048575) (to_z w32 (of_z w32 n))

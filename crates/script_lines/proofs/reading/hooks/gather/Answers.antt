@@ -4,7 +4,7 @@ use Rattle.std.proofs.lemmas.List.{take_all}
 use Rattle.script_lines.specs.reading.Changes.{IsChangeInBounds}
 use Rattle.script_lines.specs.reading.Gathered.{edits_after}
 use Rattle.script_lines.specs.reading.Hooks.{parts_edits}
-use Rattle.script_lines.specs.words.Words.{words}
+use Rattle.line_words.specs.words.Words.{words}
 use Rattle.script_lines.specs.declared.commands.Asked.{Asked}
 use Rattle.script_lines.proofs.readings.HookLaws.{edits_begin}
 use Rattle.script_lines.proofs.reading.hooks.gather.Goals as goal

@@ -3,7 +3,7 @@ use Rattle.std.specs.List.{All, slice_split}
 use Rattle.script_lines.specs.reading.Changes.{IsChangeInBounds}
 use Rattle.script_lines.specs.reading.Gathered.{edits_after}
 use Rattle.script_lines.specs.reading.Hooks.{edits_of, parts_edits}
-use Rattle.script_lines.specs.words.Words.{words}
+use Rattle.line_words.specs.words.Words.{words}
 use Rattle.view_model.specs.Numbers.{max_edits}
 use Rattle.script_lines.specs.declared.commands.Asked.{Asked}
 use Rattle.script_lines.proofs.reading.hooks.gather.Given as goal

@@ -2,7 +2,7 @@ use Rattle.std.proofs.Common.{◌≡◌, ◌-◌, true, false, sym, ◌∙◌, t
 use Rattle.std.specs.Prelude.{Err}
 use Rattle.std.proofs.lemmas.List.{take_all}
 use Rattle.script_lines.specs.reading.Hooks.{parts_edits}
-use Rattle.script_lines.specs.words.Words.{word_in, words}
+use Rattle.line_words.specs.words.Words.{word_in, words}
 use Rattle.script_lines.proofs.readings.PartLaws.{edit_ends, edit_last, one_edit_more, one_edit_start, word_in-none, word_read}
 use Rattle.script_lines.proofs.reading.parting.first_edit.Goals as goal
 

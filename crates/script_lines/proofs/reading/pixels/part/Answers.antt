@@ -1,7 +1,7 @@
 use Rattle.std.proofs.Common.{ℤ, pos, w32, to_z, of_z, arith}
 use Rattle.std.proofs.lemmas.Int.{ints}
-use Rattle.script_lines.specs.words.Numbers.{IsWithin}
-use Rattle.script_lines.proofs.readings.BoundLaws.{kept_within}
+use Rattle.line_words.specs.words.Numbers.{IsWithin}
+use Rattle.line_words.proofs.texts.BoundLaws.{kept_within}
 use Rattle.script_lines.proofs.reading.pixels.part.Goals as goal
 
 kept_point : (n : ℤ) → IsWithin (pos 0) (pos 4095) n → IsWithin (pos 0) (pos 4095) (to_z w32 (of_z w32 n))

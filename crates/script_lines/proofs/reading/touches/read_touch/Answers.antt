@@ -1,7 +1,7 @@
 use Rattle.std.proofs.Common.{ℤ, pos, negsuc, w32, to_z, of_z, arith}
 use Rattle.std.proofs.lemmas.Int.{ints}
-use Rattle.script_lines.specs.words.Numbers.{IsWithin}
-use Rattle.script_lines.proofs.readings.BoundLaws.{kept_within}
+use Rattle.line_words.specs.words.Numbers.{IsWithin}
+use Rattle.line_words.proofs.texts.BoundLaws.{kept_within}
 use Rattle.script_lines.proofs.reading.touches.read_touch.Goals as goal
 
 kept : (n : ℤ) → IsWithin (negsuc 1048575) (pos 1048576) n → IsWithin (negsuc 1048575) (pos 1048576) (to_z w32 (of_z w32 n))

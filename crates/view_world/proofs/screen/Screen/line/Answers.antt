@@ -12,7 +12,7 @@ use Rattle.view_world.specs.world.Carried.{WritesReply}
 use Rattle.view_world.specs.world.Step.{step}
 use Rattle.view_world.proofs.worlds.AfterLineLaws.{reported, sinkless, undone}
 use Rattle.script_lines.specs.commands.PlainCommands.{plain_command}
-use Rattle.script_lines.specs.declared.words.naming.Name.{Name}
+use Rattle.line_words.specs.declared.words.naming.Name.{Name}
 use Rattle.world_parts.specs.Inflating.{asked_for, inflation_of}
 use Rattle.view_world.specs.screen.KeyedScreen.{KeyedScreen, world_of}
 use Rattle.world_parts.specs.Shelves.{AsksShelf}

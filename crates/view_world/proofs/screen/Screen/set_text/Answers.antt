@@ -1,6 +1,6 @@
 use Rattle.std.proofs.Common.{◌≡◌, ℕ, List, Result, ap, sym, ◌∙◌}
 use Rattle.std.specs.Str.{chars}
-use Rattle.script_lines.specs.declared.words.naming.Name.{Name}
+use Rattle.line_words.specs.declared.words.naming.Name.{Name}
 use Rattle.tree_edits.specs.Editing.{SetText}
 use Rattle.view_tree.specs.Views.{Views, number_of, plain_of}
 use Rattle.world_parts.specs.declared.fault.StepFault.{StepFault}

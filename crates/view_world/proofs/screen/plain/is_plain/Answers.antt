@@ -1,7 +1,7 @@
 use Rattle.std.proofs.Common.{ap, sym, ◌∙◌}
 use Rattle.std.specs.Prelude.{not}
 use Rattle.std.specs.List.{list_all}
-use Rattle.script_lines.specs.words.Escapes.{is_backslash}
+use Rattle.line_words.specs.words.Escapes.{is_backslash}
 use Rattle.view_world.proofs.edits.PlainLaws.{plain_text}
 use Rattle.view_world.proofs.screen.plain.is_plain.Goals as goal
 

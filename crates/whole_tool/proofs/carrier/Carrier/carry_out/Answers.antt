@@ -1,7 +1,7 @@
 use Rattle.std.proofs.Common.{◌≡◌, ap, arith, refl, sym, subst, ◌∙◌, inl}
 use Rattle.std.specs.Prelude.{None}
 use Rattle.script_lines.specs.commands.PlainCommands.{plain_command}
-use Rattle.script_lines.specs.words.Words.{map_ok}
+use Rattle.line_words.specs.words.Words.{map_ok}
 use Rattle.view_world.specs.world.KeyedWorld.{world_of}
 use Rattle.view_world.specs.world.Step.{step}
 use Rattle.whole_tool.specs.Carried.{Alone, BytesWant, Refused, asked_by_bytes, reply_to_bytes}

@@ -1,6 +1,6 @@
 use Rattle.std.proofs.Common.{◌≡◌, ap, arith, refl, sym, subst, ◌∙◌, inl}
 use Rattle.std.specs.Prelude.{None}
-use Rattle.script_lines.specs.words.Words.{map_ok}
+use Rattle.line_words.specs.words.Words.{map_ok}
 use Rattle.stack_worlds.specs.KeptStack.{stack_of}
 use Rattle.stack_worlds.specs.PlainStack.{stack_step}
 use Rattle.whole_tool.specs.Carried.{Stacked, BytesWant, Refused, asked_by_bytes, reply_to_bytes}

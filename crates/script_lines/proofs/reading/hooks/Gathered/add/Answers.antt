@@ -4,9 +4,9 @@ use Rattle.std.specs.List.{All}
 use Rattle.std.proofs.lemmas.List.Elements.{All-push}
 use Rattle.script_lines.specs.reading.Changes.{IsChangeInBounds}
 use Rattle.script_lines.specs.reading.Gathered.{reading_of}
-use Rattle.script_lines.specs.words.Words.{words}
+use Rattle.line_words.specs.words.Words.{words}
 use Rattle.script_lines.specs.declared.commands.Asked.{Asked}
-use Rattle.script_lines.specs.declared.fault.LineFault.TheVariants.{Range, Syntax}
+use Rattle.line_words.specs.declared.fault.LineFault.TheVariants.{Range, Syntax}
 use Rattle.script_lines.proofs.readings.HookLaws.{edits_asked, edits_range, edits_syntax, edits_unmade}
 use Rattle.script_lines.proofs.reading.hooks.Gathered.add.Goals as goal
 

@@ -1,0 +1,3 @@
+pub mod spelled
+pub mod texts
+pub mod written

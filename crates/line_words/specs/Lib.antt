@@ -1,0 +1,4 @@
+pub mod Numbers
+pub mod Spelled
+pub mod Written
+pub mod words

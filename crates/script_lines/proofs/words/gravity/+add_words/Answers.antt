@@ -1,8 +1,0 @@
-use Rattle.std.proofs.Common.{sym, ◌∙◌, arith}
-use Rattle.script_lines.proofs.texts.BarLaws.{words_go_on}
-use Rattle.script_lines.proofs.words.gravity.+add_words.Goals as goal
-
-pub returns : goal.returns
-returns t c =
-    c.add_words.ensures
-    ∙ words_go_on c.args.gravity c.in_ok-more.more c.args.words.now c.offset_of-len.result c.offset_of-len.ensures.place (omega (arith, c.offset_of-len.ensures.within)) (sym c.add_word.ensures ∙ c.in_ok-more.was)
