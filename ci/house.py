@@ -16,6 +16,8 @@
     wide definition     a file of definitions with a line above 120 columns
     long file           a file of more than 800 lines
     long function       a function whose body has more than 40 lines; of JavaScript too
+    unsaid function     a function without a `///`, a private one and a test too; attributes and plain comments may be
+                        between the two
     wide script         a file of JavaScript with a line above 120 columns
     unsaid script       a file of JavaScript that does not begin with what it is for
 
@@ -46,6 +48,10 @@ SCRIPTS = ("docs/play/*.mjs", "bindings/web/*.mjs", "ci/*.mjs")
 # a function of JavaScript, by the line at which its body begins
 SCRIPTED = re.compile(r"^( *)(?!(?:if|for|while|switch|class|\})\b)\S.*(?:\)|=>) \{$")
 FUNCTION = re.compile(r"^( *)(?:pub(?:\([a-z]+\))? )?(?:const )?fn (\w+)", re.M)
+# any function, also one with another calling convention
+ANY_FUNCTION = re.compile(r'^ *(?:(?:pub(?:\([a-z]+\))?|const|unsafe|extern "\w+") )*fn (\w+)', re.M)
+# what may be between the `///` of a function and its first line
+BETWEEN = re.compile(r"\s*(?:#\[|//(?!/))")
 WORD = re.compile(r"[\w']+")
 # arguments of a definition with their type
 GROUP = re.compile(r"([({])([^(){}:]+) : ([^(){}]+)[)}]")
@@ -166,6 +172,17 @@ def functions(text: str) -> Iterator[Function]:
         yield Function(found[2], head, lines[opened + 1 : end])
 
 
+def unsaid(text: str) -> Iterator[str]:
+    """The functions of a file of code that have no `///`, by their names."""
+    lines = text.split("\n")
+    for it in ANY_FUNCTION.finditer(text):
+        above = text.count("\n", 0, it.start()) - 1
+        while above >= 0 and BETWEEN.match(lines[above]):
+            above -= 1
+        if above < 0 or not lines[above].lstrip().startswith("///"):
+            yield it[1]
+
+
 def imported(text: str) -> Iterator[Tuple[str, bool]]:
     """The names that a file of code imports for itself, each with whether that is for ghosts alone."""
     for is_public, is_ghost, path in USE.findall(text):
@@ -250,6 +267,7 @@ def of_code(path: str) -> Iterator[str]:
             yield "wide clause: " + name
         if len(it.body) > MOST_IN_BODY:
             yield "long function: " + name
+    yield from ("unsaid function: %s: %s" % (below_top(path), name) for name in unsaid(text))
 
 
 def long_file(path: str) -> List[str]:
@@ -379,10 +397,20 @@ def example() -> str:
     return "" if given == right else "found %s, %s, %s, %s, %s" % given
 
 
+def example_of_unsaid() -> str:
+    """Why functions without a `///` are not found, or those with one are."""
+    text = ("fn a() {}\n\n/// B.\n#[inline]\n// b\npub(crate) const fn b() {}\n\n//! C.\n"
+            "#[test]\npub extern \"C\" fn c() {}\n\nimpl D {\n    fn d() {}\n\n    /// E.\n    pub fn e() {}\n}\n\n"
+            "/// F.\n\nfn f() {}\n")
+    names = list(unsaid(text))
+    return "" if names == ["a", "c", "d", "f"] else "found %s" % names
+
+
 def checks() -> Checks:
     yield "the house: the patterns themselves", example
+    yield "the house: which functions have no `///`", example_of_unsaid
     yield "the house: how many arguments a definition has", example_of_arguments
-    yield "the house: unused, unreached, twice, wide and long", problem
+    yield "the house: unused, unreached, twice, wide, long and unsaid", problem
 
 
 if __name__ == "__main__":
