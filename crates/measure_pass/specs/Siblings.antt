@@ -21,7 +21,7 @@ use Rattle.view_model.specs.Measuring.{Specs}
 use Rattle.view_model.specs.RelativeCourse.{anchors_by, arranged, asked_across, asked_down, child_at, edges_at}
 use Rattle.view_model.specs.RelativeCourse.{no_child, span_across, span_down, spans_across, spans_down}
 use Rattle.view_model.specs.RelativeLayout.{Spanned, edges_with, span_or_none}
-use Rattle.view_tree.specs.sibling_orders.Ordering.{PlainOrders}
+use Rattle.sibling_orders.specs.Ordering.{PlainOrders}
 use Rattle.view_tree.specs.Rows.{Row, count_of_key, first_tree, part_from, siblings_from, views_of}
 use Rattle.view_tree.specs.Views.{Held, specs_of}
 

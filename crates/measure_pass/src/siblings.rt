@@ -12,7 +12,7 @@ ghost use Rattle.view_model.specs.Measuring.{Specs};
 ghost use Rattle.view_model.specs.RelativeCourse.{arranged};
 ghost use Rattle.view_model.specs.RelativeLayout.{Spanned, final_rect, relative_size};
 ghost use Rattle.view_model.specs.Cycles.{links_in};
-ghost use Rattle.view_tree.specs.sibling_orders.Ordering.{AreOrders};
+ghost use Rattle.sibling_orders.specs.Ordering.{AreOrders};
 ghost use Rattle.view_tree.specs.Rows.{part_from, siblings_from, views_of};
 ghost use Rattle.view_tree.specs.Views.{IsLive, IsTree, KeepsOthers, KeepsOutside, SameTree, class_of, held_of, orders_of, state_of, KeepsCounts};
 

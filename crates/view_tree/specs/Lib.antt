@@ -2,7 +2,6 @@ pub mod Codes
 pub mod Faults
 pub mod Rows
 pub mod Views
-pub mod sibling_orders
 pub mod node
 pub mod table
 pub mod tree

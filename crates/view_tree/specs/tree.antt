@@ -5,7 +5,10 @@ pub mod Detached
 pub mod Directions
 pub mod Grafted
 pub mod Grafting
+pub mod Groups
 pub mod Hidden
 pub mod Preorder
 pub mod Requests
+pub mod Sorted
 pub mod Sowing
+pub mod Staying

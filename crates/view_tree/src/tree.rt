@@ -22,9 +22,9 @@ mod staying;
 
 use crate::counts::Counts;
 use crate::node::Node;
-use crate::sibling_orders::SiblingOrders;
 use crate::table::ids::Holders;
 use indexmap::IndexMap;
+use sibling_orders::SiblingOrders;
 use slab::Slab;
 use std::alloc::Global;
 use std::marker::Model;

@@ -33,7 +33,7 @@ use Rattle.view_model.specs.RelativeCourse.{Arrangement, arranged, child_at, eac
 use Rattle.view_model.specs.RelativeLayout.{relative_size, sides_of}
 use Rattle.view_model.specs.SiblingRules.{leads}
 use Rattle.view_model.specs.Cycles.{links_in}
-use Rattle.view_tree.specs.sibling_orders.Ordering.{AreOrders, PlainOrders}
+use Rattle.sibling_orders.specs.Ordering.{AreOrders, PlainOrders}
 use Rattle.view_tree.specs.Rows.{Row, children_of_first, count_of_key, head_view, part_from, siblings_from, views_of}
 use Rattle.view_tree.specs.Views.{Held}
 use Rattle.view_tree.proofs.forest.KeyLaws.{located}

@@ -47,7 +47,7 @@ use Rattle.view_model.specs.RelativeLayout.{Spanned, edges_with, final_rect, pha
 use Rattle.view_model.specs.SiblingRules.{leads}
 use Rattle.view_model.specs.Classes.{is_relative}
 use Rattle.view_model.specs.Cycles.{each, link_of, links_in}
-use Rattle.view_tree.specs.sibling_orders.Ordering.{AreOrders, PlainOrders, no_orders}
+use Rattle.sibling_orders.specs.Ordering.{AreOrders, PlainOrders, no_orders}
 use Rattle.view_tree.specs.Rows.{Row, children_of_first, count_of_key, first_tree, head_view, part_from, siblings_from, views_of}
 use Rattle.view_tree.specs.Views.{Held, KeepsInside, KeepsOutside, SameTree, Views, orders_of, specs_of}
 use Rattle.view_tree.proofs.forest.KeyLaws.{located}

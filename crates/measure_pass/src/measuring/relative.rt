@@ -11,7 +11,7 @@ ghost use Rattle.view_model.specs.declared.class.Class.TheVariants.{RelativeLayo
 ghost use Rattle.view_model.specs.Cycles.{links_in};
 ghost use Rattle.view_model.specs.Measuring.{Specs};
 ghost use Rattle.view_model.specs.RelativeLayout.{Spanned, phase_axis};
-ghost use Rattle.view_tree.specs.sibling_orders.Ordering.{AreOrders};
+ghost use Rattle.sibling_orders.specs.Ordering.{AreOrders};
 ghost use Rattle.view_tree.specs.Rows.{part_from, siblings_from, views_of};
 ghost use Rattle.view_tree.specs.Views.{IsLive, IsTree, class_of, held_of, orders_of};
 

@@ -10,7 +10,7 @@ use Rattle.view_model.specs.Cycles.{numbers_in}
 use Rattle.view_model.specs.Forest.{Forest, Nothing, Branch, or_else}
 use Rattle.view_model.specs.PlainTree.{PlainView}
 use Rattle.view_tree.specs.tree.Detached.{AreLowered, Detached, parent_of, place_below}
-use Rattle.view_tree.specs.sibling_orders.Ordering.{no_orders, place_in}
+use Rattle.sibling_orders.specs.Ordering.{no_orders, place_in}
 use Rattle.view_tree.specs.Rows.{Row, ancestors, around, children_of_first, count_of_key, count_of_number, first_tree, head_view, part_from, pruned_at_key, views_of}
 use Rattle.view_tree.specs.Views.{IsLive, IsTree, Views, class_of, group_number, number_of, orders_of, orders_under}
 use Rattle.view_tree.proofs.calls.EmptyingLaws.{f, from_is, g, gone, kids, step}

@@ -8,8 +8,9 @@ use Rattle.view_model.specs.Forest.{Forest, Nothing, Branch}
 use Rattle.view_model.specs.PlainTree.{PlainView}
 use Rattle.view_tree.specs.tree.Detached.{AreLowered, Detached, parent_of, place_below}
 use Rattle.view_tree.specs.node.Nodes.{IsSoundTree, tree_of, value_of}
-use Rattle.view_tree.specs.sibling_orders.Ordering.{HasNoOther, IsGrouped, IsKeptOf, IsTakenAt, PlainGroup, group_at, place_in}
-use Rattle.view_tree.specs.sibling_orders.Indexes.{IsLowered}
+use Rattle.view_tree.specs.tree.Groups.{HasNoOther}
+use Rattle.sibling_orders.specs.Ordering.{IsGrouped, IsKeptOf, IsTakenAt, PlainGroup, group_at, place_in}
+use Rattle.sibling_orders.specs.Indexes.{IsLowered}
 use Rattle.view_tree.specs.Rows.{ancestors, children_of_first, count_of_number, first_tree, part_from, pruned_at_key}
 use Rattle.view_tree.specs.Views.{IsLive, IsTree, Views, class_of, group_number, held_of, number_of, orders_of, orders_under, plain_of, plain_rows}
 use Rattle.view_tree.specs.declared.tree.ViewTree.TheInside.{Inside}

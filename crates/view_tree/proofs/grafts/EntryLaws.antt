@@ -15,16 +15,17 @@ use Rattle.view_model.specs.PlainTree.{PlainView}
 use Rattle.view_model.specs.Refusals.{PlainRefusal, plain_refusal}
 use Rattle.view_model.specs.declared.fault.Fault.{Fault}
 use Rattle.view_model.specs.declared.fault.Fault.TheVariants as fault
-use Rattle.view_tree.specs.declared.sibling_orders.SiblingOrders.{SiblingOrders}
-use Rattle.view_tree.specs.sibling_orders.Latest.{AreRising}
+use Rattle.sibling_orders.specs.declared.groups.SiblingOrders.{SiblingOrders}
+use Rattle.sibling_orders.specs.Latest.{AreRising}
 use Rattle.view_tree.specs.Faults.{IsRefusedOrCyclic}
-use Rattle.view_tree.specs.tree.Grafting.{AreEntries, HasAdded, IsFollowing, IsGroupOrCycle, IsMadeUnless, IsOwnFor, IsParentEntry, following, cycle_of, links_following, links_then, numbers_following, numbers_then, parent_cycle, sprout_link}
+use Rattle.view_tree.specs.tree.Grafting.{AreEntries, HasAdded, IsFollowing, IsOwnFor, IsParentEntry, following, links_following, links_then, numbers_following, numbers_then, parent_cycle, sprout_link}
+use Rattle.sibling_orders.specs.Cycles.{IsGroupOrCycle, IsMadeUnless, cycle_of}
 use Rattle.view_tree.specs.Rows.{Row, children_of_first, count_of_key, head_view, later_siblings, part_from, views_of}
 use Rattle.view_tree.specs.Views.{IsLive, IsTree, Views, class_of, number_of}
 use Rattle.view_tree.proofs.forest.KeyLaws.{located}
 use Rattle.view_tree.proofs.grafts.SownSprouts.{live_earlier}
 use Rattle.view_tree.proofs.orders.CycleLaws.{views-count}
-use Rattle.view_tree.proofs.orders.LatestLaws.{rising_on, rising_with}
+use Rattle.sibling_orders.proofs.LatestLaws.{rising_on, rising_with}
 use Rattle.view_tree.proofs.orders.RowLaws.{child_there, count_within, few_numbers, numbers_earlier, within_children}
 
 -- one more child is gathered

@@ -20,15 +20,15 @@ use Rattle.view_model.specs.Refusals.{PlainRefusal}
 use Rattle.view_model.specs.Sprouts.{IsPreorder, Seed, numbered, preorder, seeds_of, sprout_of}
 use Rattle.view_tree.proofs.forest.ForestLaws.{times_in}
 use Rattle.view_tree.proofs.forest.PlainLaws.{or_none}
-use Rattle.view_tree.specs.declared.sibling_orders.SiblingOrders.{SiblingOrders}
-use Rattle.view_tree.specs.sibling_orders.Cycles.{HasNoCycle, IsFree}
+use Rattle.sibling_orders.specs.declared.groups.SiblingOrders.{SiblingOrders}
+use Rattle.sibling_orders.specs.Cycles.{HasNoCycle, IsFree, cycle_of}
 use Rattle.view_tree.specs.tree.Directions.{is_rtl_at}
-use Rattle.view_tree.specs.tree.Grafting.{AreEntries, AreGrafted, IsOwnFor, IsParentEntry, cycle_in, cycle_of, entries_cycle, links_then, noted, numbers_then, parent_cycle, sprout_link}
-use Rattle.view_tree.specs.sibling_orders.Ordering.{IsGrouped, IsGroupedAt, IsKeptFor, PlainGroup}
+use Rattle.view_tree.specs.tree.Grafting.{AreEntries, AreGrafted, IsOwnFor, IsParentEntry, cycle_in, entries_cycle, links_then, numbers_then, parent_cycle, sprout_link}
+use Rattle.sibling_orders.specs.Ordering.{noted, IsGrouped, IsGroupedAt, IsKeptFor, PlainGroup}
 use Rattle.view_tree.specs.Rows.{Row, children_of_first, head_view, part_from, views_of}
 use Rattle.view_tree.specs.Views.{IsLive, IsTree, Views, class_of, group_number, held_of, number_of, plain_of, plain_rows}
 use Rattle.view_tree.proofs.forest.KeyLaws.{number_live}
-use Rattle.view_tree.proofs.orders.CycleLists.{none_of}
+use Rattle.sibling_orders.proofs.CycleLists.{none_of}
 use Rattle.view_tree.proofs.grafts.Saplings.{shaped}
 use Rattle.view_tree.proofs.grafts.SownSprouts.{earlier, live_earlier}
 use Rattle.view_tree.proofs.grafts.SproutGroups.{AllKept, all_kept, cycle-forest, grouped-forest, noted-append, noted-early, own_kept, own_past}

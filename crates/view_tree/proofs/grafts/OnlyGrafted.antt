@@ -14,10 +14,11 @@ use Rattle.view_model.specs.Growth.{grown_at}
 use Rattle.view_model.specs.PlainTree.{PlainView, grown}
 use Rattle.view_model.specs.Sprouts.{IsPreorder, Seed, numbered, preorder, seeds_of, view_of}
 use Rattle.view_tree.proofs.forest.ForestLaws.{times_in}
-use Rattle.view_tree.specs.declared.sibling_orders.SiblingOrders.{SiblingOrders}
+use Rattle.sibling_orders.specs.declared.groups.SiblingOrders.{SiblingOrders}
 use Rattle.view_tree.specs.tree.Directions.{is_rtl_at}
-use Rattle.view_tree.specs.tree.Grafting.{AreEntries, AreGrafted, links_following, links_then, noted, numbers_following, numbers_then, sprout_link}
-use Rattle.view_tree.specs.sibling_orders.Ordering.{HasNoOther, PlainGroup, is_layout}
+use Rattle.view_tree.specs.tree.Grafting.{AreEntries, AreGrafted, links_following, links_then, numbers_following, numbers_then, sprout_link}
+use Rattle.sibling_orders.specs.Ordering.{noted, PlainGroup}
+use Rattle.view_tree.specs.tree.Groups.{HasNoOther, is_layout}
 use Rattle.view_tree.specs.Rows.{Row, count_where, head_view}
 use Rattle.view_tree.specs.Views.{Held, IsLive, Views, class_of, held_of, number_of, plain_of, plain_rows}
 use Rattle.view_tree.proofs.forest.KeyLaws.{located, number_live}

@@ -13,9 +13,10 @@ use Rattle.view_model.specs.Forest.{Forest, Nothing, Branch, count_of}
 use Rattle.view_model.specs.PlainTree.{PlainView}
 use Rattle.view_model.specs.Refusals.{PlainRefusal}
 use Rattle.view_model.specs.Sprouts.{Seed, numbered, preorder, sprout_of, view_of}
-use Rattle.view_tree.specs.declared.sibling_orders.SiblingOrders.{SiblingOrders}
-use Rattle.view_tree.specs.tree.Grafting.{AreEntries, IsOwnFor, following, cycle_after, cycle_in, cycle_of, links_following, noted, numbers_following, sprout_link}
-use Rattle.view_tree.specs.sibling_orders.Ordering.{IsGrouped, IsKeptFor, PlainGroup, plain_group}
+use Rattle.sibling_orders.specs.declared.groups.SiblingOrders.{SiblingOrders}
+use Rattle.view_tree.specs.tree.Grafting.{AreEntries, IsOwnFor, following, cycle_after, cycle_in, links_following, numbers_following, sprout_link}
+use Rattle.sibling_orders.specs.Cycles.{cycle_of}
+use Rattle.sibling_orders.specs.Ordering.{noted, IsGrouped, IsKeptFor, PlainGroup, plain_group}
 use Rattle.view_tree.proofs.orders.TreeLaws.{Groups}
 
 -- the first of these is not deeper than this

@@ -13,7 +13,7 @@ use Rattle.view_model.specs.PlainTree.{PlainView}
 use Rattle.view_tree.specs.tree.Attached.{Attached}
 use Rattle.view_tree.specs.tree.Directions.{is_rtl_at}
 use Rattle.view_tree.specs.table.Holders.{noted}
-use Rattle.view_tree.specs.sibling_orders.Ordering.{orders_in}
+use Rattle.sibling_orders.specs.Ordering.{orders_in}
 use Rattle.view_tree.specs.Rows.{Row, head_view, key_where, leaf, count_of_key, with_child}
 use Rattle.view_tree.specs.node.Nodes.{PlainNode, links_in, links_at, held_in, linked, replaced_if_none, forest, last_child, last_named, node_runs, runs_at, RepresentsTree, tree_of, value_of, IsPlanted, holders_of}
 use Rattle.view_tree.specs.Views.{Views, Held, IsLive, IsTree, fresh_held, held_of, held_or, number_of, plain_of, plain_rows}

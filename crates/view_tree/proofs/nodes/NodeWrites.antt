@@ -13,7 +13,7 @@ use Rattle.view_model.specs.PlainTree.{PlainView}
 use Rattle.view_tree.specs.table.Holders.{renamed}
 use Rattle.view_tree.specs.Rows.{Row, part_from, head_view, key_where, changed_at_key, count_of_key}
 use Rattle.view_tree.specs.node.Nodes.{PlainNode, links_in, links_of, links_at, held_by, held_in, RepresentsTree, forest, tree_of, value_of, view_of_node, IsPlanted, IsSoundTree, holders_of}
-use Rattle.view_tree.specs.sibling_orders.Ordering.{group_at}
+use Rattle.sibling_orders.specs.Ordering.{group_at}
 use Rattle.view_tree.proofs.orders.OnlyLayouts.{only-same}
 use Rattle.view_tree.proofs.orders.RowLaws.{grouped_kept}
 use Rattle.view_tree.specs.Views.{Views, IsLive, IsTree, SameTree, KeepsOthers, held_of, held_or}

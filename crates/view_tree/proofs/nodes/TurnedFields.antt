@@ -14,7 +14,8 @@ use Rattle.view_model.specs.PlainTree.{PlainView}
 use Rattle.view_tree.proofs.nodes.NodeWrites.{len_write}
 use Rattle.view_tree.specs.tree.Directions.{directed_rows, is_rtl_above, turned_keys, with_direction}
 use Rattle.view_tree.specs.node.Nodes.{IsPlanted, IsSoundTree, PlainNode, RepresentsTree, forest, held_in, links_at, links_in, tree_of, value_of}
-use Rattle.view_tree.specs.sibling_orders.Ordering.{HasNoOther, IsGrouped, group_at}
+use Rattle.view_tree.specs.tree.Groups.{HasNoOther}
+use Rattle.sibling_orders.specs.Ordering.{IsGrouped, group_at}
 use Rattle.view_tree.specs.Rows.{Row, changed_at_key, count_of_key, first_tree, key_where, part_from}
 use Rattle.view_tree.specs.node.Turning.{HaveTurned, IsPart, RunsBelow, part_at}
 use Rattle.view_tree.specs.tree.Requests.{among, forced_one, pressed}

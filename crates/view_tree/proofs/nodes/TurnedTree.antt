@@ -9,7 +9,8 @@ use Rattle.view_model.specs.Forest.{Forest, Nothing, Branch, count_of, sum_of}
 use Rattle.view_model.specs.PlainTree.{PlainView}
 use Rattle.view_tree.specs.tree.Directions.{directed_rows, with_direction}
 use Rattle.view_tree.specs.node.Nodes.{has_id, holders_of}
-use Rattle.view_tree.specs.sibling_orders.Ordering.{HasNoOther, IsGrouped, is_layout}
+use Rattle.view_tree.specs.tree.Groups.{HasNoOther, is_layout}
+use Rattle.sibling_orders.specs.Ordering.{IsGrouped}
 use Rattle.view_tree.specs.Rows.{Row, around, changed_at_key, count_of_key, count_of_number, count_where, key_where, keys_where, later_siblings}
 use Rattle.view_tree.specs.Views.{AreDirected, GroupsOnly, Held, IsTree, Unscrolled, Views, plain_rows, scrolled}
 use Rattle.view_tree.proofs.forest.IdLaws.{key_of, one_of}

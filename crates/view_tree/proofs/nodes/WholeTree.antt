@@ -5,7 +5,7 @@ use Rattle.std.specs.Prelude.{[], ◌∷◌}
 use Rattle.view_model.specs.PlainTree.{PlainView}
 use Rattle.view_tree.specs.tree.Attached.{Attached}
 use Rattle.view_tree.specs.node.Nodes.{IsPlanted, IsSoundTree, fields, tree_of, value_of}
-use Rattle.view_tree.specs.sibling_orders.Ordering.{IsGrouped, PlainGroup, PlainOrders, group_at, orders_in}
+use Rattle.sibling_orders.specs.Ordering.{IsGrouped, PlainGroup, PlainOrders, group_at, orders_in}
 use Rattle.view_tree.specs.tree.Sowing.{GainedBelow}
 use Rattle.view_tree.specs.Views.{Views, plain_of}
 use Rattle.view_tree.specs.declared.counts.Counts.{Counts}

@@ -20,21 +20,22 @@ use Rattle.view_model.specs.Forest.{Forest, Nothing, Branch, EveryBranch, change
 use Rattle.view_model.specs.PlainTree.{PlainView}
 use Rattle.view_model.specs.Refusals.{PlainRefusal, plain_refusal}
 use Rattle.view_tree.proofs.forest.ForestLaws.{times_in}
-use Rattle.view_tree.specs.sibling_orders.Cycles.{AreNewOrders, HasNoCycle, IsCycleReported, IsFree, links_below, view_member}
+use Rattle.view_tree.specs.tree.Sorted.{AreNewOrders, links_below}
+use Rattle.sibling_orders.specs.Cycles.{HasNoCycle, IsCycleReported, IsFree, view_member}
 use Rattle.view_tree.specs.Faults.{IsRefusedOrCyclic}
-use Rattle.view_tree.specs.sibling_orders.Latest.{AreRising}
+use Rattle.sibling_orders.specs.Latest.{AreRising}
 use Rattle.view_tree.specs.node.Nodes.{PlainNode, RepresentsPart, RepresentsTree}
 use Rattle.view_model.specs.Classes.{is_relative}
 use Rattle.view_model.specs.Cycles.{cycle_below, first_cycle, link_of, links_in, numbers_in}
-use Rattle.view_tree.specs.sibling_orders.Ordering.{AreOrders, IsGrouped, IsGroupedAt, IsKeptOf, IsRuledAt, PlainGroup, PlainOrders, link_or, linked_in, plain_orders}
+use Rattle.sibling_orders.specs.Ordering.{AreOrders, IsGrouped, IsGroupedAt, IsKeptOf, IsRuledAt, PlainGroup, PlainOrders, link_or, linked_in, plain_orders}
 use Rattle.view_tree.specs.Rows.{Row, children_of_first, count_of_key, count_of_number, head_view, later_siblings, part_from, views_of}
 use Rattle.view_tree.specs.Views.{Held, IsLive, IsTree, Views, class_of, group_number, held_of, number_of, orders_under, plain_of, plain_rows, scrolled}
 use Rattle.view_tree.proofs.forest.Forests.{some_is}
 use Rattle.view_tree.proofs.forest.KeyLaws.{Agree, Within, from_within, here, in_after, in_below, located, number-within, zero_or_more}
 use Rattle.view_tree.proofs.forest.PlainLaws.{agree_live}
 use Rattle.view_tree.proofs.orders.FirstCycles.{HaveCyclesAt, first_at, reported_is}
-use Rattle.view_tree.proofs.orders.HighestLaws.{above_changed, named_more}
-use Rattle.view_tree.proofs.orders.LatestLaws.{reached_changed}
+use Rattle.sibling_orders.proofs.HighestLaws.{above_changed, named_more}
+use Rattle.sibling_orders.proofs.LatestLaws.{reached_changed}
 use Rattle.view_tree.proofs.orders.ListLaws.{IsAmong, among_or_not, among_times, edited_nowhere, each-changed_below, every_by, length-each}
 use Rattle.view_tree.proofs.orders.RowLaws.{at_within, count_within, each-plain, every_within, few_numbers, group_number-own, numbered_at, numbers-plain, orders_or, times-plain}
 use Rattle.view_tree.proofs.orders.TreeLaws.{Groups, HasParent, Owes, grouped-edited, kept_along}

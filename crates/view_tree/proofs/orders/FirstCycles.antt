@@ -12,8 +12,8 @@ use Rattle.view_model.specs.PlainTree.{PlainView}
 use Rattle.view_model.specs.Refusals.{Cycle, PlainRefusal}
 use Rattle.view_tree.proofs.forest.ForestLaws.{times_in}
 use Rattle.view_tree.proofs.forest.PlainLaws.{or_none}
-use Rattle.view_tree.specs.sibling_orders.Cycles.{AreCyclic, HasNoCycle, IsCycleReported, IsFree}
-use Rattle.view_tree.proofs.orders.CycleLists.{map_twice, none_of, reported_of}
+use Rattle.sibling_orders.specs.Cycles.{AreCyclic, HasNoCycle, IsCycleReported, IsFree}
+use Rattle.sibling_orders.proofs.CycleLists.{map_twice, none_of, reported_of}
 use Rattle.view_tree.proofs.orders.ListLaws.{among_times}
 
 module _ (name : ℕ → Member) (kids : Forest PlainView) where

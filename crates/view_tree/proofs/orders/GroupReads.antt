@@ -2,16 +2,16 @@
 use Rattle.std.proofs.Common.{◌≡◌, ℕ, true, Option, Some, None, sym, ◌∙◌, ap, subst}
 use Rattle.std.specs.Prelude.{nat_eq, option_map}
 use Rattle.std.specs.Map.{lookup}
-use Rattle.view_tree.specs.declared.sibling_orders.SiblingOrders.{SiblingOrders}
+use Rattle.sibling_orders.specs.declared.groups.SiblingOrders.{SiblingOrders}
 use Rattle.view_tree.specs.declared.tree.ViewTree.TheInside.{Inside}
 use Rattle.view_tree.specs.node.Nodes.{IsSoundTree, value_of}
 use Rattle.view_model.specs.Classes.{is_relative}
 use Rattle.view_model.specs.Cycles.{links_in, numbers_in}
 use Rattle.view_model.specs.Forest.{Forest}
 use Rattle.view_model.specs.PlainTree.{PlainView}
-use Rattle.view_tree.specs.sibling_orders.Highest.{IsAboveNamed}
-use Rattle.view_tree.specs.sibling_orders.Latest.{AreReached, AreRising}
-use Rattle.view_tree.specs.sibling_orders.Ordering.{HasRightMarks, AreOrders, IsGroupOf, IsGrouped, IsKeptOf, PlainGroup, group_at, plain_group, plain_orders}
+use Rattle.sibling_orders.specs.Highest.{IsAboveNamed}
+use Rattle.sibling_orders.specs.Latest.{AreReached, AreRising}
+use Rattle.sibling_orders.specs.Ordering.{HasRightMarks, AreOrders, IsGroupOf, IsGrouped, IsKeptOf, PlainGroup, group_at, plain_group, plain_orders}
 use Rattle.view_tree.specs.Rows.{children_of_first, part_from, views_of}
 use Rattle.view_tree.specs.Views.{IsLive, Views, class_of, held_of, number_of, orders_of, plain_of, plain_rows}
 use Rattle.view_tree.proofs.orders.RowLaws.{group_there, links-plain, numbers-plain, orders_are}

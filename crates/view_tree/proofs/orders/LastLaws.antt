@@ -8,7 +8,7 @@ use Rattle.view_model.specs.Forest.{Forest, Branch}
 use Rattle.view_model.specs.SiblingRules.{last_below, last_with_id, no_link}
 use Rattle.view_model.specs.declared.relative.Link.{Link}
 use Rattle.view_tree.specs.declared.tree.ViewTree.TheInside.{Inside}
-use Rattle.view_tree.specs.sibling_orders.Latest.{IsLatest}
+use Rattle.sibling_orders.specs.Latest.{IsLatest}
 use Rattle.view_tree.specs.node.Nodes.{IsPlanted, value_of}
 use Rattle.view_tree.specs.Rows.{Row, ancestors, children_of_first, first_key, head_view, part_from, siblings_from, views_of}
 use Rattle.view_tree.specs.Views.{IsLive, IsTree, Views, held_of, number_of, plain_rows}
@@ -16,7 +16,7 @@ use Rattle.view_tree.proofs.forest.Forests.{some_is}
 use Rattle.view_tree.proofs.forest.KeyLaws.{from_within, located}
 use Rattle.view_tree.proofs.nodes.NodeReads.{is_tree}
 use Rattle.view_tree.proofs.orders.IdPlaces.{kid_place, last_cases}
-use Rattle.view_tree.proofs.orders.LatestLaws.{place_up}
+use Rattle.sibling_orders.proofs.LatestLaws.{place_up}
 use Rattle.view_tree.proofs.orders.ListLaws.{IsAmong, length-each}
 use Rattle.view_tree.proofs.orders.ReportedParents.{reported_child}
 use Rattle.view_tree.proofs.orders.RowLaws.{ChildAt, child_there, link_there, numbered_key, within_children}

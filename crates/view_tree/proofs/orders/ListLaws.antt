@@ -7,7 +7,7 @@ use Rattle.view_model.specs.Forest.{Forest, Nothing, Branch, EveryBranch, EveryR
 use Rattle.view_model.specs.PlainTree.{PlainView, grown, pruned}
 use Rattle.view_model.specs.Cycles.{each, numbers_in}
 use Rattle.view_tree.proofs.forest.ForestLaws.{times_in}
-use Rattle.view_tree.specs.sibling_orders.Ordering.{place_in}
+use Rattle.sibling_orders.specs.Ordering.{place_in}
 
 -- a number among the views of a list
 abbrev pub IsAmong : ℕ → Forest PlainView → Type 0

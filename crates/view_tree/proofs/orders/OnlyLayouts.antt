@@ -6,7 +6,8 @@ use Rattle.view_model.specs.Classes.{is_relative}
 use Rattle.view_model.specs.Forest.{Forest, Nothing, sum_of}
 use Rattle.view_model.specs.Layout.{unscrolled}
 use Rattle.view_model.specs.PlainTree.{PlainView}
-use Rattle.view_tree.specs.sibling_orders.Ordering.{HasNoOther, IsTakenAt, is_layout}
+use Rattle.view_tree.specs.tree.Groups.{HasNoOther, is_layout}
+use Rattle.sibling_orders.specs.Ordering.{IsTakenAt}
 use Rattle.view_tree.specs.Rows.{Row, changed_at_key, children_of_first, count_of_key, count_where, first_tree, head_view, leaf, part_from, pruned_at_key, with_child}
 use Rattle.view_tree.proofs.forest.IdLaws.{one_of, sum-leaf}
 use Rattle.view_tree.proofs.forest.KeyLaws.{located}

@@ -11,11 +11,11 @@ use Rattle.view_model.specs.Orders.{IsOrder}
 use Rattle.view_model.specs.SiblingRules.{no_link}
 use Rattle.view_model.specs.PlainTree.{PlainView, pruned, single}
 use Rattle.view_tree.proofs.forest.ForestLaws.{times_in}
-use Rattle.view_tree.specs.declared.sibling_orders.SiblingOrders.{SiblingOrders}
+use Rattle.sibling_orders.specs.declared.groups.SiblingOrders.{SiblingOrders}
 use Rattle.view_tree.specs.node.Nodes.{PlainNode, RepresentsPart, RepresentsTree}
 use Rattle.view_model.specs.Classes.{is_relative}
 use Rattle.view_model.specs.Cycles.{each, link_of, links_in, numbers_in}
-use Rattle.view_tree.specs.sibling_orders.Ordering.{IsGrouped, IsGroupedAt, IsKeptOf, IsTakenAt, PlainGroup, PlainOrders, no_group, no_orders, orders_in, plain_group, with_kid}
+use Rattle.sibling_orders.specs.Ordering.{IsGrouped, IsGroupedAt, IsKeptOf, IsTakenAt, PlainGroup, PlainOrders, no_group, no_orders, orders_in, plain_group, with_kid}
 use Rattle.view_tree.specs.Rows.{Row, children_of_first, count_of_number, first_key, head_view, part_from, siblings_from, views_of}
 use Rattle.view_tree.specs.Views.{Held, IsLive, IsTree, Views, class_of, group_number, held_of, number_of, offset_of, plain_of, plain_rows, scrolled, view_at}
 use Rattle.view_tree.proofs.forest.Forests.{RepresentsPart-within, Within-children_of_first, Within-later_siblings, some_is}

@@ -13,10 +13,11 @@ use Rattle.view_model.specs.declared.facts.Rules.{Rules}
 use Rattle.view_model.specs.declared.relative.Axis.{Axis}
 use Rattle.view_model.specs.declared.relative.Axis.TheVariants.{Horizontal, Vertical}
 use Rattle.view_model.specs.declared.relative.Link.{Link}
-use Rattle.view_tree.specs.sibling_orders.Cycles.{links_below}
-use Rattle.view_tree.specs.sibling_orders.Ordering.{AreOrders, PlainOrders, link_or}
+use Rattle.view_tree.specs.tree.Sorted.{links_below}
+use Rattle.sibling_orders.specs.Ordering.{AreOrders, PlainOrders, link_or}
 use Rattle.view_tree.specs.Rows.{Row, children_of_first, count_of_key, head_view, later_siblings, part_from, siblings_from, views_of}
-use Rattle.view_tree.specs.sibling_orders.Staying.{AreBefore, IsBefore, IsLastIn, MayNameAll, NamesNone}
+use Rattle.view_tree.specs.tree.Staying.{AreBefore, MayNameAll, NamesNone}
+use Rattle.sibling_orders.specs.Staying.{IsBefore, IsLastIn}
 use Rattle.view_tree.specs.Views.{IsLive, IsOnlyHolder, IsTree, Views, number_of}
 use Rattle.view_tree.proofs.forest.Forests.{Within-later_siblings}
 use Rattle.view_tree.proofs.forest.KeyLaws.{Within, count_of_key-within, from_within, located, times_self}

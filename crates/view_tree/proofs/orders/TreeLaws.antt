@@ -17,14 +17,14 @@ use Rattle.view_model.specs.PlainTree.{PlainView, grown, pruned, single}
 use Rattle.view_model.specs.SiblingRules.{leads, names, no_link}
 use Rattle.view_model.specs.Classes.{is_relative}
 use Rattle.view_model.specs.Cycles.{link_of, links_in, numbers_in}
-use Rattle.view_tree.specs.sibling_orders.Ordering.{AreOrders, IsGroupOf, IsGrouped, IsGroupedAt, IsKeptOf, IsTakenAt, IsWithoutKid, PlainGroup, place_in, with_kid}
-use Rattle.view_tree.specs.sibling_orders.Highest.{IsAboveNamed, IsAboveRules}
-use Rattle.view_tree.specs.sibling_orders.Latest.{AreReached, AreRising, IsReachedIn}
-use Rattle.view_tree.specs.sibling_orders.Indexes.{IsLowered, StaysWithin, passing}
+use Rattle.sibling_orders.specs.Ordering.{AreOrders, IsGroupOf, IsGrouped, IsGroupedAt, IsKeptOf, IsTakenAt, IsWithoutKid, PlainGroup, place_in, with_kid}
+use Rattle.sibling_orders.specs.Highest.{IsAboveNamed, IsAboveRules}
+use Rattle.sibling_orders.specs.Latest.{AreReached, AreRising, IsReachedIn}
+use Rattle.sibling_orders.specs.Indexes.{IsLowered, StaysWithin, passing}
 use Rattle.view_tree.proofs.forest.ForestLaws.{every_branch-joined, times_in}
-use Rattle.view_tree.proofs.orders.LatestLaws.{reached_with, rising_remove, rising_with, straight_with}
+use Rattle.sibling_orders.proofs.LatestLaws.{reached_with, rising_remove, rising_with, straight_with}
 use Rattle.view_tree.proofs.orders.ListLaws.{IsAmong, among_or_not, each-changed, each-grown, each-joined, each-pruned, each-pruned_below, edited_nowhere, every_below, every_both, every_by, length-each, place_past, place_within}
-use Rattle.view_tree.proofs.orders.IndexLaws.{IsOrder-add, passes, passing_injective, place_passing}
+use Rattle.sibling_orders.proofs.IndexLaws.{IsOrder-add, passes, passing_injective, place_passing}
 
 -- a group is that of other children too, if these are tied alike
 pub kept_along : (old new : Forest PlainView) (group : Option PlainGroup) → links_in new ≡ links_in old → numbers_in new ≡ numbers_in old → IsKeptOf old group → IsKeptOf new group

@@ -11,7 +11,8 @@ use Rattle.view_model.specs.Forest.{Forest, Nothing, Branch, count_of}
 use Rattle.view_model.specs.Layout.{unscrolled}
 use Rattle.view_model.specs.PlainTree.{PlainView}
 use Rattle.view_tree.specs.table.Holders.{holders}
-use Rattle.view_tree.specs.sibling_orders.Ordering.{HasNoOther, IsGrouped, group_at, orders_in}
+use Rattle.view_tree.specs.tree.Groups.{HasNoOther}
+use Rattle.sibling_orders.specs.Ordering.{IsGrouped, group_at, orders_in}
 use Rattle.view_tree.specs.Rows.{Row, later_siblings, count_where, first_key, key_where, keys_where, last_key}
 use Rattle.view_tree.specs.Rows.{count_of_key}
 use Rattle.view_tree.specs.Views.{Held, IsTree, Views, no_counts, plain_of}

@@ -3,8 +3,9 @@ use Rattle.std.specs.Prelude.{◌≡◌, ◌≢◌, ℕ, true, Option, Some, Non
 use Rattle.std.specs.Map.{lookup}
 use Rattle.view_model.specs.Classes.{is_relative}
 use Rattle.view_model.specs.Cycles.{numbers_in}
-use Rattle.view_tree.specs.sibling_orders.Ordering.{PlainOrders, is_layout, place_in}
-use Rattle.view_tree.specs.sibling_orders.Indexes.{IsLowered}
+use Rattle.sibling_orders.specs.Ordering.{PlainOrders, place_in}
+use Rattle.view_tree.specs.tree.Groups.{is_layout}
+use Rattle.sibling_orders.specs.Indexes.{IsLowered}
 use Rattle.view_tree.specs.Rows.{ancestors, children_of_first, count_of_number, count_where, first_tree, part_from}
 use Rattle.view_tree.specs.Rows.{views_of}
 use Rattle.view_tree.specs.Views.{Views, class_of, group_number, number_of, orders_of, orders_under}

@@ -1,32 +1,22 @@
 -- What is kept of relative layouts when a sapling is added, and which of their cycles are reported then.
-use Rattle.std.specs.Prelude.{◌≡◌, ℕ, suc, ◌==◌, ◌++◌, Bool, true, false, if◌then◌else◌, nat_eq, nat_lt, List, [], ◌∷◌}
-use Rattle.std.specs.Prelude.{length, map, slice_index, Option, Some, None, Result, Ok, Err}
+use Rattle.std.specs.Prelude.{◌≡◌, ℕ, suc, ◌==◌, ◌++◌, Bool, true, false, if◌then◌else◌, nat_lt, List, [], ◌∷◌}
+use Rattle.std.specs.Prelude.{Option, Some, None}
 use Rattle.std.specs.Option.{option_or}
 use Rattle.view_model.specs.Classes.{is_relative}
-use Rattle.view_model.specs.Cycles.{cycle_with, links_in, member_from, numbers_in}
+use Rattle.view_model.specs.Cycles.{links_in, member_from, numbers_in}
 use Rattle.view_model.specs.declared.refusal.Member.{Member}
-use Rattle.view_model.specs.declared.relative.Axis.TheVariants.{Horizontal, Vertical}
 use Rattle.view_model.specs.declared.relative.Link.{Link}
 use Rattle.view_model.specs.declared.sprout.Sprout.{Sprout}
-use Rattle.view_model.specs.Orders.{members_of}
-use Rattle.view_model.specs.Refusals.{PlainRefusal, plain_refusal}
-use Rattle.view_model.specs.SiblingRules.{leads}
-use Rattle.view_model.specs.declared.fault.Fault.{Fault}
-use Rattle.view_model.specs.declared.fault.Fault.TheVariants as fault
-use Rattle.view_tree.specs.declared.sibling_orders.SiblingOrders.{SiblingOrders}
-use Rattle.view_tree.specs.sibling_orders.Ordering.{IsNewGroupFor, PlainGroup, plain_group}
+use Rattle.view_model.specs.Refusals.{PlainRefusal}
+use Rattle.sibling_orders.specs.declared.groups.SiblingOrders.{SiblingOrders}
+use Rattle.sibling_orders.specs.Cycles.{cycle_of}
+use Rattle.sibling_orders.specs.Ordering.{IsNewGroupFor, plain_group}
 use Rattle.view_tree.specs.Rows.{children_of_first, part_from, views_of}
 use Rattle.view_tree.specs.Views.{Views, class_of, number_of}
 
 -- what rules read of a view that is added
 abbrev pub sprout_link : Sprout → Link
 sprout_link sprout = record { id = sprout.facts.id; rules = sprout.facts.rules }
-
--- what is reported if children with these links and these numbers are to be put in order
-abbrev pub cycle_of : (ℕ → Member) → List Link → List ℕ → Option PlainRefusal
-cycle_of name links numbers =
-    option_or (cycle_with name false (map (slice_index numbers) (members_of (leads Horizontal links) (length links))))
-    (cycle_with name true (map (slice_index numbers) (members_of (leads Vertical links) (length links))))
 
 -- a value of each child of a view of this depth, by its number: the children are those one deeper among the views after
 -- it in preorder, until one is no deeper; the first of these has this number
@@ -83,17 +73,6 @@ AreEntries number (sprout ∷ more) entries =
     (own : List (ℕ × SiblingOrders)) × (rest : List (ℕ × SiblingOrders)) × (entries ≡ own ++ rest)
     × IsFollowing number sprout more own × AreEntries (suc number) more rest
 
--- a value is made, or the reason against it is reported, unless memory runs out
-abbrev pub IsMadeUnless : {A : Type 0} → Option PlainRefusal → (A → Type 0) → Result A Fault → Type 0
-IsMadeUnless reason Made (Ok made) = (reason ≡ None) × Made made
-IsMadeUnless reason Made (Err (fault.Refused refusal)) = reason ≡ Some (plain_refusal refusal)
-IsMadeUnless reason Made (Err fault.NoMemory) = Unit {0}
-
--- the result for children that are to be put in order
-abbrev pub IsGroupOrCycle : (ℕ → Member) → List Link → List ℕ → Result SiblingOrders Fault → Type 0
-IsGroupOrCycle name links numbers result =
-    IsMadeUnless (cycle_of name links numbers) (λ group. IsNewGroupFor links numbers (plain_group group)) result
-
 -- some entries come after others
 pub record HasAdded (old new : List (ℕ × SiblingOrders)) (Made : List (ℕ × SiblingOrders) → Type 0) : Type 0 where
   pub added : List (ℕ × SiblingOrders)
@@ -121,12 +100,6 @@ IsParentEntry views None sprout entries = entries ≡ []
 IsParentEntry views (Some parent) sprout entries =
     IsOwnFor (is_relative (class_of views parent)) (number_of views parent)
     (links_then views parent (sprout_link sprout)) (numbers_then views parent) entries
-
--- what a table has under a number once entries are inserted one after another, if it had this before
-abbrev pub noted : List (ℕ × SiblingOrders) → ℕ → Option PlainGroup → Option PlainGroup
-noted [] number before = before
-noted (entry ∷ entries) number before =
-    noted entries number (if nat_eq entry.0 number then Some (plain_group entry.1) else before)
 
 -- what is reported if a sapling is added: of its parent, or else of its own views
 abbrev pub entries_cycle : Views → Option ℕ → List Sprout → Option PlainRefusal

@@ -10,7 +10,8 @@ ghost use Rattle.view_model.specs.Sprouts.{IsPreorder, Seed, follows, preorder, 
 ghost use Rattle.view_model.specs.Refusals.{RefusesExactlyFor};
 ghost use Rattle.view_tree.specs.Faults.{IsRefusedOrCyclic};
 ghost use Rattle.view_tree.specs.tree.Grafted.{Grafted};
-ghost use Rattle.view_tree.specs.tree.Grafting.{AreGrafted, IsGroupOrCycle, IsMadeUnless, IsParentEntry, entries_cycle, links_then, numbers_then, parent_cycle};
+ghost use Rattle.view_tree.specs.tree.Grafting.{AreGrafted, IsParentEntry, entries_cycle, links_then, numbers_then, parent_cycle};
+ghost use Rattle.sibling_orders.specs.Cycles.{IsGroupOrCycle, IsMadeUnless};
 ghost use Rattle.view_tree.specs.Views.{IsLive, group_number, number_of, orders_under, plain_of, KeepsCounts, IsRelative};
 ghost use Rattle.view_model.specs.Failing.{KeepsOnErr};
 
@@ -19,9 +20,8 @@ use super::bed::Bed;
 use super::relatives::{push_entry, sprout_link, with_entries};
 use super::{Key, ViewTree};
 use crate::fault::AttachFault;
-use crate::sibling_orders::kids::{Kids, group_of};
-use crate::sibling_orders::{SiblingOrders, make_group_room, note_groups};
 use crate::table::make_room;
+use sibling_orders::{Kids, SiblingOrders, group_of, make_group_room, note_groups};
 use std::alloc::{AllocError, Global};
 use view_model::limits::MAX_DEPTH;
 use view_model::{Class, Detail, Link, Refusal, Sapling, Sprout};

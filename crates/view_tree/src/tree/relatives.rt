@@ -5,11 +5,11 @@
 ghost use Rattle.std.specs.Prelude.{◌≡◌, ◌<◌, ◌≤◌, ◌+◌, ◌^◌, ◌++◌, ◌∷◌, [], None, suc, length, IfOk};
 ghost use Rattle.view_model.specs.Cycles.{member_from};
 ghost use Rattle.view_model.specs.Numbers.{max_views};
-ghost use Rattle.view_tree.specs.tree.Grafting.{AreEntries, HasAdded, IsFollowing, IsGroupOrCycle, IsMadeUnless, cycle_after, cycle_in, links_following, numbers_following, sprout_link};
+ghost use Rattle.view_tree.specs.tree.Grafting.{AreEntries, HasAdded, IsFollowing, cycle_after, cycle_in, links_following, numbers_following, sprout_link};
+ghost use Rattle.sibling_orders.specs.Cycles.{IsGroupOrCycle, IsMadeUnless};
 
 use crate::fault::AttachFault;
-use crate::sibling_orders::SiblingOrders;
-use crate::sibling_orders::kids::{Kids, group_of};
+use sibling_orders::{Kids, SiblingOrders, group_of};
 use std::alloc::{AllocError, Global};
 use view_model::{Link, Sprout};
 

@@ -1,19 +1,20 @@
 //! The ids and the rules of views, and the orders that depend on them.
 ghost use Rattle.std.specs.Prelude.{◌≡◌, ◌≢◌, ◌<◌, ℕ, length, map, slice_get, slice_index, None, Some, IfOk, IfSome, OnOk};
 ghost use Rattle.view_model.specs.PlainTree.{with_facts};
-ghost use Rattle.view_tree.specs.sibling_orders.Cycles.{AreNewOrders, IsReportedFrom, view_member};
+ghost use Rattle.view_tree.specs.tree.Sorted.{AreNewOrders};
+ghost use Rattle.sibling_orders.specs.Cycles.{IsReportedFrom, view_member};
 ghost use Rattle.view_tree.specs.Faults.{IsRefusedOrCyclic};
 ghost use Rattle.view_model.specs.Cycles.{first_cycle, link_of, numbers_in};
-ghost use Rattle.view_tree.specs.sibling_orders.Ordering.{link_or, linked_in};
+ghost use Rattle.sibling_orders.specs.Ordering.{link_or, linked_in};
 ghost use Rattle.view_tree.specs.Rows.{ancestors, changed_at_key, children_of_first, part_from, views_of};
 ghost use Rattle.view_tree.specs.Views.{IsLive, group_number, held_of, number_of, orders_under, plain_of, view_at, KeepsNext, KeepsCounts, IsRelative};
 ghost use Rattle.view_model.specs.Failing.{KeepsOnErr};
 
 use super::{Key, ViewTree};
 use crate::fault::AttachFault;
-use crate::sibling_orders::{make_id_room, set_orders};
 use crate::table::ids::rename;
 use relative_layout::{OrderFault, Orders, order};
+use sibling_orders::{make_id_room, set_orders};
 use std::alloc::{AllocError, Global};
 use view_model::refusals::CYCLE;
 use view_model::{Detail, Link, Member, Refusal, Rules};

@@ -8,17 +8,17 @@ ghost use Rattle.std.specs.Prelude.{◌≡◌, ◌≢◌, ◌<◌, ℕ, ◌⊎�
 ghost use Rattle.view_model.specs.Cycles.{links_in, numbers_in};
 ghost use Rattle.view_model.specs.SiblingRules.{names};
 ghost use Rattle.view_model.specs.declared.relative.Axis.TheVariants.{Horizontal, Vertical};
-ghost use Rattle.view_tree.specs.sibling_orders.Cycles.{links_below};
-ghost use Rattle.view_tree.specs.sibling_orders.Ordering.{AreOrders};
+ghost use Rattle.view_tree.specs.tree.Sorted.{links_below};
+ghost use Rattle.sibling_orders.specs.Ordering.{AreOrders};
 ghost use Rattle.view_tree.specs.Rows.{children_of_first, part_from, views_of};
-ghost use Rattle.view_tree.specs.sibling_orders.Highest.{IsAboveNamed};
-ghost use Rattle.view_tree.specs.sibling_orders.Staying.{AreBefore, IsBefore, IsLastIn, IsMarkedOrder, MayName, MayNameAll, NamesNone};
+ghost use Rattle.sibling_orders.specs.Highest.{IsAboveNamed};
+ghost use Rattle.view_tree.specs.tree.Staying.{AreBefore, MayName, MayNameAll, NamesNone};
+ghost use Rattle.sibling_orders.specs.Staying.{IsBefore, IsLastIn, IsMarkedOrder};
 ghost use Rattle.view_tree.specs.Views.{IsLive, number_of, orders_of, view_at, IsRelative};
 
 use super::{Key, ViewTree};
-use crate::sibling_orders::SiblingOrders;
-use crate::sibling_orders::ordered::OrderedKid;
 use relative_layout::named_ids;
+use sibling_orders::{OrderedKid, SiblingOrders};
 use view_model::{Axis, Link, Rules};
 
 impl ViewTree {

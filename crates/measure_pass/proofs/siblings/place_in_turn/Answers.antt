@@ -4,7 +4,7 @@ use Rattle.std.specs.Option.{option_map}
 use Rattle.measure_pass.specs.Siblings.{kids_in}
 use Rattle.measure_pass.proofs.relatives.SiblingTurns.{lent, order_length, place_below}
 use Rattle.view_model.specs.declared.relative.Axis.TheVariants.{Horizontal, Vertical}
-use Rattle.view_tree.specs.sibling_orders.Ordering.{PlainOrders, plain_orders}
+use Rattle.sibling_orders.specs.Ordering.{PlainOrders, plain_orders}
 use Rattle.view_tree.specs.Rows.{children_of_first, part_from}
 use Rattle.view_tree.specs.Views.{class_of, orders_of}
 use Rattle.measure_pass.proofs.siblings.place_in_turn.Goals as goal

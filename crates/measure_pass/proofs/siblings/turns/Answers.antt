@@ -3,7 +3,7 @@ use Rattle.std.specs.Option.{option_map}
 use Rattle.measure_pass.specs.Siblings.{kids_in}
 use Rattle.measure_pass.proofs.relatives.SiblingTurns.{lent, order_length}
 use Rattle.view_model.specs.declared.relative.Axis.TheVariants.{Horizontal}
-use Rattle.view_tree.specs.sibling_orders.Ordering.{PlainOrders, plain_orders}
+use Rattle.sibling_orders.specs.Ordering.{PlainOrders, plain_orders}
 use Rattle.view_tree.specs.Rows.{children_of_first, part_from}
 use Rattle.view_tree.specs.Views.{class_of, orders_of}
 use Rattle.measure_pass.proofs.siblings.turns.Goals as goal

@@ -4,7 +4,8 @@ use Rattle.view_tree.specs.tree.Attached.{Attached}
 use Rattle.view_tree.specs.tree.Bed.{represented}
 use Rattle.view_tree.specs.tree.Directions.{running_below}
 use Rattle.view_tree.specs.node.Nodes.{value_of, views_in}
-use Rattle.view_tree.specs.sibling_orders.Ordering.{HasNoOther, IsGrouped, group_at, orders_in}
+use Rattle.view_tree.specs.tree.Groups.{HasNoOther}
+use Rattle.sibling_orders.specs.Ordering.{IsGrouped, group_at, orders_in}
 use Rattle.view_tree.specs.Rows.{leaf}
 use Rattle.view_tree.specs.Views.{Views, orders_under, plain_of}
 use Rattle.view_tree.specs.declared.tree.ViewTree.TheInside.{Inside}

@@ -1,6 +1,6 @@
 use Rattle.std.proofs.Common.{ℕ, ◌<◌, get_or}
 use Rattle.view_tree.specs.Rows.{children_of_first, part_from}
-use Rattle.view_tree.specs.sibling_orders.Staying.{MayName}
+use Rattle.view_tree.specs.tree.Staying.{MayName}
 use Rattle.view_tree.proofs.tree.ViewTree.follows.Given as goal
 
 abbrev pub invariant-loop-k : goal.invariant-loop-k

@@ -14,11 +14,13 @@ use Rattle.view_tree.specs.tree.Attached.{Attached}
 use Rattle.view_tree.specs.tree.Bed.{represented}
 use Rattle.view_tree.specs.tree.Directions.{running_below}
 use Rattle.view_tree.specs.tree.Grafted.{Grafted}
-use Rattle.view_tree.specs.tree.Grafting.{AreGrafted, IsMadeUnless, entries_cycle}
+use Rattle.view_tree.specs.tree.Grafting.{AreGrafted, entries_cycle}
+use Rattle.sibling_orders.specs.Cycles.{IsMadeUnless}
 use Rattle.view_tree.specs.node.Nodes.{value_of, views_in}
-use Rattle.view_tree.specs.sibling_orders.Ordering.{HasNoOther, IsGrouped, group_at, orders_in}
+use Rattle.view_tree.specs.tree.Groups.{HasNoOther}
+use Rattle.sibling_orders.specs.Ordering.{IsGrouped, group_at, orders_in}
 use Rattle.view_tree.specs.Views.{IsLive, Views, no_counts, number_of, orders_under, plain_of}
-use Rattle.view_tree.specs.declared.sibling_orders.SiblingOrders.{SiblingOrders}
+use Rattle.sibling_orders.specs.declared.groups.SiblingOrders.{SiblingOrders}
 use Rattle.view_tree.specs.declared.tree.ViewTree.TheInside.{Inside}
 use Rattle.view_tree.proofs.grafts.EntryLaws.{refused_or}
 use Rattle.view_tree.proofs.grafts.Grafts.{OutermostCame, outermost_came, room_for, taken}

@@ -1,7 +1,7 @@
 use Rattle.std.proofs.Common.{◌∙◌, ◌∷◌, [], ap, arith, length, length-append, refl, subst, sym}
 use Rattle.std.specs.Prelude.{List, ℕ, slice_index}
 use Rattle.view_model.specs.Cycles.{link_of, links_in, numbers_in}
-use Rattle.view_tree.specs.sibling_orders.Latest.{AreRising}
+use Rattle.sibling_orders.specs.Latest.{AreRising}
 use Rattle.view_tree.specs.Rows.{children_of_first, part_from, views_of}
 use Rattle.view_tree.specs.Views.{Views, number_of}
 use Rattle.view_tree.proofs.grafts.EntryLaws.{few_then, near_then, rising_then}

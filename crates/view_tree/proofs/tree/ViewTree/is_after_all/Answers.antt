@@ -1,8 +1,8 @@
 use Rattle.std.proofs.Common.{subst}
 use Rattle.view_model.specs.Cycles.{link_of, links_in, numbers_in}
-use Rattle.view_tree.specs.sibling_orders.Latest.{IsLatest}
+use Rattle.sibling_orders.specs.Latest.{IsLatest}
 use Rattle.view_tree.specs.Rows.{children_of_first, part_from, views_of}
-use Rattle.view_tree.proofs.orders.LatestLaws.{before_none, before_past}
+use Rattle.view_tree.proofs.orders.NamedLaws.{before_none, before_past}
 use Rattle.view_tree.proofs.orders.ListLaws.{length-each}
 use Rattle.view_tree.proofs.tree.ViewTree.is_after_all.Goals as goal
 

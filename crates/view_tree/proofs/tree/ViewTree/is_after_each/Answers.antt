@@ -1,6 +1,6 @@
 use Rattle.std.proofs.Common.{subst}
 use Rattle.view_tree.specs.Rows.{children_of_first, part_from}
-use Rattle.view_tree.specs.sibling_orders.Staying.{AreBefore}
+use Rattle.view_tree.specs.tree.Staying.{AreBefore}
 use Rattle.view_tree.proofs.forest.Walks.{walk_falls, walk_on, walk_start}
 use Rattle.view_tree.proofs.orders.StayLaws.{before_more}
 use Rattle.view_tree.proofs.tree.ViewTree.is_after_each.Goals as goal

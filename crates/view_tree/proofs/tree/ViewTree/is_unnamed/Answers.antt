@@ -3,9 +3,9 @@ use Rattle.view_model.specs.SiblingRules.{names}
 use Rattle.view_model.specs.declared.facts.Facts.{Facts}
 use Rattle.view_model.specs.declared.relative.Axis.TheVariants.{Horizontal, Vertical}
 use Rattle.view_tree.specs.Rows.{children_of_first, part_from}
-use Rattle.view_tree.specs.sibling_orders.Staying.{NamesNone}
+use Rattle.view_tree.specs.tree.Staying.{NamesNone}
 use Rattle.view_tree.proofs.forest.Walks.{walk_falls, walk_on, walk_start}
-use Rattle.view_tree.proofs.orders.HighestLaws.{none_above}
+use Rattle.view_tree.proofs.orders.NamedLaws.{none_above}
 use Rattle.view_tree.proofs.orders.StayLaws.{none_more}
 use Rattle.view_tree.proofs.tree.ViewTree.is_unnamed.Goals as goal
 

@@ -1,6 +1,6 @@
 use Rattle.view_model.specs.Forest.{count_of}
 use Rattle.view_tree.specs.Rows.{children_of_first, part_from, rest_from}
-use Rattle.view_tree.specs.sibling_orders.Staying.{NamesNone}
+use Rattle.view_tree.specs.tree.Staying.{NamesNone}
 use Rattle.view_tree.proofs.forest.Walks.{Walk}
 use Rattle.view_tree.proofs.tree.ViewTree.is_unnamed.Given as goal
 

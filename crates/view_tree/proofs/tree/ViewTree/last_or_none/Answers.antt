@@ -2,7 +2,7 @@ use Rattle.std.proofs.Common.{subst, sym}
 use Rattle.view_tree.proofs.orders.IdPlaces.{no_child}
 use Rattle.view_tree.proofs.orders.LastLaws.{none_reached}
 use Rattle.view_model.specs.Cycles.{links_in, numbers_in}
-use Rattle.view_tree.specs.sibling_orders.Latest.{IsLatest}
+use Rattle.sibling_orders.specs.Latest.{IsLatest}
 use Rattle.view_tree.specs.Rows.{children_of_first, part_from, views_of}
 use Rattle.view_tree.proofs.tree.ViewTree.last_or_none.Goals as goal
 

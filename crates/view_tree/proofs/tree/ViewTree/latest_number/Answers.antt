@@ -1,10 +1,10 @@
 use Rattle.std.proofs.Common.{◌∙◌, ap, sym}
 use Rattle.std.specs.Option.{option_copied}
 use Rattle.view_model.specs.Cycles.{link_of, links_in, numbers_in}
-use Rattle.view_tree.specs.sibling_orders.Ordering.{plain_group}
+use Rattle.sibling_orders.specs.Ordering.{plain_group}
 use Rattle.view_tree.specs.Rows.{children_of_first, part_from, views_of}
 use Rattle.view_tree.proofs.orders.GroupReads.{latest_found, never_none, numbers_found, rising_there}
-use Rattle.view_tree.proofs.orders.LatestLaws.{latest_reached}
+use Rattle.sibling_orders.proofs.LatestLaws.{latest_reached}
 use Rattle.view_tree.proofs.orders.ListLaws.{length-each}
 use Rattle.view_tree.proofs.tree.ViewTree.latest_number.Goals as goal
 

@@ -1,6 +1,6 @@
 use Rattle.std.proofs.Common.{◌≡◌, ◌++◌}
 use Rattle.view_model.specs.Forest.{count_of}
-use Rattle.view_tree.specs.sibling_orders.Ordering.{linked_in}
+use Rattle.sibling_orders.specs.Ordering.{linked_in}
 use Rattle.view_tree.specs.Rows.{children_of_first, part_from, rest_from, views_of}
 use Rattle.view_tree.proofs.forest.Walks.{Walk}
 use Rattle.view_tree.proofs.tree.ViewTree.links_with.Given as goal

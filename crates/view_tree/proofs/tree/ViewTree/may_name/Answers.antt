@@ -1,6 +1,6 @@
 use Rattle.std.proofs.Common.{inl, inr, subst}
 use Rattle.view_tree.specs.Rows.{children_of_first, part_from}
-use Rattle.view_tree.specs.sibling_orders.Staying.{IsBefore}
+use Rattle.sibling_orders.specs.Staying.{IsBefore}
 use Rattle.view_tree.proofs.nodes.NodeReads.{is_tree}
 use Rattle.view_tree.proofs.orders.RowLaws.{within_children}
 use Rattle.view_tree.proofs.orders.StayLaws.{before_only}

@@ -1,5 +1,5 @@
 use Rattle.std.proofs.Common.{◌≡◌, ◌∙◌, ap, arith, false, length, sym}
-use Rattle.view_tree.specs.sibling_orders.Ordering.{link_or}
+use Rattle.sibling_orders.specs.Ordering.{link_or}
 use Rattle.view_tree.specs.Rows.{children_of_first, part_from, views_of}
 use Rattle.view_tree.proofs.orders.CycleLaws.{few_links, members_within}
 use Rattle.relative_layout.specs.declared.ordering.OrderFault.TheVariants as order

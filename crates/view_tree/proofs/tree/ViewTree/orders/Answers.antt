@@ -2,7 +2,7 @@ use Rattle.std.proofs.Common.{◌≡◌, ◌∙◌, true, Some, ap, subst, sym}
 use Rattle.std.specs.Option.{option_copied}
 use Rattle.view_model.specs.Classes.{is_relative}
 use Rattle.view_model.specs.Cycles.{links_in}
-use Rattle.view_tree.specs.sibling_orders.Ordering.{AreOrders}
+use Rattle.sibling_orders.specs.Ordering.{AreOrders}
 use Rattle.view_tree.specs.Rows.{children_of_first, part_from, views_of}
 use Rattle.view_tree.specs.Views.{class_of}
 use Rattle.view_tree.proofs.orders.GroupReads.{never_none, orders_found, orders_value}

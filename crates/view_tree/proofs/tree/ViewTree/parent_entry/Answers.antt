@@ -3,7 +3,8 @@ use Rattle.view_model.specs.Classes.{is_relative}
 use Rattle.view_model.specs.Cycles.{member_from}
 use Rattle.view_model.specs.declared.relative.Link.{Link}
 use Rattle.std.specs.Prelude.{Ok}
-use Rattle.view_tree.specs.tree.Grafting.{IsGroupOrCycle, IsMadeUnless, links_then, numbers_then}
+use Rattle.sibling_orders.specs.Cycles.{IsGroupOrCycle, IsMadeUnless}
+use Rattle.view_tree.specs.tree.Grafting.{links_then, numbers_then}
 use Rattle.view_tree.specs.Views.{class_of}
 use Rattle.view_tree.proofs.grafts.EntryLaws.{parent_added}
 use Rattle.view_tree.proofs.tree.ViewTree.parent_entry.Goals as goal

@@ -4,11 +4,12 @@ use Rattle.view_model.specs.Cycles.{link_of}
 use Rattle.relative_layout.specs.ordering.Naming.{padded_ids}
 use Rattle.view_model.specs.declared.relative.Axis.TheVariants.{Horizontal, Vertical}
 use Rattle.view_model.specs.declared.relative.Link.{Link}
-use Rattle.view_tree.specs.sibling_orders.Cycles.{links_below}
-use Rattle.view_tree.specs.sibling_orders.Ordering.{AreOrders, plain_orders}
+use Rattle.view_tree.specs.tree.Sorted.{links_below}
+use Rattle.sibling_orders.specs.Ordering.{AreOrders, plain_orders}
 use Rattle.view_tree.specs.Rows.{children_of_first, part_from, views_of}
-use Rattle.view_tree.specs.sibling_orders.Staying.{IsLastIn, MayNameAll, NamesNone}
-use Rattle.view_tree.specs.sibling_orders.Indexes.{IsStraight}
+use Rattle.sibling_orders.specs.Staying.{IsLastIn}
+use Rattle.view_tree.specs.tree.Staying.{MayNameAll, NamesNone}
+use Rattle.sibling_orders.specs.Indexes.{IsStraight}
 use Rattle.view_tree.specs.Views.{number_of}
 use Rattle.view_tree.proofs.nodes.NodeReads.{is_tree}
 use Rattle.view_tree.proofs.orders.GroupReads.{highest_found, marked_found, numbers_found, orders_found, orders_value}

@@ -3,8 +3,9 @@ use Rattle.std.specs.Prelude.{List, ℕ, slice_index, ◌+◌}
 use Rattle.view_model.specs.Cycles.{member_from}
 use Rattle.view_model.specs.Numbers.{max_views}
 use Rattle.view_model.specs.declared.relative.Link.{Link}
-use Rattle.view_tree.specs.sibling_orders.Latest.{AreRising}
-use Rattle.view_tree.specs.tree.Grafting.{IsGroupOrCycle, links_following, numbers_following, sprout_link}
+use Rattle.sibling_orders.specs.Latest.{AreRising}
+use Rattle.sibling_orders.specs.Cycles.{IsGroupOrCycle}
+use Rattle.view_tree.specs.tree.Grafting.{links_following, numbers_following, sprout_link}
 use Rattle.view_tree.proofs.grafts.EntryLaws.{following-alike, following-few, following-near, following-rising}
 use Rattle.view_tree.proofs.tree.relatives.group_after.Goals as goal
 

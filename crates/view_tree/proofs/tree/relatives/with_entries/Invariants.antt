@@ -1,6 +1,6 @@
 use Rattle.std.proofs.Common.{◌≡◌, ℕ, ◌+◌, ◌≤◌, ◌++◌, List, length}
 use Rattle.view_model.specs.Cycles.{member_from}
-use Rattle.view_tree.specs.declared.sibling_orders.SiblingOrders.{SiblingOrders}
+use Rattle.sibling_orders.specs.declared.groups.SiblingOrders.{SiblingOrders}
 use Rattle.view_tree.specs.tree.Grafting.{AreEntries, HasAdded, cycle_in}
 use Rattle.view_tree.proofs.tree.relatives.with_entries.Given as goal
 

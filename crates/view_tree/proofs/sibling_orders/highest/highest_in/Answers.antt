@@ -1,5 +1,0 @@
-use Rattle.view_tree.proofs.orders.HighestLaws.{above_both}
-use Rattle.view_tree.proofs.sibling_orders.highest.highest_in.Goals as goal
-
-pub returns : goal.returns
-returns c = above_both c.highest_on.result c.highest_on-2.result c.higher.result c.args.rules.now c.highest_on.ensures c.highest_on-2.ensures c.higher.ensures.first c.higher.ensures.second

@@ -1,5 +1,0 @@
-use Rattle.std.proofs.Common.{arith}
-use Rattle.view_tree.proofs.sibling_orders.indexes.is_straight.Goals as goal
-
-pub returns : goal.returns
-returns c = λ _ p small. c.loop-p.invariant p (let end = c.loop-p-test.false in omega arith)

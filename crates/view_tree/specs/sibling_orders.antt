@@ -1,7 +1,0 @@
--- The kept orders of relative layouts.
-pub mod Cycles
-pub mod Highest
-pub mod Latest
-pub mod Ordering
-pub mod Indexes
-pub mod Staying
