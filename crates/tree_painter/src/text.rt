@@ -89,7 +89,10 @@ fn ink_line(line: &[char], surface: &mut Surface, canvas: Canvas, ink: Argb, wor
     let rows = seen_rows(surface, canvas);
     let mut x = seen.from;
     while x < seen.to {
-        let bits = glyph(line[x / 6], (x % 6) as u8);
+        let bits = glyph(
+            line[x / CELL_WIDTH as usize],
+            (x % CELL_WIDTH as usize) as u8,
+        );
         let place = Place {
             canvas: right_by(canvas, x),
             rows,
