@@ -19,7 +19,7 @@ ghost use Rattle.view_model.specs.declared.fault.Fault.TheVariants.{NoMemory};
 ghost use Rattle.view_tree.specs.Views.{IsLive, KeepsMeasures};
 ghost use Rattle.view_model.specs.Failing.{KeepsOnErr};
 
-use crate::trees::note_tree;
+use crate::trees::recall_tree;
 use damage_rect::Damage;
 use geom_core::{Rect, Size};
 use seen_parts::seen;
@@ -52,17 +52,17 @@ pub fn change(
     ensures asked { LeavesUnasked tree.old tree.new edit.entry }
     ensures measures { KeepsMeasures tree.old tree.new }
 {
-    note_tree(tree);
+    recall_tree(tree);
     if is_unseen(&edit) {
         let made = apply(alloc, tree, edit);
-        note_tree(tree);
+        recall_tree(tree);
         return made;
     }
     let view = edited(&edit);
     let before = part_left(tree, window, view, damage.rect());
     match apply(alloc, tree, edit) {
         Ok(made) => {
-            note_tree(tree);
+            recall_tree(tree);
             damage.add(before);
             Ok(made)
         }
@@ -124,11 +124,11 @@ pub fn take(
     ensures asked { LeavesUnasked tree.old tree.new (Edit.Remove view) }
     ensures measures { KeepsMeasures tree.old tree.new }
 {
-    note_tree(tree);
+    recall_tree(tree);
     let part = part_left(tree, window, view, damage.rect());
     match apply(alloc, tree, Edit::Remove(view)) {
         Ok(made) => {
-            note_tree(tree);
+            recall_tree(tree);
             damage.add(part);
             Ok(made)
         }

@@ -13,7 +13,7 @@ ghost use Rattle.view_model.specs.Forest.{rows};
 ghost use Rattle.view_tree.specs.Views.{IsLive, IsTree, held_of, plain_of, KeepsCounts, KeepsGeometry};
 ghost use Rattle.view_model.specs.Failing.{KeepsOnErr};
 
-use crate::trees::note_tree;
+use crate::trees::recall_tree;
 use damage_rect::Damage;
 use geom_core::Size;
 use saved_state::{StateFault, States, is_given, restore};
@@ -52,10 +52,10 @@ pub fn restore_views(
         → held_of tree.new key ≡ held_of tree.old key }
     ensures fits { OffsetsFit (plain_of tree.old) → OffsetsFit (plain_of tree.new) }
 {
-    note_tree(tree);
+    recall_tree(tree);
     match restore(alloc, tree, states) {
         Ok(()) => {
-            note_tree(tree);
+            recall_tree(tree);
             note_given(tree, window, states, damage);
             Ok(())
         }

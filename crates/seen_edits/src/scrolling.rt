@@ -6,7 +6,7 @@ ghost use Rattle.seen_edits.specs.Scrolled.{EntryIn, NotesAll, NotesEntry, Scrol
 ghost use Rattle.touch_dispatch.specs.handling.Scrolled.{is_scroll};
 ghost use Rattle.view_tree.specs.Views.{IsTree};
 
-use crate::trees::note_tree;
+use crate::trees::recall_tree;
 use damage_rect::Damage;
 use geom_core::Size;
 use seen_parts::seen;
@@ -24,7 +24,7 @@ pub fn note_scrolled(tree: &ViewTree, window: Size, log: &Log, damage: &mut Dama
         → ScrolledIn window box tree.now log.now.entries.items
         → LiesIn damage.new.rect box }
 {
-    note_tree(tree);
+    recall_tree(tree);
     note_all(tree, window, log.entries(), damage);
 }
 
@@ -51,7 +51,7 @@ fn note_entry(tree: &ViewTree, window: Size, entry: &Entry, damage: &mut Damage)
         → EntryIn window box tree.now entry.now
         → LiesIn damage.new.rect box }
 {
-    note_tree(tree);
+    recall_tree(tree);
     if !is_scroll(entry.kind) {
         return;
     }

@@ -4,7 +4,7 @@ ghost use Rattle.view_tree.specs.Views.{IsTree};
 use view_tree::ViewTree;
 
 /// The invariant of every tree, for contracts alone.
-pub fn note_tree(tree: &ViewTree)
+pub fn recall_tree(tree: &ViewTree)
     ensures { IsTree tree.now }
 {
     let _root = tree.root();

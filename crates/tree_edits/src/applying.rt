@@ -83,7 +83,7 @@ fn add(alloc: Global, tree: &mut ViewTree, added: Added) -> Result<Option<u64>, 
     ensures asked { LeavesUnasked tree.old tree.new (Edit.Add added.parent added.class added.width added.height) }
     ensures measures { KeepsMeasures tree.old tree.new }
 {
-    note_tree(tree);
+    recall_tree(tree);
     let parent = added.parent;
     let number = tree.next_number();
     let width = added.width;
@@ -96,7 +96,7 @@ fn add(alloc: Global, tree: &mut ViewTree, added: Added) -> Result<Option<u64>, 
 }
 
 /// The invariant of every tree, for contracts alone.
-fn note_tree(tree: &ViewTree)
+fn recall_tree(tree: &ViewTree)
     ensures { IsTree tree.now }
 {
     let _root = tree.root();

@@ -18,7 +18,7 @@ returns-in-Ok-clause-shown c =
     let is = c.add.ensures in
     let enough = subst (λ (rect : Rect). LiesIn (seen_of c.args.window c.args.tree.now c.edited-view.result) (hull_of rect c.part_left-before.result)) c.rect.ensures c.part_left-before.ensures.enough in
     shown_changed c.args.window less more c.args.tree.now c.apply.new.tree c.args.edit c.requires.leaves
-    c.note_tree.ensures c.note_tree-in-Ok.ensures (live_edited c.args.tree.now c.args.edit c.requires.leaves c.requires.edit) c.in-Ok.ensures.kept
+    c.recall_tree.ensures c.recall_tree-in-Ok.ensures (live_edited c.args.tree.now c.args.edit c.requires.leaves c.requires.edit) c.in-Ok.ensures.kept
     (within_more less c.part_left-before.result more less is (in_hull_first less c.part_left-before.result))
     (within_more less c.part_left-before.result more (seen_of c.args.window c.args.tree.now (edited c.args.edit)) is
     (subst (λ (k : ℕ). LiesIn (seen_of c.args.window c.args.tree.now k) (hull_of less c.part_left-before.result)) c.edited-view.ensures enough))
@@ -31,4 +31,4 @@ returns-in-Ok-clause-within c =
 pub returns-then-is_unseen-clause-shown : goal.returns-then-is_unseen-clause-shown
 returns-then-is_unseen-clause-shown c =
     shown_quietly c.apply-made.result c.args.window c.args.damage.now.rect c.args.tree.now c.apply-made.new.tree c.args.edit (sym c.is_unseen.ensures ∙ c.if-is_unseen.true)
-    c.note_tree.ensures c.note_tree-then-is_unseen.ensures c.apply-made.ensures.kept c.apply-made.ensures.unchanged
+    c.recall_tree.ensures c.recall_tree-then-is_unseen.ensures c.apply-made.ensures.kept c.apply-made.ensures.unchanged

@@ -14,7 +14,7 @@ returns-in-Ok-clause-shown c =
     let more = c.add.new.self.rect in
     let enough = subst (λ (rect : Rect). LiesIn (seen_of c.args.window c.args.tree.now c.args.view) (hull_of rect part)) c.rect.ensures c.part_left-part.ensures.enough in
     shown_taken c.args.window less more c.args.tree.now c.apply.new.tree c.args.view
-    c.note_tree.ensures c.note_tree-in-Ok.ensures c.in-Ok.ensures.kept
+    c.recall_tree.ensures c.recall_tree-in-Ok.ensures c.in-Ok.ensures.kept
     (within_more less part more less c.add.ensures (in_hull_first less part))
     (within_more less part more (seen_of c.args.window c.args.tree.now c.args.view) c.add.ensures enough)
 

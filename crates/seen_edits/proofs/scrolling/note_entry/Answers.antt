@@ -13,14 +13,14 @@ pub returns-then-not-is_scroll-clause-noted : goal.returns-then-not-is_scroll-cl
 returns-then-not-is_scroll-clause-noted c = notes_other c.args.window c.args.damage.now.rect c.args.tree.now c.args.entry.now (sym c.is_scroll.ensures ∙ c.if-not-is_scroll.true)
 
 pub returns-in_default-clause-noted : goal.returns-in_default-clause-noted
-returns-in_default-clause-noted c = notes_absent c.args.window c.args.damage.now.rect c.args.tree.now c.args.entry.now c.note_tree.ensures (sym c.in_default.is ∙ c.find.ensures.key)
+returns-in_default-clause-noted c = notes_absent c.args.window c.args.damage.now.rect c.args.tree.now c.args.entry.now c.recall_tree.ensures (sym c.in_default.is ∙ c.find.ensures.key)
 
 pub returns-clause-grew : goal.returns-clause-grew
 returns-clause-grew c = λ x y h. ap (λ (rect : Rect). holds rect x y) c.add.ensures ∙ in_hull_first c.args.damage.now.rect c.seen.result x y h
 
 pub returns-clause-noted : goal.returns-clause-noted
 returns-clause-noted c =
-    notes_found c.args.window c.args.damage.now.rect c.add.new.self.rect c.seen.result c.args.tree.now c.args.entry.now c.in-Some.view c.note_tree.ensures (sym c.in-Some.is ∙ c.find.ensures.key) c.add.ensures (points c.seen.ensures.keyed)
+    notes_found c.args.window c.args.damage.now.rect c.add.new.self.rect c.seen.result c.args.tree.now c.args.entry.now c.in-Some.view c.recall_tree.ensures (sym c.in-Some.is ∙ c.find.ensures.key) c.add.ensures (points c.seen.ensures.keyed)
 
 pub returns-clause-within : goal.returns-clause-within
 returns-clause-within c = λ box first all.

@@ -33,7 +33,7 @@ request_at-requires c = parent_after c.args.tree.now c.attach.new.self c.args.ad
 pub returns-clause-applied : goal.returns-clause-applied
 returns-clause-applied c =
     attached_scene c.args.tree.now c.attach.new.self c.args.added.parent c.args.added.class c.args.added.width c.args.added.height c.in_ok-attach.field-0
-    c.next_number-number.result c.note_tree.ensures c.requires.addable c.in_ok-attach.ensures.refused (attached c) c.next_number-number.ensures
+    c.next_number-number.result c.recall_tree.ensures c.requires.addable c.in_ok-attach.ensures.refused (attached c) c.next_number-number.ensures
     ∙ ap (λ (scene : EditScene). Ok (scene, Some c.next_number-number.result))
     (sym (requested_scene c.attach.new.self c.request_at.new.tree (listed c.args.added.parent) c.request_at.ensures.same c.request_at.ensures.held))
 
@@ -44,7 +44,7 @@ returns-clause-kept c =
 
 pub returns-clause-consistent : goal.returns-clause-consistent
 returns-clause-consistent c =
-    attached_kept c.args.tree.now c.attach.new.self c.request_at.new.tree c.args.added.parent _ c.in_ok-attach.field-0 c.note_tree.ensures c.requires.addable (attached c)
+    attached_kept c.args.tree.now c.attach.new.self c.request_at.new.tree c.args.added.parent _ c.in_ok-attach.field-0 c.recall_tree.ensures c.requires.addable (attached c)
     c.request_at.ensures.same c.request_at.ensures.held
 
 pub returns-clause-asked : goal.returns-clause-asked
