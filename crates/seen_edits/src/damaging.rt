@@ -22,7 +22,7 @@ ghost use Rattle.view_model.specs.Failing.{KeepsOnErr};
 use crate::trees::recall_tree;
 use damage_rect::Damage;
 use geom_core::{Rect, Size};
-use seen_parts::seen;
+use seen_parts::{seen, window_rect};
 use std::alloc::Global;
 use tree_edits::{Edit, EditFault, apply};
 use view_model::Act;
@@ -173,17 +173,5 @@ pub fn damage_all(damage: &mut Damage, window: Size)
         → LiesIn (rect_at (pos 0) (pos 0) window) box
         → LiesIn damage.new.rect box }
 {
-    damage.add(whole(window));
-}
-
-/// The rectangle of a window of this size.
-fn whole(window: Size) -> Rect
-    ensures { result ≡ rect_at (pos 0) (pos 0) window }
-{
-    Rect {
-        left: 0,
-        top: 0,
-        right: window.w,
-        bottom: window.h,
-    }
+    damage.add(window_rect(window));
 }

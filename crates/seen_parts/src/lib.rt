@@ -16,4 +16,4 @@ mod seeing;
 
 pub use climbing::seen;
 pub use frame::{Canvas, Frame, before, inner_frame, moved, part_in, past};
-pub use seeing::{children_canvas, follow, part_seen, window_canvas};
+pub use seeing::{children_canvas, follow, part_seen, window_canvas, window_rect};

@@ -1,8 +1,9 @@
 //! What is seen of a view in a canvas.
-ghost use Rattle.std.specs.Prelude.{◌≡◌, ◌≢◌, ◌^◌, ℤ, Some, None, true, false, IfSome, MatchOption};
+ghost use Rattle.std.specs.Prelude.{◌≡◌, ◌≢◌, ◌^◌, ℤ, pos, Some, None, true, false, IfSome, MatchOption};
 ghost use Rattle.damage_rect.specs.Within.{LiesIn};
 ghost use Rattle.geom_core.specs.Rects.{empty_rect, holds};
 ghost use Rattle.geom_core.specs.declared.geometry.Rect.{Rect};
+ghost use Rattle.view_model.specs.Geometry.{rect_at};
 ghost use Rattle.view_model.specs.Visible.{canvas_below, seen_in, whole_window};
 ghost use Rattle.seen_parts.specs.Frames.{IsBelow, IsCanvas, IsInReach, IsSeen, IsNearCanvas};
 ghost use Rattle.seen_parts.specs.Meeting.{Follows, as_seen};
@@ -20,12 +21,19 @@ pub fn window_canvas(window: Size) -> Canvas
     Canvas {
         left: 0,
         top: 0,
-        clip: Rect {
-            left: 0,
-            top: 0,
-            right: window.w,
-            bottom: window.h,
-        },
+        clip: window_rect(window),
+    }
+}
+
+/// The rectangle of a window of this size.
+pub fn window_rect(window: Size) -> Rect
+    ensures { result ≡ rect_at (pos 0) (pos 0) window }
+{
+    Rect {
+        left: 0,
+        top: 0,
+        right: window.w,
+        bottom: window.h,
     }
 }
 

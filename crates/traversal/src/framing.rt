@@ -1,5 +1,5 @@
 //! A frame: one pass, or two.
-ghost use Rattle.std.specs.Prelude.{◌≡◌, ◌≤◌, ◌+◌, ◌*◌, ℕ, Bool, None, Some, true, pos};
+ghost use Rattle.std.specs.Prelude.{◌≡◌, ◌≤◌, ◌+◌, ◌*◌, ℕ, Bool, None, Some, true};
 ghost use Rattle.measure_pass.specs.Caches.{Grew};
 ghost use Rattle.measure_pass.specs.Measured.{current};
 ghost use Rattle.measure_pass.specs.Sharing.{most};
@@ -17,7 +17,6 @@ ghost use Rattle.traversal.specs.Reporting.{reported_over};
 ghost use Rattle.traversal.specs.Resting.{IsAtRest};
 ghost use Rattle.traversal.specs.Unasked.{IsUnasked};
 ghost use Rattle.size_hooks.specs.Hooks.{IsMap};
-ghost use Rattle.view_model.specs.Geometry.{rect_at};
 ghost use Rattle.view_tree.specs.Views.{IsLive, IsTree, cache_of, geometry_of, held_of, number_of, plain_of, state_of};
 
 use crate::outcome::Frame;
@@ -25,6 +24,7 @@ use crate::pass::pass;
 use crate::reporting::report_all;
 use damage_rect::Damage;
 use geom_core::{Rect, Size};
+use seen_parts::window_rect;
 use size_hooks::Hooks;
 use view_model::Work;
 use view_tree::ViewTree;
@@ -87,12 +87,12 @@ pub fn frame(tree: &mut ViewTree, hooks: &mut Hooks, window: Size, work: &mut Wo
         return settle(tree, hooks, damage.rect(), 0);
     }
     if !pass(tree, hooks, window, &mut damage, work) {
-        return settle(tree, hooks, whole(window), 1);
+        return settle(tree, hooks, window_rect(window), 1);
     }
     Frame {
         settled: false,
         fired: 2,
-        damage: whole(window),
+        damage: window_rect(window),
     }
 }
 
@@ -110,17 +110,5 @@ fn settle(tree: &ViewTree, hooks: &mut Hooks, damage: Rect, fired: u8) -> Frame
         settled: true,
         fired,
         damage,
-    }
-}
-
-/// The rectangle of a window of this size.
-fn whole(window: Size) -> Rect
-    ensures { result ≡ rect_at (pos 0) (pos 0) window }
-{
-    Rect {
-        left: 0,
-        top: 0,
-        right: window.w,
-        bottom: window.h,
     }
 }
