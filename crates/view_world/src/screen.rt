@@ -17,7 +17,7 @@ ghost use Rattle.view_tree.specs.Views.{plain_of, KeepsNext};
 ghost use Rattle.view_world.specs.world.AfterLine.{Reports};
 ghost use Rattle.world_parts.specs.Shelves.{AreAtHand, AsksShelf};
 ghost use Rattle.view_world.specs.world.Carried.{IsDone, MayWantMemory, WritesReply, IsDoneOrKeepsBoth, CountsSink};
-ghost use Rattle.view_world.specs.screen.Changed.{CarriesOut, Inflates, LeavesViews, Pictured};
+ghost use Rattle.view_world.specs.screen.Changed.{CarriesOut, Inflates, IsTouchable, LeavesViews, Pictured};
 ghost use Rattle.view_world.specs.frames.Counting.{RisesWithin, paint_bound};
 ghost use Rattle.world_parts.specs.Inflating.{asked_file, asked_for, inflation_of};
 ghost use Rattle.view_world.specs.saving.Offsets.{EditsWithin};
@@ -557,24 +557,33 @@ impl Screen {
         ensures changed { CarriesOut (step [] (world_of self.now) (Bounds view)) self.now result }
         ensures memory { HasMemory result }
     {
-        if self.window().is_none() {
-            return Err(StepFault::Refused(Refusal::plain(NO_WINDOW)));
-        }
-        if self.tree.root().is_none() {
-            return Err(StepFault::Refused(Refusal::plain(NO_ROOT)));
-        }
-        if let Stage::Unsettled = self.stage {
-            return Err(StepFault::Refused(Refusal::plain(UNSETTLED)));
-        }
-        let Stage::Settled = self.stage else {
-            return Err(StepFault::Refused(Refusal::plain(NO_FRAME)));
-        };
+        self.touchable()?;
+        recall_tree(&self.tree);
         let Some(name) = view else {
             return Ok(Response::Bounds(None));
         };
         match find(&self.tree, name) {
             Some(view) => Ok(Response::Bounds(Some(view))),
             None => Err(StepFault::Refused(Refusal::plain(NO_VIEW))),
+        }
+    }
+
+    /// Whether views can be touched, and have bounds: the last frame has settled, and its tree is there.
+    fn touchable(&self) -> Result<(), StepFault>
+        ensures { IsTouchable self.now result }
+    {
+        if self.window().is_none() {
+            return Err(StepFault::Refused(Refusal::plain(NO_WINDOW)));
+        }
+        if self.tree.root().is_none() {
+            return Err(StepFault::Refused(Refusal::plain(NO_ROOT)));
+        }
+        match self.stage {
+            Stage::NoWindow | Stage::NoFrame => {
+                Err(StepFault::Refused(Refusal::plain(NO_FRAME)))
+            }
+            Stage::Unsettled => Err(StepFault::Refused(Refusal::plain(UNSETTLED))),
+            Stage::Settled => Ok(()),
         }
     }
 

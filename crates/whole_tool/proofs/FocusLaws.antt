@@ -33,7 +33,7 @@ use Rattle.view_tree.specs.Rows.{Row, first_key}
 use Rattle.view_tree.specs.Views.{Held, held_of, plain_rows}
 use Rattle.view_world.specs.screen.KeyedScreen.{KeyedScreen, stage_of, window_of, world_of}
 use Rattle.world_parts.specs.Naming.{named}
-use Rattle.view_world.specs.world.Step.{bounds_asked, bounds_in, bounds_reported}
+use Rattle.view_world.specs.world.Step.{bounds_in, bounds_reported, touch_asked}
 use Rattle.world_parts.specs.Reply.{with_named}
 use Rattle.view_world.specs.frames.Watched.{IsWorth}
 use Rattle.world_parts.specs.World.{World, empty_world}
@@ -44,7 +44,7 @@ use Rattle.view_world.specs.declared.screen.stage.Stage.TheVariants as early
 -- the answer in a window with views at a stage
 
 abbrev pub answer_at : World → Question → Option Size → Forest PlainView → plain.Stage → Result (Option ℕ) ℕ
-answer_at world question window tree stage = answer_by world question (bounds_asked world window tree stage (Some question.view))
+answer_at world question window tree stage = answer_by world question (touch_asked window tree stage (bounds_reported world (Some question.view)))
 
 abbrev pub by_stage : World → Question → plain.Stage → Result (Option ℕ) ℕ
 by_stage world question plain.NoWindow = Err NO_FRAME

@@ -1,7 +1,6 @@
 -- How lines change the world of a script.
 use Rattle.std.proofs.Common.{◌≡◌, ℕ, Bool, true, false, List, [], refl, sym, ◌∙◌, ap, subst, arith}
-use Rattle.std.specs.Prelude.{if◌then◌else◌, ◌&&◌, ℤ, pos, negsuc, ◌≤ℤ◌, ◌+ℤ◌, int_le, unsigned_abs, Option, Some, None, Result, Ok, Err}
-use Rattle.std.specs.Option.{is_some}
+use Rattle.std.specs.Prelude.{if◌then◌else◌, ◌&&◌, ◌≢◌, ℤ, pos, negsuc, ◌≤ℤ◌, ◌+ℤ◌, int_le, unsigned_abs, Option, Some, None, Result, Ok, Err}
 use Rattle.std.proofs.lemmas.Int.{ints}
 use Rattle.geom_core.specs.declared.geometry.Size.{Size}
 use Rattle.pixel_raster.specs.Cuts.{from_zero}
@@ -24,15 +23,14 @@ use Rattle.view_model.specs.Refusals.{PlainRefusal, refusal_numbered, plain_refu
 use Rattle.view_model.specs.Numbers.{no_view, wrong_class}
 use Rattle.world_parts.specs.World as plain
 use Rattle.world_parts.specs.World.{World}
-use Rattle.view_tree.specs.Rows.{Row, first_key}
-use Rattle.view_tree.specs.Views.{Held, Views, geometry_of, held_of, number_of, plain_of, plain_rows, view_at}
+use Rattle.view_tree.specs.Views.{Views, geometry_of, number_of, plain_of, view_at}
 use Rattle.view_world.specs.screen.Changed.{CarriesOut}
 use Rattle.world_replies.specs.Responses.{IsPartOf, part_of, response_text}
 use Rattle.view_world.specs.screen.Changed.{made, response_of}
 use Rattle.world_parts.specs.Naming.{named}
 use Rattle.world_parts.specs.Reply.{Reply, Done, Refused, on_view, with_named}
-use Rattle.view_world.specs.world.Step.{acted, after_edit, after_outcome, bounds_asked, bounds_in, bounds_reported, picture_asked, pixels_reported, with_window}
-use Rattle.world_replies.specs.Bounds.{bounds_of}
+use Rattle.view_world.specs.world.Step.{acted, after_edit, after_outcome, bounds_in, bounds_reported, picture_asked, pixels_reported, touch_asked, touched, with_window}
+use Rattle.world_replies.specs.Bounds.{bounds_of, bounds_text}
 use Rattle.world_replies.specs.Responses.{lies_in}
 use Rattle.view_world.specs.screen.KeyedScreen.{KeyedScreen, geometry_in, stage_of, window_in, window_of, world_of}
 use Rattle.world_replies.specs.declared.pixels.Part.{Part}
@@ -188,38 +186,41 @@ pub black_opened : (size : Size) (surface : Raster) → surface ≡ black_raster
 unfolding from_zero
 black_opened size surface black = rw black refl
 
-bounds-some : (world : World) (window : Option Size) (rows : Forest Row) (held : ℕ → Held) (root : Option ℕ) (name : Option Name)
-    → is_some window ≡ true → root ≡ first_key rows → is_some root ≡ true → bounds_asked world window (plain_rows held rows) plain.Settled name ≡ bounds_reported world name
-bounds-some world None rows held root name ew er some = absurd cc
-bounds-some world (Some size) Nothing held root name ew er some = absurd (let e = ap is_some er in cc)
-bounds-some world (Some size) (Branch row kids siblings) held root name ew er some = refl
+-- where views can be touched, there are some
+pub touchable-some : (world : World) → ((next : Reply) → touched world next ≡ next) → world.tree ≢ Nothing
+touchable-some world touchable = some_at world.window world.tree world.stage (touchable (Done world []))
+  where
+    some_at : (window : Option Size) (tree : Forest PlainView) (stage : plain.Stage) → touch_asked window tree stage (Done world []) ≡ Done world [] → tree ≢ Nothing
+    some_at None tree stage is e = absurd cc
+    some_at (Some size) Nothing stage is e = absurd cc
+    some_at (Some size) (Branch row kids siblings) stage is e = absurd cc
 
 -- the bounds of one view are asked for
-pub Changed-bounds : (rest : KeyedScreen) (tree : Views) (now : KeyedScreen) (stage : Stage) (root : Option ℕ) (asked : Option Name) (name : Name) (view : ℕ)
-    → at_stage rest tree stage ≡ now → stage ≡ Settled
-    → root ≡ first_key tree.tree → is_some root ≡ true → asked ≡ Some name → Some (number_of tree view) ≡ named (plain_of tree) name → view_in (plain_of tree) (number_of tree view) ≡ Some (view_at tree view)
-    → bounds_asked (world_of now) (window_of now) (plain_of now.views) (stage_of now.stage) asked ≡ Done (world_of now) (bounds_of (geometry_of now.views) (view_at now.views view))
-Changed-bounds rest tree now stage root asked name view same settled er some en found there =
-    let P : KeyedScreen → Option Name → Type 0 = λ now asked. bounds_asked (world_of now) (window_of now) (plain_of now.views) (stage_of now.stage) asked
-    ≡ Done (world_of now) (bounds_of (geometry_of now.views) (view_at now.views view)) in
-    let world = world_of (at_stage rest tree Settled) in
-    let plain_refusal : P (at_stage rest tree Settled) (Some name) =
-    bounds-some world (Some (size_of rest.surface)) tree.tree (held_of tree) root (Some name) refl er some
-    ∙ ap (λ o. with_named o (λ number. bounds_in world (view_in (plain_of tree) number))) (sym found)
-    ∙ ap (bounds_in world) there in
-    subst (λ (now : KeyedScreen). P now asked) (ap (at_stage rest tree) (sym settled) ∙ same) (subst (P (at_stage rest tree Settled)) (sym en) plain_refusal)
+pub Changed-bounds : (now : KeyedScreen) (asked : Option Name) (name : Name) (view : ℕ) → now.stage ≡ Settled → ((next : Reply) → touched (world_of now) next ≡ next) → asked ≡ Some name
+    → Some (number_of now.views view) ≡ named (plain_of now.views) name → view_in (plain_of now.views) (number_of now.views view) ≡ Some (view_at now.views view)
+    → touched (world_of now) (bounds_reported (world_of now) asked) ≡ Done (world_of now) (bounds_of (geometry_of now.views) (view_at now.views view))
+Changed-bounds now asked name view settled touchable en found there =
+    let world = world_of now in
+    touchable (bounds_reported world asked) ∙ ap (bounds_reported world) en
+    ∙ ap (λ o. with_named o (λ number. bounds_in world (view_in (plain_of now.views) number))) (sym found)
+    ∙ ap (bounds_in world) there
+    ∙ ap (λ (stage : Stage). Done world (bounds_of (geometry_in stage now.views) (view_at now.views view))) settled
 
 -- the bounds of a view that is not there are asked for
-pub Changed-no-bounds : (rest : KeyedScreen) (tree : Views) (now : KeyedScreen) (stage : Stage) (root : Option ℕ) (asked : Option Name) (name : Name)
-    → at_stage rest tree stage ≡ now → stage ≡ Settled → root ≡ first_key tree.tree → is_some root ≡ true → asked ≡ Some name → named (plain_of tree) name ≡ None
-    → bounds_asked (world_of now) (window_of now) (plain_of now.views) (stage_of now.stage) asked ≡ Refused (refusal_numbered no_view)
-Changed-no-bounds rest tree now stage root asked name same settled er some en absent =
-    let P : KeyedScreen → Option Name → Type 0 = λ now asked. bounds_asked (world_of now) (window_of now) (plain_of now.views) (stage_of now.stage) asked ≡ Refused (refusal_numbered no_view) in
-    let world = world_of (at_stage rest tree Settled) in
-    let reported : P (at_stage rest tree Settled) (Some name) =
-    bounds-some world (Some (size_of rest.surface)) tree.tree (held_of tree) root (Some name) refl er some
-    ∙ ap (λ o. with_named o (λ number. bounds_in world (view_in (plain_of tree) number))) absent in
-    subst (λ (now : KeyedScreen). P now asked) (ap (at_stage rest tree) (sym settled) ∙ same) (subst (P (at_stage rest tree Settled)) (sym en) reported)
+pub Changed-no-bounds : (now : KeyedScreen) (asked : Option Name) (name : Name) → ((next : Reply) → touched (world_of now) next ≡ next) → asked ≡ Some name
+    → named (plain_of now.views) name ≡ None → touched (world_of now) (bounds_reported (world_of now) asked) ≡ Refused (refusal_numbered no_view)
+Changed-no-bounds now asked name touchable en absent =
+    let world = world_of now in
+    touchable (bounds_reported world asked) ∙ ap (bounds_reported world) en
+    ∙ ap (λ o. with_named o (λ number. bounds_in world (view_in (plain_of now.views) number))) absent
+
+-- the bounds of all views are asked for
+pub Changed-all-bounds : (now : KeyedScreen) (asked : Option Name) → now.stage ≡ Settled → ((next : Reply) → touched (world_of now) next ≡ next) → asked ≡ None
+    → touched (world_of now) (bounds_reported (world_of now) asked) ≡ Done (world_of now) (bounds_text (geometry_of now.views) (plain_of now.views))
+Changed-all-bounds now asked settled touchable en =
+    let world = world_of now in
+    touchable (bounds_reported world asked) ∙ ap (bounds_reported world) en
+    ∙ ap (λ (stage : Stage). Done world (bounds_text (geometry_in stage now.views) (plain_of now.views))) settled
 
 abs-pos : (n : ℤ) → pos 0 ≤ℤ n → pos (unsigned_abs n) ≡ n
 abs-pos (pos n) h = refl

@@ -46,8 +46,8 @@ Pictured world (Err fault.NoMemory) = ⊥
 Pictured world (Err fault.Sink) = ⊥
 Pictured world (Err fault.Shelf) = ⊥
 
--- Views can be touched, since the last frame has settled: whatever is done with a touch is the reply. Otherwise the
--- reply is the reason why they cannot.
+-- Views can be touched, and have bounds, since the last frame has settled: whatever is done with a touch, or with a
+-- question for bounds, is the reply. Otherwise the reply is the reason why they cannot.
 abbrev pub IsTouchable : KeyedScreen → Result (Unit {0}) StepFault → Type 0
 IsTouchable world (Ok _) = (world.stage ≡ Settled) × ((next : Reply) → touched (world_of world) next ≡ next)
 IsTouchable world (Err (fault.Refused refusal)) =

@@ -133,14 +133,6 @@ bounds_reported world None = Done world (bounds_text world.geometry world.tree)
 bounds_reported world (Some name) =
     with_named (named world.tree name) (λ number. bounds_in world (view_in world.tree number))
 
-abbrev pub bounds_asked : World → Option Size → Forest PlainView → Stage → Option Name → Reply
-bounds_asked world None tree stage name = Refused (refusal_numbered no_window)
-bounds_asked world (Some window) Nothing stage name = Refused (refusal_numbered no_root)
-bounds_asked world (Some window) (Branch root below after) NoWindow name = Refused (refusal_numbered no_frame)
-bounds_asked world (Some window) (Branch root below after) NoFrame name = Refused (refusal_numbered no_frame)
-bounds_asked world (Some window) (Branch root below after) Unsettled name = Refused (refusal_numbered unsettled)
-bounds_asked world (Some window) (Branch root below after) Settled name = bounds_reported world name
-
 -- what is done with the picture of the last frame, if that has settled; it is that of its window, with a tree or
 -- without
 abbrev pub picture_asked : Option Size → Stage → (Size → Reply) → Reply
@@ -198,7 +190,7 @@ inflation files world name into =
     reply_with (views_of files name world.resources world.dpi) λ plan.
     grafted world place plan (graft_reason world.tree place world.next plan.seeds)
 
--- what is done with a touch, if the last frame has settled and its tree is there
+-- what is done with a touch, or with a question for bounds, if the last frame has settled and its tree is there
 abbrev pub touch_asked : Option Size → Forest PlainView → Stage → Reply → Reply
 touch_asked None tree stage next = Refused (refusal_numbered no_window)
 touch_asked (Some window) Nothing stage next = Refused (refusal_numbered no_root)
@@ -374,7 +366,7 @@ step files world (command.Hook view edits bad) =
 step files world command.Save = saved world world.tree
 step files world (command.Restore text) = taken_up world world.tree text
 step files world command.Frame = framed world world.window world.tree
-step files world (command.Bounds view) = bounds_asked world world.window world.tree world.stage view
+step files world (command.Bounds view) = touched world (bounds_reported world view)
 step files world (command.Pixels x y w h) = picture_asked world.window world.stage (pixels_reported world x y w h)
 step files world command.Digest =
     picture_asked world.window world.stage (λ window. Done world (digest_text (digest_of world.picture)))

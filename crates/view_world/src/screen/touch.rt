@@ -2,7 +2,7 @@
 ghost use Rattle.std.specs.Prelude.{◌≡◌, ◌<◌, [], Err, Ok, OnOk};
 ghost use Rattle.script_lines.specs.commands.PlainCommands.{Cancel, Disallow, Down, Move, Up};
 ghost use Rattle.touch_event.specs.Numbers.{max_pointers};
-ghost use Rattle.view_world.specs.screen.Changed.{CarriesOut, IsTouchable};
+ghost use Rattle.view_world.specs.screen.Changed.{CarriesOut};
 ghost use Rattle.view_world.specs.screen.KeyedScreen.{world_of};
 ghost use Rattle.world_parts.specs.Pointers.{AreDown};
 ghost use Rattle.view_world.specs.frames.Resting.{IsIdle, KeepsBut, KeepsLine};
@@ -16,13 +16,12 @@ ghost use Rattle.view_tree.specs.Views.{KeepsNext};
 ghost use Rattle.touch_event.specs.Touches.{IsPointer};
 
 use super::Screen;
-use crate::screen::stage::Stage;
 use line_words::Name;
 use seen_edits::note_scrolled;
 use touch_dispatch::dispatch;
 use touch_event::{Action, Event, Point};
 use view_model::Refusal;
-use view_model::refusals::{NO_FRAME, NO_ROOT, NO_WINDOW, POINTER, UNSETTLED, WRONG_CLASS};
+use view_model::refusals::{POINTER, WRONG_CLASS};
 use world_parts::{
     StepFault, disallow_from, down_action, event_at, event_of, is_pressed, resolve, set_points,
     slop_at, up_action, without_point,
@@ -102,25 +101,6 @@ impl Screen {
         }
         let event = event_of(Action::Cancel, 0, &[]);
         Ok(self.hand(&event, &[]))
-    }
-
-    /// Whether views can be touched: the last frame has settled, and its tree is there.
-    fn touchable(&self) -> Result<(), StepFault>
-        ensures { IsTouchable self.now result }
-    {
-        if self.window().is_none() {
-            return Err(StepFault::Refused(Refusal::plain(NO_WINDOW)));
-        }
-        if self.tree.root().is_none() {
-            return Err(StepFault::Refused(Refusal::plain(NO_ROOT)));
-        }
-        match self.stage {
-            Stage::NoWindow | Stage::NoFrame => {
-                Err(StepFault::Refused(Refusal::plain(NO_FRAME)))
-            }
-            Stage::Unsettled => Err(StepFault::Refused(Refusal::plain(UNSETTLED))),
-            Stage::Settled => Ok(()),
-        }
     }
 
     /// Sends an event to the root. These pointers are down then.
