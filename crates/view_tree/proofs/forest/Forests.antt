@@ -3,7 +3,7 @@ use Rattle.std.proofs.Common.{◌≡◌, ℕ, zero, suc, ◌<◌, ◌≤◌, Opt
 use Rattle.std.specs.Prelude.{IfSome}
 use Rattle.view_model.specs.Forest.{Forest, Nothing, Branch, count_of}
 use Rattle.view_tree.specs.Rows.{Row, count_of_key, part_from, children_of_first, later_siblings, first_tree, first_key, rest_from}
-use Rattle.view_tree.specs.node.Nodes.{PlainNode, RepresentsPart, forest, branch_at, RepresentsTree, links_for}
+use Rattle.view_tree.specs.node.Nodes.{PlainNode, RepresentsPart, forest, branch_at, RepresentsTree, plain_node_for}
 use Rattle.view_tree.proofs.forest.KeyLaws.{Within, here, in_below, in_after, Located, located, from_within, count_of_key-within, times_self}
 
 pub some_is : {A : Type 0} {x y : A} → Some x ≡ Some y → x ≡ y
@@ -54,7 +54,7 @@ pub record Seen (at : ℕ → Option PlainNode) (k : ℕ) (t : Forest Row) : Typ
   pub found : Located k t
   pub parent : Option ℕ
   pub before : Option ℕ
-  pub is : at k ≡ Some (links_for found.row parent before found.kids found.siblings)
+  pub is : at k ≡ Some (plain_node_for found.row parent before found.kids found.siblings)
 
 pub seen : (at : ℕ → Option PlainNode) (k : ℕ) (p q : Option ℕ) (t : Forest Row) → RepresentsPart at p q t → 0 < count_of_key k t → Seen at k t
 seen at k p q t s h =

@@ -5,7 +5,7 @@ use Rattle.view_model.specs.PlainTree.{PlainView}
 use Rattle.view_model.specs.Forest.{Forest, Nothing, Branch}
 use Rattle.view_tree.proofs.forest.KeyLaws.{own_more}
 use Rattle.view_tree.specs.Rows.{Row, count_of_key, first_key, last_key_or, changed_at_key}
-use Rattle.view_tree.specs.node.Nodes.{PlainNode, RepresentsPart, RepresentsTree, links_for}
+use Rattle.view_tree.specs.node.Nodes.{PlainNode, RepresentsPart, RepresentsTree, plain_node_for}
 use Rattle.view_tree.proofs.values.KeptLaws.{later_siblings-put}
 use Rattle.view_tree.proofs.forest.NumberLaws.{count_of_key-put, count-put}
 use Rattle.view_tree.proofs.nodes.ChildEdits.{RepresentsPart-along}
@@ -37,7 +37,7 @@ module _ (k : ℕ) (f : PlainView → PlainView) where
       | inl e ↦
           let out : (x : ℕ) → 0 < count_of_key x kids + count_of_key x siblings → x ≢ k = λ x h i. let o = once x in let w = own_more row kids siblings x (e ∙ sym i) in absurd (omega arith) in
           rw (put_here row kids siblings e) (
-            ap new e ∙ own (links_for row p q kids siblings) (ap at (sym e) ∙ s.0),
+            ap new e ∙ own (plain_node_for row p q kids siblings) (ap at (sym e) ∙ s.0),
             RepresentsPart-along at new (Some row.key) None kids (λ x h. others x (out x (omega arith))) s.1,
             RepresentsPart-along at new p (Some row.key) siblings (λ x h. others x (out x (omega arith))) s.2,
           )

@@ -4,7 +4,7 @@ use Rattle.std.proofs.lemmas.Bool.{eq-eqb, ne_eqb}
 use Rattle.std.specs.Prelude.{◌==◌, if◌then◌else◌}
 use Rattle.view_model.specs.Forest.{Forest, Nothing, Branch, edited_where, joined}
 use Rattle.view_tree.specs.Rows.{Row, count_of_key, first_key, last_key_or, grown_at_key, later_siblings}
-use Rattle.view_tree.specs.node.Nodes.{PlainNode, RepresentsPart, links_for}
+use Rattle.view_tree.specs.node.Nodes.{PlainNode, RepresentsPart, plain_node_for}
 use Rattle.view_tree.proofs.values.KeptLaws.{later_siblings-edited}
 use Rattle.view_tree.proofs.forest.KeyLaws.{Within, here, in_below, in_after, count_of_key-within, times_self, own_more, other_key}
 use Rattle.view_tree.proofs.forest.NumberLaws.{edited_absent}
@@ -47,15 +47,15 @@ pub edit_there : (k : ℕ) (g : Forest Row → Forest Row) (row : Row) (kids sib
 edit_there k g row kids siblings ne = rw (ne_eqb row.key k ne)
 
 node-children_of_first : (k : ℕ) (g : Forest Row → Forest Row) (row : Row) (p q : Option ℕ) (kids siblings : Forest Row)
-    → links_for row p q kids siblings ≡ links_for row p q (edit_kids k g kids) siblings
+    → plain_node_for row p q kids siblings ≡ plain_node_for row p q (edit_kids k g kids) siblings
 node-children_of_first k g row p q kids siblings = rw (first_key-edit k g kids, last_key-edit k g None kids)
 
 node-later_siblings : (k : ℕ) (g : Forest Row → Forest Row) (row : Row) (p q : Option ℕ) (kids siblings : Forest Row)
-    → links_for row p q kids siblings ≡ links_for row p q kids (edit_kids k g siblings)
+    → plain_node_for row p q kids siblings ≡ plain_node_for row p q kids (edit_kids k g siblings)
 node-later_siblings k g row p q kids siblings = rw (first_key-edit k g siblings)
 
 module _ (at new : ℕ → Option PlainNode) (k : ℕ) (g : Forest Row → Forest Row) (row : Row) (kids siblings : Forest Row) (is : row.key ≡ k)
-    (own : (p q : Option ℕ) → at k ≡ Some (links_for row p q kids siblings) → new k ≡ Some (links_for row p q (g kids) siblings))
+    (own : (p q : Option ℕ) → at k ≡ Some (plain_node_for row p q kids siblings) → new k ≡ Some (plain_node_for row p q (g kids) siblings))
     (inner : RepresentsPart at (Some k) None kids → RepresentsPart new (Some k) None (g kids)) where
   here-count_of_key : 0 < count_of_key k (Branch row kids siblings)
   here-count_of_key = subst (λ k. 0 < count_of_key k (Branch row kids siblings)) is (times_self row kids siblings)

@@ -6,7 +6,7 @@ use Rattle.view_model.specs.Forest.{Forest, Nothing, Branch, joined}
 use Rattle.view_model.specs.Layout.{unscrolled}
 use Rattle.view_model.specs.PlainTree.{PlainView}
 use Rattle.view_tree.specs.Rows.{Row, count_of_key, first_key, last_key_or, last_key, grown_at_key, leaf, later_siblings}
-use Rattle.view_tree.specs.node.Nodes.{PlainNode, RepresentsPart, RepresentsTree, links_for, linked, key_or, last_child, last_named, changed_at, with_node}
+use Rattle.view_tree.specs.node.Nodes.{PlainNode, RepresentsPart, RepresentsTree, plain_node_for, linked, key_or, last_child, last_named, changed_at, with_node}
 use Rattle.view_tree.proofs.forest.KeyLaws.{count_of_key-within, own_more, times_self, zero_or_more}
 use Rattle.view_tree.proofs.forest.NumberLaws.{count_of_key-grown, count-grown}
 use Rattle.view_tree.proofs.forest.Forests.{Seen, seen, some_is}
@@ -67,7 +67,7 @@ module _ (at new : ℕ → Option PlainNode) (root : Option ℕ) (next : ℕ) (t
   kids = there.found.kids
 
   abbrev node : PlainNode
-  node = links_for there.found.row there.parent there.before there.found.kids there.found.siblings
+  node = plain_node_for there.found.row there.parent there.before there.found.kids there.found.siblings
 
   -- no view has the new key
   key_unused : count_of_key key t ≡ 0
@@ -132,8 +132,8 @@ module _ (at new : ℕ → Option PlainNode) (root : Option ℕ) (next : ℕ) (t
       ∙ changed_not one (last_key kids) following x not_last
       ∙ with_node_not at key own_node x not_key
 
-  own : (p q : Option ℕ) → at above ≡ Some (links_for there.found.row p q kids there.found.siblings)
-      → new above ≡ Some (links_for there.found.row p q (joined kids (leaf key view)) there.found.siblings)
+  own : (p q : Option ℕ) → at above ≡ Some (plain_node_for there.found.row p q kids there.found.siblings)
+      → new above ≡ Some (plain_node_for there.found.row p q (joined kids (leaf key view)) there.found.siblings)
   own p q e =
       let same = some_is (sym there.is ∙ e) in
       parent ∙ rw (first-join kids key view, last-join None kids key view) (ap (λ (n : PlainNode). Some (record n { first = first_key (joined kids (leaf key view)); last = Some key })) same)

@@ -15,7 +15,7 @@ use Rattle.view_tree.specs.tree.Directions.{is_rtl_at}
 use Rattle.view_tree.specs.table.Holders.{noted}
 use Rattle.sibling_orders.specs.Ordering.{orders_in}
 use Rattle.view_tree.specs.Rows.{Row, head_view, key_where, leaf, count_of_key, with_child}
-use Rattle.view_tree.specs.node.Nodes.{PlainNode, links_in, links_at, held_in, linked, replaced_if_none, forest, last_child, last_named, node_runs, runs_at, RepresentsTree, tree_of, value_of, IsPlanted, holders_of}
+use Rattle.view_tree.specs.node.Nodes.{PlainNode, plain_node_in, plain_node_at, held_in, linked, replaced_if_none, forest, last_child, last_named, node_runs, runs_at, RepresentsTree, tree_of, value_of, IsPlanted, holders_of}
 use Rattle.view_tree.specs.Views.{Views, Held, IsLive, IsTree, fresh_held, held_of, held_or, number_of, plain_of, plain_rows}
 use Rattle.view_tree.specs.declared.node.Node.{Node}
 use Rattle.view_tree.specs.declared.tree.ViewTree.TheInside.{Inside}
@@ -44,23 +44,23 @@ if_some_at : (o : Option ℕ) (P : ℕ → Type 0) (k : ℕ) → o ≡ Some k �
 if_some_at None P k is h = absurd (cc)
 if_some_at (Some x) P k is h = subst P (some_is is) h
 
-last_there_at : (a : Inside) (v : Views) (k l : ℕ) (o : Option PlainNode) → IsPlanted a → value_of a ≡ v → IsLive v k → links_at a.nodes k ≡ o → last_named o ≡ Some l
+last_there_at : (a : Inside) (v : Views) (k l : ℕ) (o : Option PlainNode) → IsPlanted a → value_of a ≡ v → IsLive v k → plain_node_at a.nodes k ≡ o → last_named o ≡ Some l
     → IsLive v l
 last_there_at a v k l None sound e live says is = absurd (cc)
 last_there_at a v k l (Some n) sound e live says is =
-    if_some_at n.last (λ x. IsLive v x) l is (last_live (links_at a.nodes) a.root a.next v.tree k n (represents_for a v sound e) live says)
+    if_some_at n.last (λ x. IsLive v x) l is (last_live (plain_node_at a.nodes) a.root a.next v.tree k n (represents_for a v sound e) live says)
 
 pub last_child_there : (a : Inside) (v : Views) (parent : Option ℕ) → IsPlanted a → value_of a ≡ v → IfSome parent (λ parent. IsLive v parent)
-    → (l : ℕ) → last_child (links_at a.nodes) parent ≡ Some l → ContainsKey a.nodes l
+    → (l : ℕ) → last_child (plain_node_at a.nodes) parent ≡ Some l → ContainsKey a.nodes l
 last_child_there a v None sound e live l is = absurd (cc)
 last_child_there a v (Some parent) sound e live l is = contains_live a v l sound e (last_there_at a v parent l _ sound e live refl is)
 
 -- whether a parent runs from right to left
 pub runs_is : (a : Inside) (v : Views) (parent : Option ℕ) → IsPlanted a → value_of a ≡ v → IfSome parent (λ parent. IsLive v parent)
-    → runs_at (links_at a.nodes) parent ≡ is_rtl_at parent v.tree
+    → runs_at (plain_node_at a.nodes) parent ≡ is_rtl_at parent v.tree
 runs_is a v None sound e live = refl
 runs_is a v (Some k) sound e live =
-    let s = seen (links_at a.nodes) k None None v.tree (represents_for a v sound e).represented live in
+    let s = seen (plain_node_at a.nodes) k None None v.tree (represents_for a v sound e).represented live in
     ap node_runs s.is ∙ sym (ap (λ part. (head_view part).facts.rtl) s.found.is)
 
 -- the nodes represent the tree with the view
@@ -79,8 +79,8 @@ unused at root next t key represents vacant = vacant_unused at key t None None r
 -- the fields after room was made
 module _ (a b : Inside) (nodes : b.nodes ≡ record a.nodes { capacity = b.nodes.capacity }) (keys : b.keys.entries ≡ a.keys.entries) (ids : b.ids.entries ≡ a.ids.entries)
     (groups : orders_in b.groups.entries ≡ orders_in a.groups.entries) (root : b.root ≡ a.root) (next : b.next ≡ a.next) (counts : b.counts ≡ a.counts) where
-  said-room : links_at b.nodes ≡ links_at a.nodes
-  said-room = ap links_at nodes
+  said-room : plain_node_at b.nodes ≡ plain_node_at a.nodes
+  said-room = ap plain_node_at nodes
 
   pub tree-room : tree_of b ≡ tree_of a
   tree-room = rw (root, next) (ap (λ at. forest a.next at a.root) said-room)
@@ -108,22 +108,22 @@ module _ (a b : Inside) (v : Views) (parent : Option ℕ) (key : ℕ) (view : Pl
     (live : IfSome parent (λ parent. IsLive v parent)) (empty : parent ≡ None → v.tree ≡ Nothing)
     (taken : refusal_at (plain_of v) (option_map (number_of v) parent) ≡ None)
     (vacant : get a.nodes key ≡ None)
-    (becomes : (x : ℕ) → links_at b.nodes x ≡ linked (links_at a.nodes) parent key view (last_child (links_at a.nodes) parent) x)
+    (becomes : (x : ℕ) → plain_node_at b.nodes x ≡ linked (plain_node_at a.nodes) parent key view (last_child (plain_node_at a.nodes) parent) x)
     (root : b.root ≡ replaced_if_none parent (Some key) a.root) (next : b.next ≡ a.next + 1) (number : view.number ≡ a.next)
     (runs : view.facts.rtl ≡ dir (is_rtl_at parent v.tree) view.facts.direction)
     (len : slab_len b.nodes ≡ slab_len a.nodes + 1)
     (listed : (n : ℕ) → get_key nat_eq b.keys n ≡ (if nat_eq view.number n then Some key else get_key nat_eq a.keys n))
     (ids : (id : ℕ) → get_key nat_eq b.ids id ≡ noted (get_key nat_eq a.ids id) view.facts.id key id) (fits : key < links_end) where
-  represents-attach : RepresentsTree (links_at b.nodes) b.root b.next (with_child parent (leaf key view) v.tree)
+  represents-attach : RepresentsTree (plain_node_at b.nodes) b.root b.next (with_child parent (leaf key view) v.tree)
   represents-attach =
       rw (root, next)
-      (represents-with_child (links_at a.nodes) (links_at b.nodes) a.root a.next v.tree parent key view (represents_for a v sound e) live empty (ap links_in vacant) becomes)
+      (represents-with_child (plain_node_at a.nodes) (plain_node_at b.nodes) a.root a.next v.tree parent key view (represents_for a v sound e) live empty (ap plain_node_in vacant) becomes)
 
   pub tree-attach : tree_of b ≡ with_child parent (leaf key view) v.tree
-  tree-attach = tree_is (links_at b.nodes) b.root b.next _ represents-attach
+  tree-attach = tree_is (plain_node_at b.nodes) b.root b.next _ represents-attach
 
   pub unused-attach : count_of_key key v.tree ≡ 0
-  unused-attach = unused (links_at a.nodes) a.root a.next v.tree key (represents_for a v sound e) (ap links_in vacant)
+  unused-attach = unused (plain_node_at a.nodes) a.root a.next v.tree key (represents_for a v sound e) (ap plain_node_in vacant)
 
   next-attach : b.next ≡ v.next + 1
   next-attach = next ∙ ap (λ (v : Views). v.next + 1) e
@@ -136,7 +136,7 @@ module _ (a b : Inside) (v : Views) (parent : Option ℕ) (key : ℕ) (view : Pl
 
   pub sound-attach : IsPlanted b
   sound-attach = record {
-    represents = subst (RepresentsTree (links_at b.nodes) b.root b.next) (sym tree-attach) represents-attach;
+    represents = subst (RepresentsTree (plain_node_at b.nodes) b.root b.next) (sym tree-attach) represents-attach;
     kept = kept-attach;
     full =
         let all = count-with_child parent (leaf key view) v.tree live empty (is_tree a v sound e).keys in

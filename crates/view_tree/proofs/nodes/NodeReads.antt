@@ -7,7 +7,7 @@ use Rattle.slab_link.specs.Numbers.{links_end}
 use Rattle.view_model.specs.Forest.{Forest}
 use Rattle.view_model.specs.PlainTree.{PlainView}
 use Rattle.view_tree.specs.Rows.{Row, head_view, part_from, children_of_first, later_siblings, first_key, last_key, previous_key}
-use Rattle.view_tree.specs.node.Nodes.{PlainNode, links_in, links_of, links_at, held_by, held_in, view_of_node, RepresentsTree, links_for, value_of, IsPlanted, holders_of}
+use Rattle.view_tree.specs.node.Nodes.{PlainNode, plain_node_in, plain_node_of, plain_node_at, held_by, held_in, view_of_node, RepresentsTree, plain_node_for, value_of, IsPlanted, holders_of}
 use Rattle.view_tree.specs.Views.{Views, Held, IsLive, IsTree, held_of, held_or, facts_of, offset_of}
 use Rattle.view_tree.specs.declared.node.Node.{Node}
 use Rattle.view_tree.specs.declared.tree.ViewTree.TheInside.{Inside}
@@ -20,9 +20,9 @@ use Rattle.view_tree.proofs.forest.SiblingLaws.{previous_is, previous_live, last
 pub record Says (o : Option Node) (x : PlainNode) : Type 0 where
   pub node : Node
   pub at : o ≡ Some node
-  pub all : links_of node ≡ x
+  pub all : plain_node_of node ≡ x
 
-pub says : (o : Option Node) (x : PlainNode) → links_in o ≡ Some x → Says o x
+pub says : (o : Option Node) (x : PlainNode) → plain_node_in o ≡ Some x → Says o x
 says None x h = absurd (cc)
 says (Some n) x h = record { node = n; at = refl; all = some_is h }
 
@@ -31,14 +31,14 @@ pub record NodeOf (a : Inside) (k : ℕ) (t : Forest Row) : Type 0 where
   pub found : Located k t
   pub parent : Option ℕ
   pub before : Option ℕ
-  pub says : Says (get a.nodes k) (links_for found.row parent before found.kids found.siblings)
+  pub says : Says (get a.nodes k) (plain_node_for found.row parent before found.kids found.siblings)
 
-pub represents_for : (a : Inside) (v : Views) → IsPlanted a → value_of a ≡ v → RepresentsTree (links_at a.nodes) a.root a.next v.tree
-represents_for a v sound e = subst (λ (v : Views). RepresentsTree (links_at a.nodes) a.root a.next v.tree) e sound.represents
+pub represents_for : (a : Inside) (v : Views) → IsPlanted a → value_of a ≡ v → RepresentsTree (plain_node_at a.nodes) a.root a.next v.tree
+represents_for a v sound e = subst (λ (v : Views). RepresentsTree (plain_node_at a.nodes) a.root a.next v.tree) e sound.represents
 
 pub node_of : (a : Inside) (v : Views) (k : ℕ) → IsPlanted a → value_of a ≡ v → IsLive v k → NodeOf a k v.tree
 node_of a v k sound e live =
-    let s = seen (links_at a.nodes) k None None v.tree (represents_for a v sound e).represented live in
+    let s = seen (plain_node_at a.nodes) k None None v.tree (represents_for a v sound e).represented live in
     record { found = s.found; parent = s.parent; before = s.before; says = says (get a.nodes k) _ s.is }
 
 -- so its key is in the slab
@@ -50,13 +50,13 @@ pub record NodeSays (n : Node) (k : ℕ) (t : Forest Row) : Type 0 where
   pub found : Located k t
   pub parent : Option ℕ
   pub before : Option ℕ
-  pub all : links_of n ≡ links_for found.row parent before found.kids found.siblings
+  pub all : plain_node_of n ≡ plain_node_for found.row parent before found.kids found.siblings
 
 pub node_says : (a : Inside) (v : Views) (k : ℕ) → IsPlanted a → value_of a ≡ v → IsLive v k → (n : Node) → get a.nodes k ≡ Some n → NodeSays n k v.tree
 node_says a v k sound e live n at =
     let o = node_of a v k sound e live in
     let same : n ≡ o.says.node = some_is (sym at ∙ o.says.at) in
-    record { found = o.found; parent = o.parent; before = o.before; all = ap links_of same ∙ o.says.all }
+    record { found = o.found; parent = o.parent; before = o.before; all = ap plain_node_of same ∙ o.says.all }
 
 -- what every tree keeps
 pub is_tree : (a : Inside) (v : Views) → IsPlanted a → value_of a ≡ v → IsTree v
@@ -123,7 +123,7 @@ next_is a v k sound e live n at =
 
 -- the parent of a view
 pub parent_of : (a : Inside) (v : Views) (k : ℕ) → IsPlanted a → value_of a ≡ v → IsLive v k → (n : Node) → get a.nodes k ≡ Some n → Up n.links.parent k v.tree
-parent_of a v k sound e live n at = up_is (links_at a.nodes) a.root a.next v.tree k _ (represents_for a v sound e) live (ap links_in at)
+parent_of a v k sound e live n at = up_is (plain_node_at a.nodes) a.root a.next v.tree k _ (represents_for a v sound e) live (ap plain_node_in at)
 
 -- the root
 pub root_is : (a : Inside) (v : Views) → IsPlanted a → value_of a ≡ v → (a.root ≡ first_key v.tree) × IsRestFrom a.root v.tree v.tree
@@ -136,7 +136,7 @@ pub previous_of : (a : Inside) (v : Views) (k : ℕ) → IsPlanted a → value_o
     → (n.links.previous ≡ previous_key None k v.tree) × IfSome n.links.previous (λ x. IsLive v x)
 previous_of a v k sound e live n at =
     let s = represents_for a v sound e in
-    (previous_is (links_at a.nodes) k _ (ap links_in at) v.tree None None s.represented live, previous_live (links_at a.nodes) a.root a.next v.tree k _ s live (ap links_in at))
+    (previous_is (plain_node_at a.nodes) k _ (ap plain_node_in at) v.tree None None s.represented live, previous_live (plain_node_at a.nodes) a.root a.next v.tree k _ s live (ap plain_node_in at))
 
 pub last_of : (a : Inside) (v : Views) (k : ℕ) → IsPlanted a → value_of a ≡ v → IsLive v k → (n : Node) → get a.nodes k ≡ Some n → IfSome n.links.last (λ x. IsLive v x)
-last_of a v k sound e live n at = last_live (links_at a.nodes) a.root a.next v.tree k _ (represents_for a v sound e) live (ap links_in at)
+last_of a v k sound e live n at = last_live (plain_node_at a.nodes) a.root a.next v.tree k _ (represents_for a v sound e) live (ap plain_node_in at)

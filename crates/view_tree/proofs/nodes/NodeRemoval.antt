@@ -7,7 +7,7 @@ use Rattle.view_model.specs.Forest.{Nothing, count_of}
 use Rattle.view_model.specs.PlainTree.{PlainView}
 use Rattle.view_tree.specs.table.Holders.{dropped}
 use Rattle.view_tree.specs.Rows.{children_of_first, pruned_at_key, part_from, key_where, count_of_key}
-use Rattle.view_tree.specs.node.Nodes.{PlainNode, links_in, links_at, held_in, replaced_if_none, unlinked, IsAround, RepresentsTree, tree_of, value_of, IsPlanted, holders_of}
+use Rattle.view_tree.specs.node.Nodes.{PlainNode, plain_node_in, plain_node_at, held_in, replaced_if_none, unlinked, IsAround, RepresentsTree, tree_of, value_of, IsPlanted, holders_of}
 use Rattle.view_tree.specs.Views.{Views, IsLive, KeepsOthers, held_of, held_or, number_of}
 use Rattle.view_tree.specs.declared.node.Node.{Node}
 use Rattle.view_tree.specs.declared.tree.ViewTree.TheInside.{Inside}
@@ -23,21 +23,21 @@ use Rattle.view_tree.proofs.forest.SearchLaws.{search-pruned_at_key}
 
 -- the neighbours of a view are there, and are others
 pub around_there : (a : Inside) (v : Views) (k : ℕ) → IsPlanted a → value_of a ≡ v → IsLive v k
-    → (n : PlainNode) (x : ℕ) → links_at a.nodes k ≡ Some n → IsAround n x → ContainsKey a.nodes x × (x ≢ k)
+    → (n : PlainNode) (x : ℕ) → plain_node_at a.nodes k ≡ Some n → IsAround n x → ContainsKey a.nodes x × (x ≢ k)
 around_there a v k sound e live n x says i =
-    let h = gone_around (links_at a.nodes) a.root a.next v.tree k n (represents_for a v sound e) live says in
+    let h = gone_around (plain_node_at a.nodes) a.root a.next v.tree k n (represents_for a v sound e) live says in
     (contains_live a v x sound e (h.live x i), h.apart.not_k x i)
 
 module _ (a b : Inside) (v : Views) (k : ℕ) (n : Node) (sound : IsPlanted a) (e : value_of a ≡ v) (live : IsLive v k) (leaf : children_of_first (part_from k v.tree) ≡ Nothing)
-    (node : get a.nodes k ≡ Some n) (gone : (m : PlainNode) → links_at a.nodes k ≡ Some m → (x : ℕ) → links_at b.nodes x ≡ unlinked (links_at a.nodes) k m x)
+    (node : get a.nodes k ≡ Some n) (gone : (m : PlainNode) → plain_node_at a.nodes k ≡ Some m → (x : ℕ) → plain_node_at b.nodes x ≡ unlinked (plain_node_at a.nodes) k m x)
     (root : b.root ≡ replaced_if_none n.links.parent None a.root) (next : b.next ≡ a.next) (len : slab_len b.nodes + 1 ≡ slab_len a.nodes)
     (unlisted : (x : ℕ) → get_key nat_eq b.keys x ≡ (if nat_eq n.number x then None else get_key nat_eq a.keys x))
     (ids : (id : ℕ) → get_key nat_eq b.ids id ≡ dropped (get_key nat_eq a.ids id) n.facts.id k id) where
-  represents-removal : RepresentsTree (links_at b.nodes) b.root b.next (pruned_at_key k v.tree)
-  represents-removal = rw (root, next) (gone_represents (links_at a.nodes) a.root a.next v.tree k _ (represents_for a v sound e) live (ap links_in node) (links_at b.nodes) (gone _ (ap links_in node)))
+  represents-removal : RepresentsTree (plain_node_at b.nodes) b.root b.next (pruned_at_key k v.tree)
+  represents-removal = rw (root, next) (gone_represents (plain_node_at a.nodes) a.root a.next v.tree k _ (represents_for a v sound e) live (ap plain_node_in node) (plain_node_at b.nodes) (gone _ (ap plain_node_in node)))
 
   pub tree-removal : tree_of b ≡ pruned_at_key k v.tree
-  tree-removal = tree_is (links_at b.nodes) b.root b.next _ represents-removal
+  tree-removal = tree_is (plain_node_at b.nodes) b.root b.next _ represents-removal
 
   pub next-removal : b.next ≡ v.next
   next-removal = next ∙ ap (λ (v : Views). v.next) e
@@ -49,7 +49,7 @@ module _ (a b : Inside) (v : Views) (k : ℕ) (n : Node) (sound : IsPlanted a) (
   sound-removal =
       let is = is_tree a v sound e in
       record {
-        represents = subst (RepresentsTree (links_at b.nodes) b.root b.next) (sym tree-removal) represents-removal;
+        represents = subst (RepresentsTree (plain_node_at b.nodes) b.root b.next) (sym tree-removal) represents-removal;
         kept = is_tree-pruned_at_key v (value_of b) k is tree-removal next-removal;
         full =
             let was : slab_len a.nodes ≡ count_of v.tree = sound.full ∙ ap (λ (v : Views). count_of v.tree) e in

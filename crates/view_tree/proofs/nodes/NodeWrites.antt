@@ -12,7 +12,7 @@ use Rattle.view_model.specs.Forest.{Forest, count_of}
 use Rattle.view_model.specs.PlainTree.{PlainView}
 use Rattle.view_tree.specs.table.Holders.{renamed}
 use Rattle.view_tree.specs.Rows.{Row, part_from, head_view, key_where, changed_at_key, count_of_key}
-use Rattle.view_tree.specs.node.Nodes.{PlainNode, links_in, links_of, links_at, held_by, held_in, RepresentsTree, forest, tree_of, value_of, view_of_node, IsPlanted, IsSoundTree, holders_of}
+use Rattle.view_tree.specs.node.Nodes.{PlainNode, plain_node_in, plain_node_of, plain_node_at, held_by, held_in, RepresentsTree, forest, tree_of, value_of, view_of_node, IsPlanted, IsSoundTree, holders_of}
 use Rattle.sibling_orders.specs.Ordering.{group_at}
 use Rattle.view_tree.proofs.orders.OnlyLayouts.{only-same}
 use Rattle.view_tree.proofs.orders.RowLaws.{grouped_kept}
@@ -63,13 +63,13 @@ all_kept old new k n m kept same key = elim (cases_eq key k) [
 ]
 
 -- a write that keeps what the node holds about the tree
-module _ (a : Inside) (k : ℕ) (n m : Node) (at : get a.nodes k ≡ Some n) (same : links_of m ≡ links_of n) where
-  all_same : links_at (with_value a.nodes k m) ≡ links_at a.nodes
+module _ (a : Inside) (k : ℕ) (n m : Node) (at : get a.nodes k ≡ Some n) (same : plain_node_of m ≡ plain_node_of n) where
+  all_same : plain_node_at (with_value a.nodes k m) ≡ plain_node_at a.nodes
   all_same =
       let u = Updates-with_value a.nodes k m (rw at) in
       fun_ext (λ q. elim (cases_eq q k) [
-        | inl e ↦ rw e (ap links_in u.changed ∙ ap (λ (s : PlainNode). Some s) same ∙ ap links_in (sym at))
-        | inr other ↦ ap links_in (u.others q other)
+        | inl e ↦ rw e (ap plain_node_in u.changed ∙ ap (λ (s : PlainNode). Some s) same ∙ ap plain_node_in (sym at))
+        | inr other ↦ ap plain_node_in (u.others q other)
       ])
 
   tree-write : tree_of (written a k m) ≡ tree_of a
@@ -123,7 +123,7 @@ pub record ViewPut (a other : Inside) (v : Views) (k : ℕ) (m : Node) (f : Plai
 
 -- a write that changes the view of a node
 module _ (a : Inside) (v : Views) (k : ℕ) (n m : Node) (f : PlainView → PlainView) (sound : IsPlanted a) (e : value_of a ≡ v) (at : get a.nodes k ≡ Some n)
-    (changes : links_of m ≡ record (links_of n) { view = f (links_of n).view })
+    (changes : plain_node_of m ≡ record (plain_node_of n) { view = f (plain_node_of n).view })
     (numbers : (w : PlainView) → (f w).number ≡ w.number) (classes : (w : PlainView) → (f w).class ≡ w.class)
     (offsets : (w : PlainView) → w.facts.offset ≡ pos 0 → (f w).facts.offset ≡ pos 0)
     (runs : KeepsRun f (head_view (part_from k v.tree)))
@@ -131,25 +131,25 @@ module _ (a : Inside) (v : Views) (k : ℕ) (n m : Node) (f : PlainView → Plai
   u : Updates a.nodes (with_value a.nodes k m) k (Some m)
   u = Updates-with_value a.nodes k m (rw at)
 
-  represents-put : RepresentsTree (links_at (with_value a.nodes k m)) a.root a.next (changed_at_key k f v.tree)
+  represents-put : RepresentsTree (plain_node_at (with_value a.nodes k m)) a.root a.next (changed_at_key k f v.tree)
   represents-put =
-      put_represents k f (links_at a.nodes) (links_at (with_value a.nodes k m))
+      put_represents k f (plain_node_at a.nodes) (plain_node_at (with_value a.nodes k m))
       (λ s says.
-      ap links_in u.changed
+      ap plain_node_in u.changed
       ∙ ap (λ (s : PlainNode). Some s) changes
-      ∙ ap (λ (s : PlainNode). Some (record s { view = f s.view })) (some_is (ap links_in (sym at) ∙ says)))
-      (λ x ne. ap links_in (u.others x ne))
+      ∙ ap (λ (s : PlainNode). Some (record s { view = f s.view })) (some_is (ap plain_node_in (sym at) ∙ says)))
+      (λ x ne. ap plain_node_in (u.others x ne))
       a.root a.next v.tree (represents_for a v sound e)
 
   head : view_of_node n ≡ head_view (part_from k v.tree)
   head = view_is a v k sound e live n at
 
   tree-put : tree_of (written a k m) ≡ changed_at_key k f v.tree
-  tree-put = tree_is (links_at (with_value a.nodes k m)) a.root a.next _ represents-put
+  tree-put = tree_is (plain_node_at (with_value a.nodes k m)) a.root a.next _ represents-put
 
   sound-put : IsPlanted (rewritten a other k m)
   sound-put = record {
-    represents = subst (RepresentsTree (links_at (with_value a.nodes k m)) a.root a.next) (sym tree-put) represents-put;
+    represents = subst (RepresentsTree (plain_node_at (with_value a.nodes k m)) a.root a.next) (sym tree-put) represents-put;
     kept = is_tree-put v (value_of (written a k m)) k f (subst IsTree e sound.kept) numbers classes offsets runs tree-put (ap (λ (v : Views). v.next) e);
     full =
         len_write a.nodes.slots k m (rw at) ∙ sound.full ∙ ap (λ (v : Views). count_of v.tree) e

@@ -4,7 +4,7 @@ use Rattle.std.proofs.lemmas.Bool.{eq-eqb, ne_eqb, cases_eq}
 use Rattle.std.specs.Prelude.{◌==◌, if◌then◌else◌}
 use Rattle.view_model.specs.Forest.{Forest, Nothing, Branch, count_of, or_else}
 use Rattle.view_tree.specs.Rows.{Row, count_of_key, first_key, last_key_or, pruned_at_key, part_from, children_of_first, At_first, Later, Later_on}
-use Rattle.view_tree.specs.node.Nodes.{PlainNode, RepresentsPart, links_for, replaced_if_none}
+use Rattle.view_tree.specs.node.Nodes.{PlainNode, RepresentsPart, plain_node_for, replaced_if_none}
 use Rattle.view_tree.proofs.forest.KeyLaws.{Within, here, in_below, in_after, count_of_key-within, times_self, located, absent, own_more}
 use Rattle.view_tree.proofs.nodes.ChildEdits.{edit_kids, RepresentsPart-along, edit_absent, edit_here, edit_there}
 use Rattle.view_tree.proofs.forest.Forests.{some_is}
@@ -60,7 +60,7 @@ tail_ok at new p q q0 n Nothing next before after_new others_same once s = tt
 tail_ok at new p q q0 n (Branch row kids siblings) next before after_new others_same once s =
     let apart : (x : ℕ) → 0 < count_of_key x kids + count_of_key x siblings → n.next ≢ Some x = λ x h e. let o = once x in
     let w = own_more row kids siblings x (some_is (sym next ∙ e)) in absurd (omega arith) in (
-      after_new row.key (links_for row p q0 kids siblings) next s.0 ∙ ap (λ (o : Option ℕ). Some (links_for row p o kids siblings)) before,
+      after_new row.key (plain_node_for row p q0 kids siblings) next s.0 ∙ ap (λ (o : Option ℕ). Some (plain_node_for row p o kids siblings)) before,
       RepresentsPart-along at new (Some row.key) None kids (λ x h. others_same x (omega arith) (apart x (omega arith))) s.1,
       RepresentsPart-along at new p (Some row.key) siblings (λ x h. others_same x (omega arith) (apart x (omega arith))) s.2,
     )
@@ -76,7 +76,7 @@ module _ (at : ℕ → Option PlainNode) (p : Option ℕ) (k : ℕ) (row : Row) 
   k_in : 0 < count_of_key k u
   k_in = subst (λ k. 0 < count_of_key k (Branch row c siblings)) is (times_self row c siblings)
 
-  pub node_is : (q : Option ℕ) → RepresentsPart at p q u → n ≡ links_for row p q c siblings
+  pub node_is : (q : Option ℕ) → RepresentsPart at p q u → n ≡ plain_node_for row p q c siblings
   node_is q s = some_is (sym says ∙ ap at (sym is) ∙ s.0)
 
   -- the node before it is among these
@@ -159,7 +159,7 @@ module _ (at : ℕ → Option PlainNode) (p : Option ℕ) (k : ℕ) (row : Row) 
         let before : n.previous ≡ Some row1.key = ap (λ (n : PlainNode). n.previous) e in
         let next : n.next ≡ first_key siblings = ap (λ (n : PlainNode). n.next) e in
         rw (cut_there k row1 kids1 u ne, cut_absent k kids1 z, cut_here k row c siblings is) (
-          before_new row1.key (links_for row1 p q kids1 u) before s.0 ∙ ap (λ (o : Option ℕ). Some (record (links_for row1 p q kids1 u) { next = o })) next,
+          before_new row1.key (plain_node_for row1 p q kids1 u) before s.0 ∙ ap (λ (o : Option ℕ). Some (record (plain_node_for row1 p q kids1 u) { next = o })) next,
           RepresentsPart-along at new (Some row1.key) None kids1
               (λ x h. others_same x (omega arith)
               (λ i. let h' : 0 < count_of_key k kids1 = rw i at h in absurd (omega arith))
@@ -187,7 +187,7 @@ module _ (at : ℕ → Option PlainNode) (p : Option ℕ) (k : ℕ) (row : Row) 
               (λ i. let o = once row1.key in let w = own_more row1 kids1 (Branch row2 kids2 siblings2) row1.key refl in
               let h = next_in (Some row1.key) (Branch row2 kids2 siblings2) row1.key (Later_on l) s.2 i in
               let m = a_in row1.key (Branch row2 kids2 siblings2) (Later_on l) in absurd (omega arith))
-              ∙ s.0 ∙ ap (λ (o : Option ℕ). Some (record (links_for row1 p q kids1 (Branch row2 kids2 siblings2)) { next = o })) (sym same),
+              ∙ s.0 ∙ ap (λ (o : Option ℕ). Some (record (plain_node_for row1 p q kids1 (Branch row2 kids2 siblings2)) { next = o })) (sym same),
           RepresentsPart-along at new (Some row1.key) None kids1
               (λ x h. others_same x (omega arith)
               (λ i. let h' : 0 < count_of_key k kids1 = rw i at h in absurd (omega arith))

@@ -3,7 +3,7 @@ use Rattle.std.proofs.Common.{◌≡◌, ◌≢◌, ℕ, ◌<◌, ◌≤◌, Opt
 use Rattle.view_model.specs.Forest.{Forest, Nothing, Branch}
 use Rattle.view_tree.specs.Rows.{Row, count_of_key, first_key, pruned_at_key, later_siblings, Later_on, At_first, Later}
 use Rattle.view_tree.proofs.nodes.ChangedNodes.{changed_not, changed_is, without_not}
-use Rattle.view_tree.specs.node.Nodes.{PlainNode, RepresentsPart, RepresentsTree, links_for, replaced_if_none, unlinked, IsAround}
+use Rattle.view_tree.specs.node.Nodes.{PlainNode, RepresentsPart, RepresentsTree, plain_node_for, replaced_if_none, unlinked, IsAround}
 use Rattle.view_tree.proofs.forest.KeyLaws.{count_of_key-within, times_self, located, Located, own_more}
 use Rattle.view_tree.proofs.forest.Forests.{RepresentsPart-within, some_is}
 use Rattle.view_tree.proofs.nodes.ChildEdits.{edit_kids, RepresentsPart-edit, later_siblings-edit, first_key-edit}
@@ -76,7 +76,7 @@ module _ (at : ℕ → Option PlainNode) (root : Option ℕ) (next : ℕ) (t : F
     pub beside : Beside at (Some h.row.key) (Branch f.row f.kids f.siblings)
     beside = RepresentsPart-later at (Some h.row.key) None h.later home
 
-    pub is_node : n ≡ links_for f.row (Some h.row.key) beside.before f.kids f.siblings
+    pub is_node : n ≡ plain_node_for f.row (Some h.row.key) beside.before f.kids f.siblings
     is_node = some_is (sym says ∙ ap at (sym f.key_is) ∙ beside.represented.0)
 
     parent_is : n.parent ≡ Some h.row.key
@@ -137,9 +137,9 @@ module _ (at : ℕ → Option PlainNode) (root : Option ℕ) (next : ℕ) (t : F
           (λ x p ne kids siblings. others_same at new k n eq around.apart x ne kids siblings (λ e. let z = row_out x (some_is (sym parent_is ∙ e)) in absurd (omega arith)))
           s
 
-      own : (p q : Option ℕ) → at h.row.key ≡ Some (links_for h.row p q h.kids h.siblings) → new h.row.key ≡ Some (links_for h.row p q (pruned_at_key k h.kids) h.siblings)
+      own : (p q : Option ℕ) → at h.row.key ≡ Some (plain_node_for h.row p q h.kids h.siblings) → new h.row.key ≡ Some (plain_node_for h.row p q (pruned_at_key k h.kids) h.siblings)
       own p q e =
-          parent_new at new k n eq around.apart h.row.key (links_for h.row p q h.kids h.siblings) parent_is e
+          parent_new at new k n eq around.apart h.row.key (plain_node_for h.row p q h.kids h.siblings) parent_is e
           ∙ rw (cut_first at (Some h.row.key) k f.row f.kids f.siblings n f.key_is says h.kids h.later once_b home, cut_last at (Some h.row.key) k f.row f.kids f.siblings n f.key_is says h.kids None h.later once_b home)
 
       others : (x : ℕ) → 0 < count_of_key x t → count_of_key x (Branch h.row h.kids Nothing) ≡ 0 → new x ≡ at x
@@ -171,10 +171,10 @@ module _ (at : ℕ → Option PlainNode) (root : Option ℕ) (next : ℕ) (t : F
     no_more : f.siblings ≡ Nothing
     no_more = ap later_siblings (sym whole) ∙ represents.single
 
-    is_root : n ≡ links_for f.row None None f.kids Nothing
+    is_root : n ≡ plain_node_for f.row None None f.kids Nothing
     is_root =
         let s : RepresentsPart at None None (Branch f.row f.kids f.siblings) = subst (λ t. RepresentsPart at None None t) whole represents.represented in
-        some_is (sym says ∙ ap at (sym f.key_is) ∙ s.0) ∙ ap (λ siblings. links_for f.row None None f.kids siblings) no_more
+        some_is (sym says ∙ ap at (sym f.key_is) ∙ s.0) ∙ ap (λ siblings. plain_node_for f.row None None f.kids siblings) no_more
 
     pub around_top : HasLiveNeighbours k n t
     around_top =

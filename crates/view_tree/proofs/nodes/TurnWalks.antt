@@ -5,7 +5,7 @@ use Rattle.slab.specs.Slab.{ContainsKey, Slab, get}
 use Rattle.view_model.specs.Numbers.{max_views}
 use Rattle.view_model.specs.Direction.{dir}
 use Rattle.view_model.specs.Forest.{Forest, Nothing, Branch, count_of}
-use Rattle.view_tree.specs.node.Nodes.{PlainNode, RepresentsPart, forest, links_at, links_for, links_in}
+use Rattle.view_tree.specs.node.Nodes.{PlainNode, RepresentsPart, forest, plain_node_at, plain_node_for, plain_node_in}
 use Rattle.view_tree.specs.Rows.{Row, children_of_first, count_of_key, first_key, first_tree, rest_from}
 use Rattle.view_tree.specs.node.Turning.{HaveTurned, IsPart, RunsBelow, part_at, running_node, turned_node}
 use Rattle.view_tree.specs.Views.{AreDirected}
@@ -42,13 +42,13 @@ pub record TurnWalk (old now : ℕ → Option Node) (rtl : Bool) (view : ℕ) (k
   pub first : first_key rest ≡ next
   pub done : TurnedUntil old now rtl rest kids
   pub before : Option ℕ
-  pub represented : RepresentsPart (λ key. links_in (now key)) (Some view) before rest
+  pub represented : RepresentsPart (λ key. plain_node_in (now key)) (Some view) before rest
   pub still : (key : ℕ) → 0 < count_of_key key rest → now key ≡ old key
   pub out : (key : ℕ) → count_of_key key kids ≡ 0 → key ≢ view → now key ≡ old key
   pub own : now view ≡ option_map (running_node rtl) (old view)
 
 -- a view with what its node says
-module _ (nodes : Slab Node) (view : ℕ) (is : IsPart (links_at nodes) view (part_at nodes view)) where
+module _ (nodes : Slab Node) (view : ℕ) (is : IsPart (plain_node_at nodes) view (part_at nodes view)) where
   pub at : First (part_at nodes view) view
   at = first_of (part_at nodes view) view is.first
 
@@ -61,12 +61,12 @@ module _ (nodes : Slab Node) (view : ℕ) (is : IsPart (links_at nodes) view (pa
   once_at : (key : ℕ) → count_of_key key (Branch at.row at.kids at.siblings) ≤ 1
   once_at key = subst (λ part. count_of_key key part ≤ 1) at.is (is.once key)
 
-  represented_at : RepresentsPart (links_at nodes) is.parent is.before (Branch at.row at.kids at.siblings)
-  represented_at = subst (RepresentsPart (links_at nodes) is.parent is.before) at.is is.represented
+  represented_at : RepresentsPart (plain_node_at nodes) is.parent is.before (Branch at.row at.kids at.siblings)
+  represented_at = subst (RepresentsPart (plain_node_at nodes) is.parent is.before) at.is is.represented
 
-  pub node : Says (get nodes view) (links_for at.row is.parent is.before at.kids at.siblings)
-  node = subst (λ k. Says (get nodes k) (links_for at.row is.parent is.before at.kids at.siblings)) at.key_is
-      (says (get nodes at.row.key) (links_for at.row is.parent is.before at.kids at.siblings) represented_at.0)
+  pub node : Says (get nodes view) (plain_node_for at.row is.parent is.before at.kids at.siblings)
+  node = subst (λ k. Says (get nodes k) (plain_node_for at.row is.parent is.before at.kids at.siblings)) at.key_is
+      (says (get nodes at.row.key) (plain_node_for at.row is.parent is.before at.kids at.siblings) represented_at.0)
 
   pub there : ContainsKey nodes view
   there = rw node.at
@@ -128,8 +128,8 @@ module _ (nodes : Slab Node) (view : ℕ) (is : IsPart (links_at nodes) view (pa
     first = refl;
     done = At_rest;
     before = None;
-    represented = RepresentsPart-along (links_at nodes) (links_at now) (Some view) None kids (λ key live. ap links_in (others key (not_view key live)))
-        (subst (λ list. RepresentsPart (links_at nodes) (Some view) None list) (sym kids_is) (subst (λ k. RepresentsPart (links_at nodes) (Some k) None at.kids) at.key_is represented_at.1));
+    represented = RepresentsPart-along (plain_node_at nodes) (plain_node_at now) (Some view) None kids (λ key live. ap plain_node_in (others key (not_view key live)))
+        (subst (λ list. RepresentsPart (plain_node_at nodes) (Some view) None list) (sym kids_is) (subst (λ k. RepresentsPart (plain_node_at nodes) (Some k) None at.kids) at.key_is represented_at.1));
     still = λ key live. others key (not_view key live);
     out = λ key none ne. others key ne;
     own = own;
@@ -140,12 +140,12 @@ module _ (nodes : Slab Node) (view : ℕ) (is : IsPart (links_at nodes) view (pa
     pub kid_at : First w.rest kid
     kid_at = first_of w.rest kid w.first
 
-    kid_represented : RepresentsPart (links_at now) (Some view) w.before (Branch kid_at.row kid_at.kids kid_at.siblings)
-    kid_represented = subst (RepresentsPart (links_at now) (Some view) w.before) kid_at.is w.represented
+    kid_represented : RepresentsPart (plain_node_at now) (Some view) w.before (Branch kid_at.row kid_at.kids kid_at.siblings)
+    kid_represented = subst (RepresentsPart (plain_node_at now) (Some view) w.before) kid_at.is w.represented
 
-    kid_node : Says (get now kid) (links_for kid_at.row (Some view) w.before kid_at.kids kid_at.siblings)
-    kid_node = subst (λ k. Says (get now k) (links_for kid_at.row (Some view) w.before kid_at.kids kid_at.siblings)) kid_at.key_is
-        (says (get now kid_at.row.key) (links_for kid_at.row (Some view) w.before kid_at.kids kid_at.siblings) kid_represented.0)
+    kid_node : Says (get now kid) (plain_node_for kid_at.row (Some view) w.before kid_at.kids kid_at.siblings)
+    kid_node = subst (λ k. Says (get now k) (plain_node_for kid_at.row (Some view) w.before kid_at.kids kid_at.siblings)) kid_at.key_is
+        (says (get now kid_at.row.key) (plain_node_for kid_at.row (Some view) w.before kid_at.kids kid_at.siblings) kid_represented.0)
 
     pub kid_there : ContainsKey now kid
     kid_there = rw kid_node.at
@@ -159,18 +159,18 @@ module _ (nodes : Slab Node) (view : ℕ) (is : IsPart (links_at nodes) view (pa
     kid_part : part_at now kid ≡ w.rest
     kid_part =
         let few = rest_few in
-        ap (forest (suc max_views) (links_at now)) (sym w.first)
-        ∙ forest_is (suc max_views) (links_at now) (Some view) w.before w.rest w.represented (omega arith)
+        ap (forest (suc max_views) (plain_node_at now)) (sym w.first)
+        ∙ forest_is (suc max_views) (plain_node_at now) (Some view) w.before w.rest w.represented (omega arith)
 
     rest_directed : {rest list : Forest Row} (above : Bool) → TurnedUntil (get nodes) (get now) rtl rest list → AreDirected above list → AreDirected above rest
     rest_directed above At_rest are = are
     rest_directed above (Past turned u) are = rest_directed above u are.2
 
-    pub kid_can : IsPart (links_at now) kid (part_at now kid)
+    pub kid_can : IsPart (plain_node_at now) kid (part_at now kid)
     kid_can =
         let below : RunsBelow w.rest =
         subst RunsBelow (sym kid_at.is) (subst (AreDirected at.row.view.facts.rtl) kid_at.is (rest_directed at.row.view.facts.rtl w.done directed_at)).1 in
-        subst (IsPart (links_at now) kid) (sym kid_part) (record {
+        subst (IsPart (plain_node_at now) kid) (sym kid_part) (record {
           parent = Some view;
           before = w.before;
           represented = w.represented;
@@ -230,8 +230,8 @@ module _ (nodes : Slab Node) (view : ℕ) (is : IsPart (links_at nodes) view (pa
           done = until_on (get nodes) (get now) (get end) rtl kid_at.row kid_at.kids kid_at.siblings once_kids done
               (from_now (Branch kid_at.row kid_at.kids Nothing) (λ key live. same key (omega arith)) rtl has) out;
           before = Some kid_at.row.key;
-          represented = RepresentsPart-along (links_at now) (links_at end) (Some view) (Some kid_at.row.key) kid_at.siblings
-              (λ key live. ap links_in (out key (let one = whole key in omega arith))) kid_represented.2;
+          represented = RepresentsPart-along (plain_node_at now) (plain_node_at end) (Some view) (Some kid_at.row.key) kid_at.siblings
+              (λ key live. ap plain_node_in (out key (let one = whole key in omega arith))) kid_represented.2;
           still = λ key live. out key (let one = whole key in omega arith) ∙ same key (omega arith);
           out = λ key none ne. out key (away key none) ∙ w.out key none ne;
           own = out view (let none : count_of_key view kids ≡ 0 = view_apart in away view none) ∙ w.own;

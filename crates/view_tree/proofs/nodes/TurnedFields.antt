@@ -13,7 +13,7 @@ use Rattle.view_model.specs.Forest.{Forest, Nothing, Branch, count_of}
 use Rattle.view_model.specs.PlainTree.{PlainView}
 use Rattle.view_tree.proofs.nodes.NodeWrites.{len_write}
 use Rattle.view_tree.specs.tree.Directions.{directed_rows, is_rtl_above, turned_keys, with_direction}
-use Rattle.view_tree.specs.node.Nodes.{IsPlanted, IsSoundTree, PlainNode, RepresentsTree, forest, held_in, links_at, links_in, tree_of, value_of}
+use Rattle.view_tree.specs.node.Nodes.{IsPlanted, IsSoundTree, PlainNode, RepresentsTree, forest, held_in, plain_node_at, plain_node_in, tree_of, value_of}
 use Rattle.view_tree.specs.tree.Groups.{HasNoOther}
 use Rattle.sibling_orders.specs.Ordering.{IsGrouped, group_at}
 use Rattle.view_tree.specs.Rows.{Row, changed_at_key, count_of_key, first_tree, key_where, part_from}
@@ -54,13 +54,13 @@ module _ (a : Inside) (v : Views) (view : ℕ) (direction : Direction) (n : Node
   u : Updates a.nodes first_nodes view (Some (node_with direction n))
   u = Updates-with_value a.nodes view (node_with direction n) (rw at)
 
-  first_represented : RepresentsTree (links_at first_nodes) a.root a.next first_tree_of
+  first_represented : RepresentsTree (plain_node_at first_nodes) a.root a.next first_tree_of
   first_represented =
-      put_represents view (with_direction direction) (links_at a.nodes) (links_at first_nodes)
+      put_represents view (with_direction direction) (plain_node_at a.nodes) (plain_node_at first_nodes)
       (λ s says.
-      ap links_in u.changed
-      ∙ ap (λ (s : PlainNode). Some (record s { view = with_direction direction s.view })) (some_is (ap links_in (sym at) ∙ says)))
-      (λ x ne. ap links_in (u.others x ne))
+      ap plain_node_in u.changed
+      ∙ ap (λ (s : PlainNode). Some (record s { view = with_direction direction s.view })) (some_is (ap plain_node_in (sym at) ∙ says)))
+      (λ x ne. ap plain_node_in (u.others x ne))
       a.root a.next v.tree (represents_for a v planted e)
 
   alike : Alike v.tree last_tree
@@ -85,13 +85,13 @@ module _ (a : Inside) (v : Views) (view : ℕ) (direction : Direction) (n : Node
   few_first : count_of first_tree_of ≤ max_views
   few_first = rw (count-alike (alike_put view direction v.tree)) is.few
 
-  first_part : IsPart (links_at first_nodes) view part
+  first_part : IsPart (plain_node_at first_nodes) view part
   first_part =
       let f = located view first_tree_of live_first in
-      let w = RepresentsPart-within (links_at first_nodes) None None f.within first_represented.represented in
+      let w = RepresentsPart-within (plain_node_at first_nodes) None None f.within first_represented.represented in
       let few = count-within f.within in
       let all = few_first in
-      let whole : IsPart (links_at first_nodes) view (Branch f.row f.kids f.siblings) = record {
+      let whole : IsPart (plain_node_at first_nodes) view (Branch f.row f.kids f.siblings) = record {
         parent = w.parent;
         before = w.before;
         represented = w.represented;
@@ -100,18 +100,18 @@ module _ (a : Inside) (v : Views) (view : ℕ) (direction : Direction) (n : Node
         few = omega arith;
         below = subst RunsBelow f.is below;
       } in
-      subst (IsPart (links_at first_nodes) view) (sym f.is) whole
+      subst (IsPart (plain_node_at first_nodes) view) (sym f.is) whole
 
   part_same : part_at first_nodes view ≡ part
   part_same =
       let p = first_part in
       let few = p.few in
-      ap (forest (suc max_views) (links_at first_nodes)) (sym p.first)
-      ∙ forest_is (suc max_views) (links_at first_nodes) p.parent p.before part p.represented (omega arith)
+      ap (forest (suc max_views) (plain_node_at first_nodes)) (sym p.first)
+      ∙ forest_is (suc max_views) (plain_node_at first_nodes) p.parent p.before part p.represented (omega arith)
 
   -- what a turn wants
-  pub can_turn : IsPart (links_at first_nodes) view (part_at first_nodes view)
-  can_turn = subst (IsPart (links_at first_nodes) view) (sym part_same) first_part
+  pub can_turn : IsPart (plain_node_at first_nodes) view (part_at first_nodes view)
+  can_turn = subst (IsPart (plain_node_at first_nodes) view) (sym part_same) first_part
 
   module _ (above : Bool) (runs : above ≡ is_rtl_above v view) (nodes : Slab Node)
       (turned : HaveTurned (get first_nodes) (get nodes) above (first_tree (part_at first_nodes view)))
@@ -129,7 +129,7 @@ module _ (a : Inside) (v : Views) (view : ℕ) (direction : Direction) (n : Node
         same key Nothing = refl
         same key (Branch row kids siblings) = refl
 
-    last_represents : RepresentsTree (links_at nodes) a.root a.next last_tree
+    last_represents : RepresentsTree (plain_node_at nodes) a.root a.next last_tree
     last_represents = record {
       outer = first_key-directed false first_tree_of ∙ first_represented.outer;
       single = later_siblings-alike (alike_directed false (alike_put view direction v.tree)) is.root;
@@ -142,13 +142,13 @@ module _ (a : Inside) (v : Views) (view : ℕ) (direction : Direction) (n : Node
     turned_inside = record a { nodes = nodes }
 
     pub tree-turned : tree_of turned_inside ≡ last_tree
-    tree-turned = tree_is (links_at nodes) a.root a.next _ last_represents
+    tree-turned = tree_is (plain_node_at nodes) a.root a.next _ last_represents
 
     pub planted-turned : IsPlanted turned_inside
     planted-turned =
         let now : Alike v.tree (tree_of turned_inside) = subst (Alike v.tree) (sym tree-turned) alike in
         record {
-          represents = subst (RepresentsTree (links_at nodes) a.root a.next) (sym tree-turned) last_represents;
+          represents = subst (RepresentsTree (plain_node_at nodes) a.root a.next) (sym tree-turned) last_represents;
           kept = is_tree-alike v (value_of turned_inside) is now (subst (AreDirected false) (sym tree-turned) (directed-rows false first_tree_of)) (ap (λ (v : Views). v.next) e);
           full = len ∙ len_write a.nodes.slots view (node_with direction n) (rw at) ∙ planted.full ∙ ap (λ (v : Views). count_of v.tree) e ∙ sym (count-alike now);
           found = λ number.

@@ -5,7 +5,7 @@ use Rattle.std.specs.Prelude.{◌==◌, if◌then◌else◌, map, not, option_ma
 use Rattle.view_model.specs.Direction.{dir}
 use Rattle.view_model.specs.Directed.{turned}
 use Rattle.view_model.specs.Forest.{Forest, Nothing, Branch}
-use Rattle.view_tree.specs.node.Nodes.{PlainNode, RepresentsPart, held_by, held_in, links_for, links_in}
+use Rattle.view_tree.specs.node.Nodes.{PlainNode, RepresentsPart, held_by, held_in, plain_node_for, plain_node_in}
 use Rattle.view_tree.specs.tree.Directions.{turned_keys}
 use Rattle.view_tree.specs.tree.Requests.{among, forced_one}
 use Rattle.view_tree.specs.Rows.{Row, count_of_key}
@@ -101,7 +101,7 @@ held-turned rtl own n is =
     by_test false = refl
 
 module _ (old new : ℕ → Option Node) where
-  pub held_turned : (above : Bool) (p q : Option ℕ) (t : Forest Row) → ((key : ℕ) → count_of_key key t ≤ 1) → RepresentsPart (λ key. links_in (old key)) p q t
+  pub held_turned : (above : Bool) (p q : Option ℕ) (t : Forest Row) → ((key : ℕ) → count_of_key key t ≤ 1) → RepresentsPart (λ key. plain_node_in (old key)) p q t
       → HaveTurned old new above t → (key : ℕ) → 0 < count_of_key key t → held_in (new key) ≡ forced_if (among key (turned_keys above t)) (held_in (old key))
   held_turned above p q Nothing once s turned key live = absurd (omega arith)
   held_turned above p q (Branch row kids siblings) once s turned key live =
@@ -110,7 +110,7 @@ module _ (old new : ℕ → Option Node) where
       elim (cases_eq row.key key) [
         | inl e ↦
             let one = rw (eq-eqb row.key key e) at one in
-            let node = says (old row.key) (links_for row p q kids siblings) s.0 in
+            let node = says (old row.key) (plain_node_for row p q kids siblings) s.0 in
             let own : held_in (new row.key) ≡ forced_if (not (runs_so rtl row.view.facts.rtl)) (held_in (old row.key)) =
             ap held_in (turned.0 ∙ ap (option_map (turned_node rtl)) node.at)
             ∙ held-turned rtl row.view.facts.rtl node.node (ap (λ (n : PlainNode). n.view.facts.rtl) node.all)

@@ -6,7 +6,7 @@ use Rattle.view_model.specs.Direction.{dir}
 use Rattle.view_model.specs.Directed.{running}
 use Rattle.view_model.specs.Forest.{Forest, Nothing, Branch}
 use Rattle.view_tree.specs.tree.Directions.{directed_rows, row_running}
-use Rattle.view_tree.specs.node.Nodes.{PlainNode, RepresentsPart, links_for, links_in, links_of}
+use Rattle.view_tree.specs.node.Nodes.{PlainNode, RepresentsPart, plain_node_for, plain_node_in, plain_node_of}
 use Rattle.view_tree.specs.Rows.{Row, count_of_key, first_key, last_key_or}
 use Rattle.view_tree.specs.node.Turning.{HaveTurned, running_node, runs_so, turned_node}
 use Rattle.view_tree.specs.Views.{AreDirected}
@@ -31,9 +31,9 @@ runs_other rtl own ne = elim (cases_Bool (runs_so rtl own)) [
 ]
 
 -- a node that turns is the same except the way in which its view runs
-pub links-turned : (rtl : Bool) (n : Node) → links_of (turned_node rtl n) ≡ record (links_of n) { view = running rtl (links_of n).view }
+pub links-turned : (rtl : Bool) (n : Node) → plain_node_of (turned_node rtl n) ≡ record (plain_node_of n) { view = running rtl (plain_node_of n).view }
 links-turned rtl n = elim (cases_Bool (runs_so rtl n.facts.rtl)) [
-  | inl is ↦ rw is (ap (λ (way : Bool). record (links_of n) { view = running way (links_of n).view }) (same_runs rtl n.facts.rtl is))
+  | inl is ↦ rw is (ap (λ (way : Bool). record (plain_node_of n) { view = running way (plain_node_of n).view }) (same_runs rtl n.facts.rtl is))
   | inr isnt ↦ rw isnt refl
 ]
 
@@ -54,14 +54,14 @@ last_key-directed above before (Branch row kids siblings) = last_key-directed ab
 
 module _ (old new : ℕ → Option Node) where
   -- the nodes represent the trees that have turned
-  pub represents_turned : (above : Bool) (p q : Option ℕ) (t : Forest Row) → RepresentsPart (λ key. links_in (old key)) p q t → HaveTurned old new above t
-      → RepresentsPart (λ key. links_in (new key)) p q (directed_rows above t)
+  pub represents_turned : (above : Bool) (p q : Option ℕ) (t : Forest Row) → RepresentsPart (λ key. plain_node_in (old key)) p q t → HaveTurned old new above t
+      → RepresentsPart (λ key. plain_node_in (new key)) p q (directed_rows above t)
   represents_turned above p q Nothing s turned = tt
   represents_turned above p q (Branch row kids siblings) s turned =
       let rtl = dir above row.view.facts.direction in
-      let node = says (old row.key) (links_for row p q kids siblings) s.0 in
-      let own : links_in (new row.key) ≡ Some (links_for (row_running rtl row) p q (directed_rows rtl kids) (directed_rows above siblings)) =
-      ap links_in (turned.0 ∙ ap (option_map (turned_node rtl)) node.at)
+      let node = says (old row.key) (plain_node_for row p q kids siblings) s.0 in
+      let own : plain_node_in (new row.key) ≡ Some (plain_node_for (row_running rtl row) p q (directed_rows rtl kids) (directed_rows above siblings)) =
+      ap plain_node_in (turned.0 ∙ ap (option_map (turned_node rtl)) node.at)
       ∙ ap (λ (n : PlainNode). Some n) (links-turned rtl node.node)
       ∙ ap (λ (n : PlainNode). Some (record n { view = running rtl n.view })) node.all
       ∙ rw (first_key-directed rtl kids, last_key-directed rtl None kids, first_key-directed above siblings) refl in (
@@ -71,12 +71,12 @@ module _ (old new : ℕ → Option Node) where
       )
 
   -- what runs as it is to stays
-  pub still_turned : (above : Bool) (p q : Option ℕ) (t : Forest Row) → RepresentsPart (λ key. links_in (old key)) p q t → AreDirected above t
+  pub still_turned : (above : Bool) (p q : Option ℕ) (t : Forest Row) → RepresentsPart (λ key. plain_node_in (old key)) p q t → AreDirected above t
       → ((key : ℕ) → 0 < count_of_key key t → new key ≡ old key) → HaveTurned old new above t
   still_turned above p q Nothing s are same = tt
   still_turned above p q (Branch row kids siblings) s are same =
       let rtl = dir above row.view.facts.direction in
-      let node = says (old row.key) (links_for row p q kids siblings) s.0 in
+      let node = says (old row.key) (plain_node_for row p q kids siblings) s.0 in
       let runs : node.node.facts.rtl ≡ rtl = ap (λ (n : PlainNode). n.view.facts.rtl) node.all ∙ are.0 in (
         same row.key (times_self row kids siblings) ∙ node.at
             ∙ ap (λ (n : Node). Some n) (sym (turned_still rtl node.node runs))

@@ -6,7 +6,7 @@ use Rattle.view_model.specs.declared.placing.Direction.{Direction}
 use Rattle.view_model.specs.Direction.{dir}
 use Rattle.view_model.specs.Forest.{Forest, Nothing, Branch, or_else}
 use Rattle.view_tree.specs.tree.Directions.{first_runs, with_direction}
-use Rattle.view_tree.specs.node.Nodes.{PlainNode, RepresentsPart, links_for, links_in}
+use Rattle.view_tree.specs.node.Nodes.{PlainNode, RepresentsPart, plain_node_for, plain_node_in}
 use Rattle.view_tree.specs.Rows.{Row, around, changed_at_key, count_of_key, first_tree, head_view, part_from}
 use Rattle.view_tree.specs.node.Turning.{HaveTurned, turned_node}
 use Rattle.view_tree.specs.Views.{AreDirected}
@@ -68,16 +68,16 @@ part_few view key t live =
 module _ (old new : ℕ → Option Node) (view : ℕ) (direction : Direction) where
   -- a view that runs as it is to
   own_still : (above : Bool) (p q : Option ℕ) (row : Row) (kids siblings : Forest Row)
-      → links_in (old row.key) ≡ Some (links_for row p q kids siblings) → row.view.facts.rtl ≡ dir above row.view.facts.direction → new row.key ≡ old row.key
+      → plain_node_in (old row.key) ≡ Some (plain_node_for row p q kids siblings) → row.view.facts.rtl ≡ dir above row.view.facts.direction → new row.key ≡ old row.key
       → new row.key ≡ option_map (turned_node (dir above row.view.facts.direction)) (old row.key)
   own_still above p q row kids siblings represents runs same =
       let rtl = dir above row.view.facts.direction in
-      let node = says (old row.key) (links_for row p q kids siblings) represents in
+      let node = says (old row.key) (plain_node_for row p q kids siblings) represents in
       let way : node.node.facts.rtl ≡ rtl = ap (λ (n : PlainNode). n.view.facts.rtl) node.all ∙ runs in
       same ∙ node.at ∙ ap (λ (n : Node). Some n) (sym (turned_still rtl node.node way)) ∙ ap (option_map (turned_node rtl)) (sym node.at)
 
   pub whole_turned : (above : Bool) (p q : Option ℕ) (t : Forest Row) → ((key : ℕ) → count_of_key key t ≤ 1) → 0 < count_of_key view t → AreDirected above t
-      → RepresentsPart (λ key. links_in (old key)) p q (changed_at_key view (with_direction direction) t)
+      → RepresentsPart (λ key. plain_node_in (old key)) p q (changed_at_key view (with_direction direction) t)
       → HaveTurned old new (above_in above view t) (first_tree (part_with direction (part_from view t)))
       → ((key : ℕ) → count_of_key key (first_tree (part_from view t)) ≡ 0 → new key ≡ old key)
       → HaveTurned old new above (changed_at_key view (with_direction direction) t)

@@ -9,9 +9,9 @@ use Rattle.view_model.specs.declared.relative.Link.{Link}
 use Rattle.view_model.specs.SiblingRules.{last_below, last_with_id, no_link}
 use Rattle.view_tree.specs.declared.table.ids.Holders.{Holders}
 use Rattle.view_tree.specs.declared.tree.ViewTree.TheInside.{Inside}
-use Rattle.view_tree.specs.node.Nodes.{IsPlanted, has_id, holders_of, links_at, links_in, links_of, value_of}
+use Rattle.view_tree.specs.node.Nodes.{IsPlanted, has_id, holders_of, plain_node_at, plain_node_in, plain_node_of, value_of}
 use Rattle.view_model.specs.Cycles.{link_of}
-use Rattle.view_model.specs.Cycles.{links_in as links_read}
+use Rattle.view_model.specs.Cycles.{links_in}
 use Rattle.view_tree.specs.Rows.{Row, ancestors, children_of_first, count_of_key, count_where, first_key, head_view, keys_where, part_from, siblings_from, views_of}
 use Rattle.view_tree.specs.Views.{Held, IsLive, IsNobodys, IsOnlyHolder, IsTree, Views, held_of, number_of, plain_rows}
 use Rattle.view_tree.proofs.forest.Forests.{RepresentsPart-within, some_is}
@@ -99,12 +99,12 @@ last_cases passes (suc count) = elim (cases_Bool (passes count)) [
 
 -- a child among others has a place, and the view at a place is among them
 pub kid_place : (held : ℕ → Held) (number : ℕ) (list : Forest Row) → IsAmong number (plain_rows held list)
-    → (place : ℕ) × (place < length (links_read (views_of list))) × ((head_view (siblings_from place list)).number ≡ number)
+    → (place : ℕ) × (place < length (links_in (views_of list))) × ((head_view (siblings_from place list)).number ≡ number)
 kid_place held number Nothing none = absurd none
 kid_place held number (Branch row kids siblings) (inl is) = (0, omega arith, is)
 kid_place held number (Branch row kids siblings) (inr more) = let rest = kid_place held number siblings more in (suc rest.0, (let less = rest.1 in omega arith), rest.2)
 
-kid_among : (held : ℕ → Held) (number : ℕ) (list : Forest Row) (place : ℕ) → place < length (links_read (views_of list)) → (head_view (siblings_from place list)).number ≡ number
+kid_among : (held : ℕ → Held) (number : ℕ) (list : Forest Row) (place : ℕ) → place < length (links_in (views_of list)) → (head_view (siblings_from place list)).number ≡ number
     → IsAmong number (plain_rows held list)
 kid_among held number Nothing place small is = absurd (omega arith)
 kid_among held number (Branch row kids siblings) zero small is = inl is
@@ -116,7 +116,7 @@ module _ (a : Inside) (views : Views) (view only id : ℕ) (reported : Option �
   kids = children_of_first (part_from view views.tree)
 
   abbrev links : List Link
-  links = links_read (views_of kids)
+  links = links_in (views_of kids)
 
   abbrev passes : ℕ → Bool
   passes place = (get_or links place no_link).id == id
@@ -166,10 +166,10 @@ module _ (a : Inside) (views : Views) (view only id : ℕ) (reported : Option �
         let among = kid_among (held_of views) (number_of views only) kids some.0 some.1 number in
         let f = located view views.tree live in
         let o = node_of a views only planted e holder.live in
-        let was_represented = (RepresentsPart-within (links_at a.nodes) None None f.within (represents_for a views planted e).represented).represented in
+        let was_represented = (RepresentsPart-within (plain_node_at a.nodes) None None f.within (represents_for a views planted e).represented).represented in
         let agree = agree_within only (number_of views only) f.row f.kids f.siblings f.within (agree_live views only is holder.live) in
-        let above : o.says.node.links.parent ≡ Some f.row.key = parent_among (links_at a.nodes) (held_of views) only (number_of views only) (links_of o.says.node) (Some f.row.key) None f.kids
-        (ap links_in o.says.at) was_represented.1 agree.1 (subst (λ part. IsAmong (number_of views only) (plain_rows (held_of views) (children_of_first part))) f.is among) in
+        let above : o.says.node.links.parent ≡ Some f.row.key = parent_among (plain_node_at a.nodes) (held_of views) only (number_of views only) (plain_node_of o.says.node) (Some f.row.key) None f.kids
+        (ap plain_node_in o.says.at) was_represented.1 agree.1 (subst (λ part. IsAmong (number_of views only) (plain_rows (held_of views) (children_of_first part))) f.is among) in
         away (said a views only reported planted e holder.live path ∙ above ∙ ap (λ k. Some k) f.key_is))
   ]
 
@@ -183,10 +183,10 @@ nobodys views id none = λ named key live same.
     omega arith
 
 pub no_child : (views : Views) (view id : ℕ) → IsTree views → IsLive views view → IsNobodys views id
-    → option_and_then (λ place. first_key (siblings_from place (children_of_first (part_from view views.tree)))) (last_with_id (links_read (views_of (children_of_first (part_from view views.tree)))) id) ≡ None
+    → option_and_then (λ place. first_key (siblings_from place (children_of_first (part_from view views.tree)))) (last_with_id (links_in (views_of (children_of_first (part_from view views.tree)))) id) ≡ None
 no_child views view id tree live nobodys =
     let kids = children_of_first (part_from view views.tree) in
-    let links = links_read (views_of kids) in
+    let links = links_in (views_of kids) in
     elim (cases_eq id 0) [
       | inl same ↦ rw same refl
       | inr named ↦ elim (last_cases (λ place. (get_or links place no_link).id == id) (length links)) [

@@ -3,7 +3,7 @@ use Rattle.std.proofs.Common.{◌≡◌, ℕ, Option, Some, sym, ◌∙◌, ap, 
 use Rattle.std.specs.Prelude.{[], ◌∷◌}
 use Rattle.view_model.specs.Forest.{EveryBranch}
 use Rattle.view_tree.specs.declared.tree.ViewTree.TheInside.{Inside}
-use Rattle.view_tree.specs.node.Nodes.{IsPlanted, links_at, links_in, links_of, value_of}
+use Rattle.view_tree.specs.node.Nodes.{IsPlanted, plain_node_at, plain_node_in, plain_node_of, value_of}
 use Rattle.view_tree.specs.Rows.{ancestors}
 use Rattle.view_tree.specs.Views.{IsLive, Views, group_number, held_of, number_of, plain_of}
 use Rattle.view_tree.proofs.nodes.NodeReads.{is_tree, node_of, parent_of, represents_for}
@@ -22,10 +22,10 @@ module _ (a : Inside) (v : Views) (key : ℕ) (reported : Option ℕ) (planted :
   pub reported_child : (parent : ℕ) → reported ≡ Some parent → FoundChild (held_of v) v.tree (number_of v key) (Some parent)
   reported_child parent is =
       let o = node_of a v key planted e live in
-      found_child (links_at a.nodes) a.root a.next v key parent (links_of o.says.node) (is_tree a v planted e) (represents_for a v planted e) live (ap links_in o.says.at) (sym said ∙ is)
+      found_child (plain_node_at a.nodes) a.root a.next v key parent (plain_node_of o.says.node) (is_tree a v planted e) (represents_for a v planted e) live (ap plain_node_in o.says.at) (sym said ∙ is)
 
   pub reported_has : EveryBranch (HasParent (number_of v key) (group_number v reported)) (plain_of v)
   reported_has =
       let o = node_of a v key planted e live in
       subst (λ (parent : Option ℕ). EveryBranch (HasParent (number_of v key) (group_number v parent)) (plain_of v)) (sym said)
-      (has_parent (links_at a.nodes) a.root a.next v key (links_of o.says.node) (is_tree a v planted e) (represents_for a v planted e) live (ap links_in o.says.at))
+      (has_parent (plain_node_at a.nodes) a.root a.next v key (plain_node_of o.says.node) (is_tree a v planted e) (represents_for a v planted e) live (ap plain_node_in o.says.at))

@@ -41,8 +41,8 @@ abbrev pub view_of_node : Node → PlainView
 view_of_node node =
     unscrolled (record { number = node.number; class = node.class; facts = node.facts; text = node.text })
 
-abbrev pub links_of : Node → PlainNode
-links_of node = record {
+abbrev pub plain_node_of : Node → PlainNode
+plain_node_of node = record {
   view = view_of_node node;
   parent = node.links.parent;
   first = node.links.first;
@@ -51,12 +51,12 @@ links_of node = record {
   next = node.links.next;
 }
 
-abbrev pub links_in : Option Node → Option PlainNode
-links_in None = None
-links_in (Some node) = Some (links_of node)
+abbrev pub plain_node_in : Option Node → Option PlainNode
+plain_node_in None = None
+plain_node_in (Some node) = Some (plain_node_of node)
 
-abbrev pub links_at : Slab Node → ℕ → Option PlainNode
-links_at nodes key = links_in (get nodes key)
+abbrev pub plain_node_at : Slab Node → ℕ → Option PlainNode
+plain_node_at nodes key = plain_node_in (get nodes key)
 
 -- whether the view of a node runs from right to left; where there is none, nothing does
 abbrev pub node_runs : Option PlainNode → Bool
@@ -87,8 +87,8 @@ forest (suc fuel) at None = Nothing
 forest (suc fuel) at (Some key) = branch_at key (at key) (forest fuel at)
 
 -- what the node of a view holds that has these around it
-abbrev pub links_for : Row → Option ℕ → Option ℕ → Forest Row → Forest Row → PlainNode
-links_for row parent before kids siblings = record {
+abbrev pub plain_node_for : Row → Option ℕ → Option ℕ → Forest Row → Forest Row → PlainNode
+plain_node_for row parent before kids siblings = record {
   view = row.view;
   parent = parent;
   first = first_key kids;
@@ -101,7 +101,7 @@ links_for row parent before kids siblings = record {
 abbrev pub RepresentsPart : (ℕ → Option PlainNode) → Option ℕ → Option ℕ → Forest Row → Type 0
 RepresentsPart at parent before Nothing = Unit {0}
 RepresentsPart at parent before (Branch row kids siblings) =
-    (at row.key ≡ Some (links_for row parent before kids siblings)) × RepresentsPart at (Some row.key) None kids
+    (at row.key ≡ Some (plain_node_for row parent before kids siblings)) × RepresentsPart at (Some row.key) None kids
     × RepresentsPart at parent (Some row.key) siblings
 
 -- the parent of a node, or a sibling right beside it
@@ -184,14 +184,14 @@ fields nodes keys ids root next =
     }
 
 abbrev pub tree_of : Inside → Forest Row
-tree_of inside = forest inside.next (links_at inside.nodes) inside.root
+tree_of inside = forest inside.next (plain_node_at inside.nodes) inside.root
 
 -- what contracts see of a tree with this root, if this is the number of the view that is made next, except for the
 -- orders of relative layouts
 abbrev pub views_in : Slab Node → Option ℕ → ℕ → Views
 views_in nodes root next =
     record {
-      tree = forest next (links_at nodes) root;
+      tree = forest next (plain_node_at nodes) root;
       held = map held_in nodes.slots;
       orders = [];
       next = next;
@@ -212,7 +212,7 @@ holders_of id tree = if id == 0 then None else holders (count_where (has_id id) 
 
 -- each view has a node, each node a view, each number its key, and each id its views
 pub record IsPlanted (inside : Inside) : Type 0 where
-  pub represents : RepresentsTree (links_at inside.nodes) inside.root inside.next (tree_of inside)
+  pub represents : RepresentsTree (plain_node_at inside.nodes) inside.root inside.next (tree_of inside)
   pub kept : IsTree (value_of inside)
   pub full : slab_len inside.nodes ≡ count_of (tree_of inside)
   pub found : (number : ℕ)

@@ -4,7 +4,7 @@ use Rattle.slab.specs.Slab.{Slab}
 use Rattle.view_model.specs.Numbers.{max_views}
 use Rattle.view_model.specs.Direction.{dir}
 use Rattle.view_model.specs.Forest.{Forest, Nothing, Branch, count_of}
-use Rattle.view_tree.specs.node.Nodes.{PlainNode, RepresentsPart, forest, links_at}
+use Rattle.view_tree.specs.node.Nodes.{PlainNode, RepresentsPart, forest, plain_node_at}
 use Rattle.view_tree.specs.Rows.{Row, count_of_key, first_key}
 use Rattle.view_tree.specs.Views.{AreDirected}
 use Rattle.view_tree.specs.declared.node.Node.{Node}
@@ -32,7 +32,7 @@ HaveTurned old new above (Branch row kids siblings) =
 
 -- the trees from a view on, as the nodes have them
 abbrev pub part_at : Slab Node → ℕ → Forest Row
-part_at nodes view = forest (suc max_views) (links_at nodes) (Some view)
+part_at nodes view = forest (suc max_views) (plain_node_at nodes) (Some view)
 
 -- what is below the first view of a list runs as that makes it
 abbrev pub RunsBelow : Forest Row → Type 0

@@ -3,7 +3,7 @@ ghost use Rattle.std.specs.Prelude.{◌≡◌, ◌≢◌, ◌<◌, ◌≤◌, �
 ghost use Rattle.slab.specs.Slab.{get, slab_len, ContainsKey, HasRoomFor};
 ghost use Rattle.slab_link.specs.Numbers.{links_end};
 ghost use Rattle.view_model.specs.Sprouts.{seed_of, view_of};
-ghost use Rattle.view_tree.specs.node.Nodes.{PlainNode, IsAround, changed_at, held_in, linked, replaced_if_none, key_or, last_child, links_at, unlinked, KeepsNodeCount, KeepsNodeRoom};
+ghost use Rattle.view_tree.specs.node.Nodes.{PlainNode, IsAround, changed_at, held_in, linked, replaced_if_none, key_or, last_child, plain_node_at, unlinked, KeepsNodeCount, KeepsNodeRoom};
 ghost use Rattle.view_tree.specs.Views.{fresh_held};
 
 use crate::node::Node;
@@ -18,7 +18,7 @@ use view_model::Sprout;
 fn set_next(nodes: &mut Slab<Node>, key: Option<usize>, next: Link)
     requires { (k : ℕ) → key ≡ Some k → ContainsKey nodes.old k }
     ensures links { (x : ℕ)
-        → links_at nodes.new x ≡ changed_at (links_at nodes.old) key (λ node. record node { next = next }) x }
+        → plain_node_at nodes.new x ≡ changed_at (plain_node_at nodes.old) key (λ node. record node { next = next }) x }
     ensures held { (x : ℕ) → held_in (get nodes.new x) ≡ held_in (get nodes.old x) }
     ensures len { KeepsNodeCount nodes.old nodes.new }
     ensures capacity { KeepsNodeRoom nodes.old nodes.new }
@@ -33,7 +33,7 @@ fn set_next(nodes: &mut Slab<Node>, key: Option<usize>, next: Link)
 fn set_previous(nodes: &mut Slab<Node>, key: Option<usize>, previous: Link)
     requires { (k : ℕ) → key ≡ Some k → ContainsKey nodes.old k }
     ensures links { (x : ℕ)
-        → links_at nodes.new x ≡ changed_at (links_at nodes.old) key (λ node. record node { previous = previous }) x }
+        → plain_node_at nodes.new x ≡ changed_at (plain_node_at nodes.old) key (λ node. record node { previous = previous }) x }
     ensures held { (x : ℕ) → held_in (get nodes.new x) ≡ held_in (get nodes.old x) }
     ensures len { KeepsNodeCount nodes.old nodes.new }
     ensures capacity { KeepsNodeRoom nodes.old nodes.new }
@@ -49,7 +49,7 @@ fn set_last(nodes: &mut Slab<Node>, parent: Option<usize>, kid: usize)
     requires there { (k : ℕ) → parent ≡ Some k → ContainsKey nodes.old k }
     requires small { kid < links_end }
     ensures links { (x : ℕ)
-        → links_at nodes.new x ≡ changed_at (links_at nodes.old) parent
+        → plain_node_at nodes.new x ≡ changed_at (plain_node_at nodes.old) parent
         (λ node. record node { first = key_or node.first kid; last = Some kid }) x }
     ensures held { (x : ℕ) → held_in (get nodes.new x) ≡ held_in (get nodes.old x) }
     ensures len { KeepsNodeCount nodes.old nodes.new }
@@ -69,7 +69,7 @@ fn set_last(nodes: &mut Slab<Node>, parent: Option<usize>, kid: usize)
 fn set_ends(nodes: &mut Slab<Node>, parent: Option<usize>, previous: Link, next: Link)
     requires { (k : ℕ) → parent ≡ Some k → ContainsKey nodes.old k }
     ensures links { (x : ℕ)
-        → links_at nodes.new x ≡ changed_at (links_at nodes.old) parent (λ node. record node {
+        → plain_node_at nodes.new x ≡ changed_at (plain_node_at nodes.old) parent (λ node. record node {
           first = replaced_if_none previous next node.first;
           last = replaced_if_none next previous node.last;
         }) x }
@@ -91,7 +91,7 @@ fn set_ends(nodes: &mut Slab<Node>, parent: Option<usize>, previous: Link, next:
 /// The last child of a parent, if there is one.
 fn last_of(nodes: &Slab<Node>, parent: Option<usize>) -> Link
     requires { (k : ℕ) → parent ≡ Some k → ContainsKey nodes.now k }
-    ensures { result ≡ last_child (links_at nodes.now) parent }
+    ensures { result ≡ last_child (plain_node_at nodes.now) parent }
 {
     match parent {
         None => Link::none(),
@@ -110,12 +110,12 @@ pub fn link_last(
     requires small { nodes.old.capacity ≤ links_end }
     requires linked { IfSome parent (λ k. k < links_end) }
     requires parent { (k : ℕ) → parent ≡ Some k → ContainsKey nodes.old k }
-    requires last { (k : ℕ) → last_child (links_at nodes.old) parent ≡ Some k → ContainsKey nodes.old k }
+    requires last { (k : ℕ) → last_child (plain_node_at nodes.old) parent ≡ Some k → ContainsKey nodes.old k }
     ensures unused { get nodes.old result ≡ None }
     ensures small { result < links_end }
     ensures links { (x : ℕ)
-        → links_at nodes.new x ≡ linked (links_at nodes.old) parent result (view_of number (seed_of sprout))
-        (last_child (links_at nodes.old) parent) x }
+        → plain_node_at nodes.new x ≡ linked (plain_node_at nodes.old) parent result (view_of number (seed_of sprout))
+        (last_child (plain_node_at nodes.old) parent) x }
     ensures held { held_in (get nodes.new result) ≡ Some (fresh_held sprout.facts.offset) }
     ensures others { (x : ℕ) → x ≢ result → held_in (get nodes.new x) ≡ held_in (get nodes.old x) }
     ensures len { slab_len nodes.new ≡ slab_len nodes.old + 1 }
@@ -146,14 +146,14 @@ pub fn link_last(
 pub fn unlink(nodes: &mut Slab<Node>, key: usize) -> Node
     requires there { ContainsKey nodes.old key }
     requires around { (node : PlainNode) (k : ℕ)
-        → links_at nodes.old key ≡ Some node
+        → plain_node_at nodes.old key ≡ Some node
         → IsAround node k
         → ContainsKey nodes.old k × (k ≢ key) }
     ensures node { get nodes.old key ≡ Some result }
     ensures links { (node : PlainNode)
-        → links_at nodes.old key ≡ Some node
+        → plain_node_at nodes.old key ≡ Some node
         → (x : ℕ)
-        → links_at nodes.new x ≡ unlinked (links_at nodes.old) key node x }
+        → plain_node_at nodes.new x ≡ unlinked (plain_node_at nodes.old) key node x }
     ensures held { (x : ℕ) → x ≢ key → held_in (get nodes.new x) ≡ held_in (get nodes.old x) }
     ensures len { slab_len nodes.new + 1 ≡ slab_len nodes.old }
 {

@@ -1,7 +1,7 @@
 //! How views turn with their parents.
 ghost use Rattle.std.specs.Prelude.{◌≡◌, ◌≢◌, ℕ, option_map};
 ghost use Rattle.slab.specs.Slab.{ContainsKey, get};
-ghost use Rattle.view_tree.specs.node.Nodes.{links_at, KeepsNodeCount};
+ghost use Rattle.view_tree.specs.node.Nodes.{plain_node_at, KeepsNodeCount};
 ghost use Rattle.view_tree.specs.Rows.{count_of_key, first_tree};
 ghost use Rattle.view_tree.specs.node.Turning.{HaveTurned, IsPart, part_at, running_node};
 
@@ -13,7 +13,7 @@ use slab::Slab;
 /// stays.
 #[cycle(turn)]
 pub fn turn(nodes: &mut Slab<Node>, view: usize, above: bool)
-    requires { IsPart (links_at nodes.old) view (part_at nodes.old view) }
+    requires { IsPart (plain_node_at nodes.old) view (part_at nodes.old view) }
     ensures turned { HaveTurned (get nodes.old) (get nodes.new) above (first_tree (part_at nodes.old view)) }
     ensures others { (key : ℕ)
         → count_of_key key (first_tree (part_at nodes.old view)) ≡ 0

@@ -14,7 +14,7 @@ ghost use Rattle.view_model.specs.Sprouts.{Seed, follows, numbered, preorder, se
 ghost use Rattle.view_tree.specs.tree.Attached.{Attached};
 ghost use Rattle.view_tree.specs.tree.Bed.{KeepsReferences, fields_of, represented};
 ghost use Rattle.view_tree.specs.tree.Directions.{is_rtl_at, running_below};
-ghost use Rattle.view_tree.specs.node.Nodes.{IsPlanted, links_at, replaced_if_none, runs_at};
+ghost use Rattle.view_tree.specs.node.Nodes.{IsPlanted, plain_node_at, replaced_if_none, runs_at};
 ghost use Rattle.view_tree.specs.tree.Sowing.{FitsBelow, GainedBelow};
 ghost use Rattle.view_tree.specs.Views.{IsLive, number_of, plain_of};
 
@@ -113,7 +113,7 @@ impl Bed<'_> {
 /// The facts of a view that comes below this parent, or as the root: it runs in its own direction, or as the parent.
 fn directed(nodes: &Slab<Node>, parent: Option<Key>, facts: Facts) -> Facts
     requires { (k : ℕ) → parent ≡ Some k → ContainsKey nodes.now k }
-    ensures { result ≡ record facts { rtl = dir (runs_at (links_at nodes.now) parent) facts.direction } }
+    ensures { result ≡ record facts { rtl = dir (runs_at (plain_node_at nodes.now) parent) facts.direction } }
 {
     let above = match parent {
         None => false,

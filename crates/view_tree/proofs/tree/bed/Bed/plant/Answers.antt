@@ -5,7 +5,7 @@ use Rattle.view_model.specs.PlainTree.{PlainView}
 use Rattle.view_model.specs.Sprouts.{seed_of, view_of}
 use Rattle.view_tree.specs.tree.Bed.{fields_of}
 use Rattle.view_tree.specs.tree.Directions.{running_below}
-use Rattle.view_tree.specs.node.Nodes.{fields, last_child, linked, links_at, tree_of, value_of}
+use Rattle.view_tree.specs.node.Nodes.{fields, last_child, linked, plain_node_at, tree_of, value_of}
 use Rattle.view_tree.specs.Views.{fresh_held}
 use Rattle.view_tree.specs.declared.tree.ViewTree.TheInside.{Inside}
 use Rattle.view_tree.proofs.forest.IdLaws.{holders_of-few}
@@ -49,11 +49,11 @@ facts_as c =
     ∙ ap (λ (above : Bool). record c.args.sprout.facts { rtl = dir above c.args.sprout.facts.direction })
     (runs_is (old_of c) (value_of (old_of c)) c.args.parent c.requires.sound refl c.requires.live)
 
-linked_as : (c : After-note_id) → (x : ℕ) → links_at c.link_last-key.new.nodes x
-    ≡ linked (links_at c.args.self.now.nodes.now) c.args.parent c.link_last-key.result (came c) (last_child (links_at c.args.self.now.nodes.now) c.args.parent) x
+linked_as : (c : After-note_id) → (x : ℕ) → plain_node_at c.link_last-key.new.nodes x
+    ≡ linked (plain_node_at c.args.self.now.nodes.now) c.args.parent c.link_last-key.result (came c) (last_child (plain_node_at c.args.self.now.nodes.now) c.args.parent) x
 linked_as c =
-    subst (λ (facts : Facts). (x : ℕ) → links_at c.link_last-key.new.nodes x
-    ≡ linked (links_at c.args.self.now.nodes.now) c.args.parent c.link_last-key.result (record (came c) { facts = facts }) (last_child (links_at c.args.self.now.nodes.now) c.args.parent) x)
+    subst (λ (facts : Facts). (x : ℕ) → plain_node_at c.link_last-key.new.nodes x
+    ≡ linked (plain_node_at c.args.self.now.nodes.now) c.args.parent c.link_last-key.result (record (came c) { facts = facts }) (last_child (plain_node_at c.args.self.now.nodes.now) c.args.parent) x)
     (facts_as c) c.link_last-key.ensures.links
 
 pub returns-clause-sound : goal.returns-clause-sound
