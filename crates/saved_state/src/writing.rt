@@ -59,6 +59,10 @@ fn put_characters(bytes: &mut Vec<u8>, characters: &[char]) -> Result<(), AllocE
 fn put_character(bytes: &mut Vec<u8>, character: char) -> Result<(), AllocError>
     ensures { OnOk result (bytes.new.items ≡ bytes.old.items ++ encode_utf8 character) }
 {
+    if character.is_ascii() {
+        bytes.push(character as u8)?;
+        return Ok(());
+    }
     let mut units = [0; 4];
     bytes.extend_from_slice(character.encode_utf8(&mut units).as_bytes())
 }
