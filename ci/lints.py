@@ -159,12 +159,13 @@ IN_BROKEN = [
 # what aapt2 links, and refuses, with the resources of Android 10
 FITTING = (
     'layout_width=" 10dp "', 'padding="-4dp"', 'background="#123"', 'layout_weight="1e2"', 'clipToPadding="TRUE"',
-    'gravity="center"', 'minWidth="5in"', 'layout_margin=".5dp"', 'text=""', 'layout_alignParentLeft="true"',
+    'gravity="center"', 'gravity=""', 'layout_gravity=" "', 'minWidth="5in"', 'layout_margin=".5dp"', 'text=""',
+    'layout_alignParentLeft="true"',
 )
 UNFIT = (
     'layout_width="10"', 'layout_width="10 dp"', 'padding="0"', 'background="#12"', 'background="red"', 'background=""',
-    'textColor="#12"', 'layout_weight="1dp"', 'layout_weight=""', 'gravity="17"', 'orientation="1"', 'visibility="2"',
-    'clipToPadding="1"', 'fillViewport="yes"', 'id="foo"', 'layout_toLeftOf="true"',
+    'textColor="#12"', 'layout_weight="1dp"', 'layout_weight=""', 'gravity="17"', 'orientation="1"', 'orientation=""',
+    'visibility="2"', 'clipToPadding="1"', 'fillViewport="yes"', 'id="foo"', 'layout_toLeftOf="true"',
 )
 ONE_VIEW = '<TextView xmlns:android="http://schemas.android.com/apk/res/android"%s android:layout_height="8dp"\n    android:%s/>'
 

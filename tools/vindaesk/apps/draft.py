@@ -100,6 +100,11 @@ def words_of(value: Value, words: Dict[str, int]) -> Optional[int]:
     return found
 
 
+def flags_of(value: Value, flags: Dict[str, int]) -> Optional[int]:
+    """Flags joined by `|`, or none of them."""
+    return 0 if value.text is not None and not value.text.strip() else words_of(value, flags)
+
+
 class Draft:
     """A view that is mapped: reads its attributes, and takes what is written."""
 
@@ -214,10 +219,18 @@ class Draft:
 
     def number(self, name: str, words: Dict[str, int], effect: Effect = Effect.BOUNDS) -> Optional[int]:
         """A whole number, or words that mean one."""
+        return self.meant(name, lambda value: words_of(value, words), effect)
+
+    def flags(self, name: str, flags: Dict[str, int]) -> Optional[int]:
+        """A whole number, or flags that mean one."""
+        return self.meant(name, lambda value: flags_of(value, flags), Effect.BOUNDS)
+
+    def meant(self, name: str, meaning: Callable[[Value], Optional[int]], effect: Effect) -> Optional[int]:
+        """The number that an attribute means; nothing where it has none, or where its value does not fit."""
         value = self.value(name, effect)
         if value is None or value.is_null:
             return None
-        found = words_of(value, words)
+        found = meaning(value)
         if found is None:
             self.unfit(name, effect)
         return found
@@ -339,8 +352,10 @@ def fitted(name: str, form: Form, value: Value) -> Optional[documents.Value]:
         return boolean_of(value.text == "true") if value.text in ("true", "false") else None
     if form is known.FLOAT:
         return float_of(value)
-    words = {**form.words, **form.flags}
-    found = words_of(value, words) if words else None
+    if form.flags:
+        found = flags_of(value, form.flags)
+    else:
+        found = words_of(value, form.words) if form.words else None
     if found is None or (form.words and found not in form.words.values()):
         return None
     return whole(found)

@@ -155,7 +155,7 @@ def map_relative(draft: Draft, mapper: Mapper, arguments: str) -> None:
     """Children that are placed by rules."""
     boxes.put_box(draft)
     draft.node.kind = "RelativeLayout"
-    gravity = draft.number("gravity", GRAVITIES) or 0
+    gravity = draft.flags("gravity", GRAVITIES) or 0
     is_moved = gravity & ACROSS not in (0, 3) or gravity & DOWN not in (0, 0x30)
     if is_moved and draft.view.children:
         key = "android:gravity" if "android:gravity" in draft.own else ""

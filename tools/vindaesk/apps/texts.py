@@ -253,7 +253,7 @@ def finish(draft: Draft, box: Box, given: str, beside: Beside, is_field: bool = 
         if size > (box.width if name == "minWidth" else box.height):
             draft.put(name, length_of(size))
     check_most(draft, inner, text, lines)
-    gravity = draft.number("gravity", GRAVITIES) or 0
+    gravity = draft.flags("gravity", GRAVITIES) or 0
     is_cut = bool(text) and lines.most and (lines.single or lines.most == lines.least or lines.most == 1)
     has_pictures = any(it is not GONE for it in beside.drawables)
     if not (is_cut or has_pictures or is_moved(draft, gravity, text)):
