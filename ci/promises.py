@@ -92,7 +92,7 @@ SHORT = {
     "vindaesk_c::vindaesk_focus": "Carries out a script, then says which view gets the focus next.",
 }
 # crates whose functions are steps of the calls of another crate: each is a link in one row
-STEPS = {"world_parts": "view_world", "world_replies": "view_world"}
+STEPS = {"sibling_orders": "view_tree", "world_parts": "view_world", "world_replies": "view_world"}
 UNNAMED = "clause"
 # in a cell: one link a line
 BREAK = "<br>"
