@@ -13,7 +13,6 @@ ghost use Rattle.view_tree.specs.Views.{IsLive, IsTree, facts_of, number_of, sta
 ghost use Rattle.touch_event.specs.Touches.{IsPointer};
 
 use crate::gesture::Gesture;
-use crate::handling::limits::Limits;
 use crate::log::Log;
 use crate::reaching::delivery::Delivery;
 use crate::reaching::points::cancel_event;
@@ -46,7 +45,6 @@ pub fn dispatch(
     ensures opened { (number : ℕ) → is_open gesture.new number ≡ is_open gesture.old number }
     ensures room { KeepsRoom log.old log.new }
 {
-    let limits = Limits { slop };
     let Some(root) = tree.root() else {
         return false;
     };
@@ -56,7 +54,7 @@ pub fn dispatch(
     let delivery = Delivery {
         view: root,
         event,
-        limits: &limits,
+        slop,
     };
     reach_whole(tree, gesture, log, &delivery)
 }
@@ -114,12 +112,11 @@ pub fn cancel_view(tree: &mut ViewTree, gesture: &mut Gesture, view: Key, slop: 
     ensures opened { (number : ℕ) → is_open gesture.new number ≡ is_open gesture.old number }
     ensures room { KeepsRoom log.old log.new }
 {
-    let limits = Limits { slop };
     let event = cancel_event();
     let delivery = Delivery {
         view,
         event: &event,
-        limits: &limits,
+        slop,
     };
     recall_tree(tree, view);
     let Some(parent) = tree.parent(view) else {

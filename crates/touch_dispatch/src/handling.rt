@@ -1,5 +1,5 @@
 //! What a view does with an event itself, and what a group is asked about one. `receiver` is the view, `scrolling` how it
-//! scrolls, by the `drag` that is kept of it and the `limits` of slight moves.
+//! scrolls, by the `drag` that is kept of it.
 ghost use Rattle.std.specs.Prelude.{◌≡◌, ◌<◌, ◌≤◌, ◌+◌, ◌&&◌, ◌||◌, ◌++◌, ◌∷◌, [], ℕ, ℤ, pos, length, not, true};
 ghost use Rattle.touch_dispatch.specs.handling.Handling.{asked, click_handled, clicks, drag_answer, handled_by, intercepts, is_down, is_nil, looked, many, pressed_after};
 ghost use Rattle.touch_dispatch.specs.gesture.Kept.{gesture_of, IsOpen};
@@ -7,7 +7,6 @@ ghost use Rattle.touch_dispatch.specs.reaching.TreeEvents.{progress_by, room_of,
 ghost use Rattle.touch_targets.specs.Seats.{KeepsOpen};
 
 pub mod drag;
-pub mod limits;
 pub mod receiver;
 pub mod scrolling;
 

@@ -50,7 +50,7 @@ fn handle_at(tree: &mut ViewTree, gesture: &mut Gesture, log: &mut Log, delivery
         ≡ record { yes = result; progress = progress_of tree.new gesture.new log.new } }
     ensures kept { KeepsScene tree.old tree.new gesture.old gesture.new log.old log.new }
 {
-    let own = receiver_at(tree, delivery.limits, delivery.view);
+    let own = receiver_at(tree, delivery.slop, delivery.view);
     if own.scrolls {
         handle_drag(tree, gesture, log, delivery, &own)
     } else {

@@ -22,35 +22,35 @@ pub record IsReadAt (views : Views) (key : ℕ) (own : Receiver) : Type 0 where
 
 -- the view, with all below it, gets the event
 abbrev pub delivered : Views → Delivery → Progress → Reached
-delivered views d progress = reach (scene_of views d.limits.now.slop) (part_at views d.view) d.event.now progress
+delivered views d progress = reach (scene_of views d.slop) (part_at views d.view) d.event.now progress
 
 -- the view handles it itself
 abbrev pub delivered_own : Views → Delivery → Progress → Reached
-delivered_own views d progress = handled_at views d.limits.now.slop d.view d.event.now progress
+delivered_own views d progress = handled_at views d.slop d.view d.event.now progress
 
 -- the view is a group
 abbrev pub delivered_group : Views → Delivery → Progress → Reached
 delivered_group views d progress =
-    group_reached (scene_of views d.limits.now.slop) (own_of views d.view) (kids_of views d.limits.now.slop d.view)
+    group_reached (scene_of views d.slop) (own_of views d.view) (kids_of views d.slop d.view)
     d.event.now progress
 
 -- a group offers it to its children, unless it takes it from them
 abbrev pub offered_kids : Views → Delivery → Bool → Progress → Tried
 offered_kids views d intercepted progress =
-    offered (scene_of views d.limits.now.slop) (own_of views d.view) (kids_of views d.limits.now.slop d.view)
+    offered (scene_of views d.slop) (own_of views d.view) (kids_of views d.slop d.view)
     d.event.now intercepted progress
 
 -- it tries all its children
 abbrev pub tried_kids : Views → Delivery → Progress → Tried
 tried_kids views d progress =
-    try_children (scene_of views d.limits.now.slop) (own_of views d.view) d.event.now
-    (kids_of views d.limits.now.slop d.view) progress
+    try_children (scene_of views d.slop) (own_of views d.view) d.event.now
+    (kids_of views d.slop d.view) progress
 
 -- it tries the child of a key
 abbrev pub tried_kid : Views → Delivery → ℕ → Progress → Tried
 tried_kid views d kid progress =
-    try_child (scene_of views d.limits.now.slop) (own_of views d.view) d.event.now
-    (child_at views d.limits.now.slop kid) progress
+    try_child (scene_of views d.slop) (own_of views d.view) d.event.now
+    (child_at views d.slop kid) progress
 
 -- the targets of the view of a key
 abbrev pub own_targets : Views → Kept → ℕ → List Target
@@ -59,9 +59,9 @@ own_targets views kept key = (gesture_of kept).targets (own_of views key).number
 -- the event of a group whose children were tried
 abbrev pub group_event_of : Views → Shared → GroupEvent
 group_event_of views s = record {
-  scene = scene_of views s.delivery.now.limits.now.slop;
+  scene = scene_of views s.delivery.now.slop;
   own = own_of views s.delivery.now.view;
-  kids = kids_of views s.delivery.now.limits.now.slop s.delivery.now.view;
+  kids = kids_of views s.delivery.now.slop s.delivery.now.view;
   event = s.delivery.now.event.now;
   intercepted = s.intercepted;
   taker = s.taker;

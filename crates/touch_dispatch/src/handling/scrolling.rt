@@ -16,7 +16,6 @@ ghost use Rattle.touch_targets.specs.Seats.{KeepsOpen};
 
 use crate::gesture::Gesture;
 use crate::handling::drag::pulled;
-use crate::handling::limits::Limits;
 use crate::handling::receiver::Receiver;
 use crate::handling::{drag_answer, note};
 use crate::log::{Entry, Kind, Log};
@@ -28,10 +27,10 @@ use view_model::Facts;
 use view_tree::{Key, ViewTree};
 
 /// A view as it handles an event itself.
-pub fn receiver_at(tree: &ViewTree, limits: &Limits, view: Key) -> Receiver
+pub fn receiver_at(tree: &ViewTree, slop: i32, view: Key) -> Receiver
     requires { IsLive tree.now view }
-    ensures value { result ≡ receiver (scene_of tree.now limits.now.slop) (own_of tree.now view)
-        (kids_of tree.now limits.now.slop view) }
+    ensures value { result ≡ receiver (scene_of tree.now slop) (own_of tree.now view)
+        (kids_of tree.now slop view) }
     ensures range { IsSide result.range }
     ensures own { result.range ≡ own_range tree.now view }
     ensures is_tree { IsTree tree.now }
@@ -47,7 +46,7 @@ pub fn receiver_at(tree: &ViewTree, limits: &Limits, view: Key) -> Receiver
         rect,
         range: range_for(scrolls, facts, rect, first_rect(tree, view)),
         childless: tree.first(view).is_none(),
-        slop: limits.slop,
+        slop,
     }
 }
 

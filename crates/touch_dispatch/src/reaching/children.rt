@@ -101,7 +101,7 @@ fn try_child(
     let to_kid = Delivery {
         view: kid,
         event: &part,
-        limits: delivery.limits,
+        slop: delivery.slop,
     };
     if !reach(tree, gesture, log, &to_kid) {
         return Taker::NoChild;

@@ -1,6 +1,5 @@
 //! An event on its way to a view, and how a group passes it on.
 
-use crate::handling::limits::Limits;
 use crate::reaching::taker::Taker;
 use touch_event::Event;
 use view_tree::Key;
@@ -10,7 +9,8 @@ use view_tree::Key;
 pub struct Delivery<'a> {
     pub view: Key,
     pub event: &'a Event,
-    pub limits: &'a Limits,
+    /// How far a pointer may slip before that counts, in pixels.
+    pub slop: i32,
 }
 
 /// A delivery to a group, once the group was asked about it and its children were tried: what its targets get.

@@ -34,7 +34,7 @@ pub fn reach_group(
         ≡ record { yes = result; progress = progress_of tree.new gesture.new log.new } }
     ensures kept { KeepsScene tree.old tree.new gesture.old gesture.new log.old log.new }
 {
-    let own = receiver_at(tree, delivery.limits, delivery.view);
+    let own = receiver_at(tree, delivery.slop, delivery.view);
     let split = tree.facts(delivery.view).split;
     begin(gesture, own.number, delivery.event.action);
     let intercepted = ask(gesture, log, &own, delivery.event);

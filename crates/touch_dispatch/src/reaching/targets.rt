@@ -79,7 +79,7 @@ fn deliver_to(
     let to_kid = Delivery {
         view: kid,
         event: &part,
-        limits: delivery.limits,
+        slop: delivery.slop,
     };
     reach(tree, gesture, log, &to_kid)
 }

@@ -1,10 +1,13 @@
-use Rattle.std.proofs.Common.{◌≡◌, ◌<◌, ℕ, Bool, true, false, List, None, Some, refl, sym, ◌∙◌, ap, subst, arith}
+use Rattle.std.proofs.Common.{◌≡◌, ◌<◌, ℕ, Bool, true, false, List, None, Some, refl, sym, ◌∙◌, ap, subst, arith, rules, ℤ, FitsSigned, to_z, of_z}
+use Rattle.std.proofs.lemmas.Int.{to_z-of_z}
+use mir.Syntax.{w32}
 use Rattle.touch_dispatch.specs.declared.reaching.taker.Taker.{Taker}
 use Rattle.touch_dispatch.specs.declared.reaching.taker.Taker.TheVariants.{NoChild, Sent}
 use Rattle.view_model.specs.Classes.{is_group}
 use Rattle.view_model.specs.declared.facts.Facts.{Facts}
 use Rattle.view_model.specs.PlainTree.{PlainView}
 use Rattle.view_tree.specs.Rows.{previous_key}
+use Rattle.view_tree.specs.Views.{Views}
 use Rattle.touch_dispatch.proofs.scrolls.FitLaws.{kid_moved, kids_grow, out_fits_at}
 use Rattle.touch_dispatch.proofs.steps.GrowLaws.{answer_fits, ask_fits, asked_many, later_fits, many-settled, offer_fits, try_fits}
 use Rattle.touch_dispatch.proofs.steps.KeepLaws.{group_asked, kept_ended, kept_on, kept_settled, kept_still, may_still}
@@ -15,7 +18,7 @@ use Rattle.touch_dispatch.proofs.steps.TargetLaws.{TargetStep, target_step, walk
 use Rattle.touch_dispatch.proofs.steps.TryLaws.{gets_part, sends_to, kept_put, may_put, names_child, names_still, reads_child, target_read, tried_read}
 use Rattle.touch_dispatch.proofs.steps.TryWalk.{TryWalk}
 use Rattle.touch_dispatch.specs.reaching.Delivery.{delivered_own, delivered_targets, own_targets}
-use Rattle.touch_dispatch.specs.Dispatch.{EventChild, Scene, Tried, ended, hand_to, is_offered, is_sent, offered, part_for, settled, tried_ids, try_children}
+use Rattle.touch_dispatch.specs.Dispatch.{EventChild, Scene, Tried, ended, hand_to, is_offered, is_sent, offered, part_for, receiver, settled, tried_ids, try_children}
 use Rattle.touch_dispatch.specs.handling.Handling.{Progress, Reached, many}
 use Rattle.touch_dispatch.specs.gesture.Kept.{gesture_of, is_open}
 use Rattle.touch_dispatch.specs.reaching.TreeEvents.{IsKidAt, child_at, kids_of, offsets_in, own_of, progress_of, scene_of, target_of}
@@ -31,14 +34,14 @@ use Rattle.touch_dispatch.proofs.steps.GroupEvents.{group_event}
 pub reach-returns-then-is_group-clause-reached : goal.reach-returns-then-is_group-clause-reached
 reach-returns-then-is_group-clause-reached t c =
     let d = c.args.delivery.now in
-    reach_group c.args.tree.now d.limits.now.slop d.view d.event.now (progress_of c.args.tree.now c.args.gesture.now c.args.log.now) c.requires.may.live
+    reach_group c.args.tree.now d.slop d.view d.event.now (progress_of c.args.tree.now c.args.gesture.now c.args.log.now) c.requires.may.live
     (ap is_group (sym c.class.ensures.value) ∙ sym c.is_group.ensures ∙ c.if-is_group.true)
     ∙ c.reach_group.ensures.reached
 
 pub reach-returns-else-is_group-clause-reached : goal.reach-returns-else-is_group-clause-reached
 reach-returns-else-is_group-clause-reached t c =
     let d = c.args.delivery.now in
-    reach_own c.args.tree.now d.limits.now.slop d.view d.event.now (progress_of c.args.tree.now c.args.gesture.now c.args.log.now) c.requires.may.live
+    reach_own c.args.tree.now d.slop d.view d.event.now (progress_of c.args.tree.now c.args.gesture.now c.args.log.now) c.requires.may.live
     (ap is_group (sym c.class.ensures.value) ∙ sym c.is_group.ensures ∙ c.if-is_group.false)
     ∙ c.handle_at.ensures.reached
 
@@ -46,7 +49,7 @@ pub reach-reach_group-requires : goal.reach-reach_group-requires
 reach-reach_group-requires t c =
     let d = c.args.delivery.now in
     let k = ap (λ (r : Reached). many r.progress)
-    (reach_group c.args.tree.now d.limits.now.slop d.view d.event.now (progress_of c.args.tree.now c.args.gesture.now c.args.log.now) c.requires.may.live
+    (reach_group c.args.tree.now d.slop d.view d.event.now (progress_of c.args.tree.now c.args.gesture.now c.args.log.now) c.requires.may.live
     (ap is_group (sym c.class.ensures.value) ∙ sym c.is_group.ensures ∙ c.if-is_group.true)) in
     let all = c.requires.fits in
     (omega (arith, c.decreases), (c.requires.may, omega (arith, k, all)))
@@ -55,7 +58,7 @@ pub reach-handle_at-requires-clause-fits : goal.reach-handle_at-requires-clause-
 reach-handle_at-requires-clause-fits t c =
     let d = c.args.delivery.now in
     let k = ap (λ (r : Reached). many r.progress)
-    (reach_own c.args.tree.now d.limits.now.slop d.view d.event.now (progress_of c.args.tree.now c.args.gesture.now c.args.log.now) c.requires.may.live
+    (reach_own c.args.tree.now d.slop d.view d.event.now (progress_of c.args.tree.now c.args.gesture.now c.args.log.now) c.requires.may.live
     (ap is_group (sym c.class.ensures.value) ∙ sym c.is_group.ensures ∙ c.if-is_group.false)) in
     let all = c.requires.fits in
     omega (arith, k, all)
@@ -65,15 +68,23 @@ group::reach_group-ask-intercepted-requires-clause-open t c =
     c.begin.ensures.opened c.receiver_at-own.result.number
     ∙ ap (is_open c.args.gesture.now) (ap (λ (r : Receiver). r.number) c.receiver_at-own.ensures.value) ∙ c.requires.may.caught.opened c.args.delivery.now.view c.requires.may.live
 
+-- a view that was read by the slop as 32 bits hold it
+read_at : (views : Views) (slop : ℤ) (view : ℕ) (own : Receiver) → FitsSigned w32 slop
+    → own ≡ receiver (scene_of views (to_z w32 (of_z w32 slop))) (own_of views view) (kids_of views (to_z w32 (of_z w32 slop)) view)
+    → own ≡ receiver (scene_of views slop) (own_of views view) (kids_of views slop view)
+read_at views slop view own fits is = is ∙ ap (λ slop. receiver (scene_of views slop) (own_of views view) (kids_of views slop view)) (to_z-of_z w32 slop fits)
+
 pub group::reach_group-ask-intercepted-requires-clause-fits : goal.group::reach_group-ask-intercepted-requires-clause-fits
 group::reach_group-ask-intercepted-requires-clause-fits t c = λ offsets.
     let views = c.args.tree.now in
-    let slop = c.args.delivery.now.limits.now.slop in
+    let slop = c.args.delivery.now.slop in
     let own = own_of views c.args.delivery.now.view in
     let kids = kids_of views slop c.args.delivery.now.view in
     let start = progress_of views c.args.gesture.now c.args.log.now in
+    let fits_in : FitsSigned w32 c.args.delivery.now.slop = search rules in
+    let read = read_at c.args.tree.now c.args.delivery.now.slop c.args.delivery.now.view c.receiver_at-own.result fits_in c.receiver_at-own.ensures.value in
     let k = ap (λ (r : Reached). many r.progress)
-    (asked_begun (scene_of views slop) own kids c.args.delivery.now.event.now start (progress_of views c.begin.new.gesture c.args.log.now) c.receiver_at-own.result _ c.receiver_at-own.ensures.value
+    (asked_begun (scene_of views slop) own kids c.args.delivery.now.event.now start (progress_of views c.begin.new.gesture c.args.log.now) c.receiver_at-own.result _ read
     (c.begin.ensures.begun (offsets_in views) c.args.log.now.entries.items) refl) in
     let fits = ask_fits (scene_of views slop) own kids c.args.delivery.now.event.now start (kids_grow views slop c.args.delivery.now.view) in
     let m = asked_many c.receiver_at-own.result c.args.delivery.now.event.now (gesture_of c.begin.new.gesture) c.args.log.now.entries.items offsets (offsets_in views) in
@@ -84,8 +95,10 @@ pub group::reach_group-offer-taker-requires : goal.group::reach_group-offer-take
 group::reach_group-offer-taker-requires t c =
     let d = c.args.delivery.now in
     let views = c.args.tree.now in
-    let slop = d.limits.now.slop in
-    let a = group_asked c.begin.new.gesture c.ask-intercepted.new.gesture c.args.log.now c.ask-intercepted.new.log c.ask-intercepted.result c.requires.may c.receiver_at-own.ensures.value
+    let slop = d.slop in
+    let fits_in : FitsSigned w32 c.args.delivery.now.slop = search rules in
+    let read = read_at c.args.tree.now c.args.delivery.now.slop c.args.delivery.now.view c.receiver_at-own.result fits_in c.receiver_at-own.ensures.value in
+    let a = group_asked c.begin.new.gesture c.ask-intercepted.new.gesture c.args.log.now c.ask-intercepted.new.log c.ask-intercepted.result c.requires.may read
     c.begin.ensures.opened c.begin.ensures.begun c.ask-intercepted.ensures.opened c.ask-intercepted.ensures.asked c.ask-intercepted.ensures.room in
     let fits = offer_fits (scene_of views slop) (own_of views d.view) (kids_of views slop d.view) d.event.now (progress_of views c.args.gesture.now c.args.log.now) _ (kids_grow views slop d.view) a.is in
     let room = a.kept.room in
@@ -96,8 +109,10 @@ pub group::reach_group-answer-yes-requires : goal.group::reach_group-answer-yes-
 group::reach_group-answer-yes-requires t c =
     let d = c.args.delivery.now in
     let views = c.args.tree.now in
-    let slop = d.limits.now.slop in
-    let a = group_asked c.begin.new.gesture c.ask-intercepted.new.gesture c.args.log.now c.ask-intercepted.new.log c.ask-intercepted.result c.requires.may c.receiver_at-own.ensures.value
+    let slop = d.slop in
+    let fits_in : FitsSigned w32 c.args.delivery.now.slop = search rules in
+    let read = read_at c.args.tree.now c.args.delivery.now.slop c.args.delivery.now.view c.receiver_at-own.result fits_in c.receiver_at-own.ensures.value in
+    let a = group_asked c.begin.new.gesture c.ask-intercepted.new.gesture c.args.log.now c.ask-intercepted.new.log c.ask-intercepted.result c.requires.may read
     c.begin.ensures.opened c.begin.ensures.begun c.ask-intercepted.ensures.opened c.ask-intercepted.ensures.asked c.ask-intercepted.ensures.room in
     let kept = kept_on a.kept c.offer-taker.ensures.kept in
     let second = progress_of c.offer-taker.new.tree c.offer-taker.new.gesture c.offer-taker.new.log in
@@ -114,9 +129,11 @@ pub group::reach_group-returns-clause-reached : goal.group::reach_group-returns-
 group::reach_group-returns-clause-reached t c =
     let d = c.args.delivery.now in
     let views = c.args.tree.now in
-    let slop = d.limits.now.slop in
+    let slop = d.slop in
     let own = own_of views d.view in
-    let a = group_asked c.begin.new.gesture c.ask-intercepted.new.gesture c.args.log.now c.ask-intercepted.new.log c.ask-intercepted.result c.requires.may c.receiver_at-own.ensures.value
+    let fits_in : FitsSigned w32 c.args.delivery.now.slop = search rules in
+    let read = read_at c.args.tree.now c.args.delivery.now.slop c.args.delivery.now.view c.receiver_at-own.result fits_in c.receiver_at-own.ensures.value in
+    let a = group_asked c.begin.new.gesture c.ask-intercepted.new.gesture c.args.log.now c.ask-intercepted.new.log c.ask-intercepted.result c.requires.may read
     c.begin.ensures.opened c.begin.ensures.begun c.ask-intercepted.ensures.opened c.ask-intercepted.ensures.asked c.ask-intercepted.ensures.room in
     let second = progress_of c.offer-taker.new.tree c.offer-taker.new.gesture c.offer-taker.new.log in
     let third = progress_of c.answer-yes.new.tree c.answer-yes.new.gesture c.answer-yes.new.log in
@@ -130,7 +147,9 @@ group::reach_group-returns-clause-reached t c =
 
 pub group::reach_group-returns-clause-kept : goal.group::reach_group-returns-clause-kept
 group::reach_group-returns-clause-kept t c =
-    let a = group_asked c.begin.new.gesture c.ask-intercepted.new.gesture c.args.log.now c.ask-intercepted.new.log c.ask-intercepted.result c.requires.may c.receiver_at-own.ensures.value
+    let fits_in : FitsSigned w32 c.args.delivery.now.slop = search rules in
+    let read = read_at c.args.tree.now c.args.delivery.now.slop c.args.delivery.now.view c.receiver_at-own.result fits_in c.receiver_at-own.ensures.value in
+    let a = group_asked c.begin.new.gesture c.ask-intercepted.new.gesture c.args.log.now c.ask-intercepted.new.log c.ask-intercepted.result c.requires.may read
     c.begin.ensures.opened c.begin.ensures.begun c.ask-intercepted.ensures.opened c.ask-intercepted.ensures.asked c.ask-intercepted.ensures.room in
     kept_on (kept_on (kept_on a.kept c.offer-taker.ensures.kept) c.answer-yes.ensures.kept)
     (kept_ended c.receiver_at-own.result.number c.facts.result.now.split c.args.delivery.now.event.now c.ask-intercepted.result c.answer-yes.ensures.kept.caught c.end.ensures.opened c.end.ensures.ended)
@@ -158,7 +177,7 @@ children::offer-returns-then-intercepted-clause-offered t c =
     elim c.then-intercepted.branch [
       | children::offer-then-intercepted-via-then-intercepted w ↦ rw w.if-intercepted.true refl
       | children::offer-then-intercepted-via-else-intercepted+then-not-is_offered w ↦
-          offered_not (scene_of views d.limits.now.slop) (own_of views d.view) (kids_of views d.limits.now.slop d.view) d.event.now c.args.intercepted _
+          offered_not (scene_of views d.slop) (own_of views d.view) (kids_of views d.slop d.view) d.event.now c.args.intercepted _
           (ap (λ (f : Facts). is_offered d.event.now.action f.split) (sym w.facts.ensures.value) ∙ sym w.is_offered.ensures ∙ w.if-not-is_offered.true)
     ]
 
@@ -169,7 +188,7 @@ pub children::offer-try_children-taker-requires : goal.children::offer-try_child
 children::offer-try_children-taker-requires t c =
     let d = c.args.delivery.now in
     let views = c.args.tree.now in
-    let slop = d.limits.now.slop in
+    let slop = d.slop in
     let own = own_of views d.view in
     let start = progress_of views c.args.gesture.now c.args.log.now in
     let tried = try_children (scene_of views slop) own d.event.now (kids_of views slop d.view) start in
@@ -184,13 +203,13 @@ pub children::offer-settle-requires-clause-may : goal.children::offer-settle-req
 children::offer-settle-requires-clause-may t c = λ child there.
     let may = may_still c.requires.may c.try_children-taker.ensures.kept in
     rw c.number.ensures.value
-    (may_target c.try_children-taker.new.tree c.args.delivery.now.limits.now.slop c.try_children-taker.new.gesture c.args.delivery.now.view child may.tree may.live may.caught (rw c.number.ensures.value at there))
+    (may_target c.try_children-taker.new.tree c.args.delivery.now.slop c.try_children-taker.new.gesture c.args.delivery.now.view child may.tree may.live may.caught (rw c.number.ensures.value at there))
 
 pub children::offer-returns-clause-offered : goal.children::offer-returns-clause-offered
 children::offer-returns-clause-offered t c =
     let d = c.args.delivery.now in
     let views = c.args.tree.now in
-    let slop = d.limits.now.slop in
+    let slop = d.slop in
     let tried : Tried = record { taker = c.try_children-taker.result; progress = progress_of c.try_children-taker.new.tree c.try_children-taker.new.gesture c.try_children-taker.new.log } in
     offered_yes (scene_of views slop) (own_of views d.view) (kids_of views slop d.view) d.event.now c.args.intercepted _ c.if-intercepted.false
     (ap (λ (f : Facts). is_offered d.event.now.action f.split) (sym c.facts.ensures.value) ∙ sym c.is_offered.ensures ∙ c.if-not-is_offered.false)
@@ -205,12 +224,12 @@ children::offer-returns-clause-kept t c =
 
 -- from a child to the one before it
 walked : (t : ℕ) (c : goal.children::try_children-After-previous-next t)
-    → WalkTo c.args.tree.now c.args.delivery.now.limits.now.slop c.args.delivery.now.view c.in-Some.kid c.args.delivery.now.event.now (progress_of c.args.tree.now c.args.gesture.now c.args.log.now)
+    → WalkTo c.args.tree.now c.args.delivery.now.slop c.args.delivery.now.view c.in-Some.kid c.args.delivery.now.event.now (progress_of c.args.tree.now c.args.gesture.now c.args.log.now)
     (progress_of c.try_child-taker.new.tree c.try_child-taker.new.gesture c.try_child-taker.new.log) c.previous-next.result
 walked t c =
     let d = c.args.delivery.now in
     let views = c.args.tree.now in
-    let slop = d.limits.now.slop in
+    let slop = d.slop in
     let i = c.loop-next.invariant in
     let now = progress_of c.loop-next.tree c.loop-next.gesture c.loop-next.log in
     let new = progress_of c.try_child-taker.new.tree c.try_child-taker.new.gesture c.try_child-taker.new.log in
@@ -222,14 +241,14 @@ walked t c =
 pub children::try_children-loop-next-init : goal.children::try_children-loop-next-init
 children::try_children-loop-next-init t c = record {
   kept = kept_still c.requires.may.caught;
-  walked = walk_begin c.args.tree.now c.args.delivery.now.limits.now.slop c.args.delivery.now.view c.args.delivery.now.event.now _ c.last-next.result c.requires.may.tree c.requires.may.live c.last-next.ensures.key;
+  walked = walk_begin c.args.tree.now c.args.delivery.now.slop c.args.delivery.now.view c.args.delivery.now.event.now _ c.last-next.result c.requires.may.tree c.requires.may.live c.last-next.ensures.key;
 }
 
 pub children::try_children-try_child-taker-requires : goal.children::try_children-try_child-taker-requires
 children::try_children-try_child-taker-requires t c =
     let d = c.args.delivery.now in
     let views = c.args.tree.now in
-    let slop = d.limits.now.slop in
+    let slop = d.slop in
     let kept = c.loop-next.invariant.kept in
     let walk : TryWalk views slop d.view d.event.now (Some c.in-Some.kid) _ _ = rw c.in-Some.is at c.loop-next.invariant.walked in
     let kid : IsKidAt views d.view c.in-Some.kid = walk.kid in
@@ -246,7 +265,7 @@ pub children::try_children-returns-then-is_taken-clause-tried : goal.children::t
 children::try_children-returns-then-is_taken-clause-tried t c =
     let d = c.args.delivery.now in
     let views = c.args.tree.now in
-    let slop = d.limits.now.slop in
+    let slop = d.slop in
     let i = c.loop-next.invariant in
     let walk : TryWalk views slop d.view d.event.now (Some c.in-Some.kid) _ _ = rw c.in-Some.is at i.walked in
     let kid : IsKidAt views d.view c.in-Some.kid = walk.kid in
@@ -261,7 +280,7 @@ children::try_children-returns-then-is_taken-clause-kept t c = kept_on c.loop-ne
 pub children::try_children-returns-clause-tried : goal.children::try_children-returns-clause-tried
 children::try_children-returns-clause-tried t c =
     let d = c.args.delivery.now in
-    let walk : TryWalk c.args.tree.now d.limits.now.slop d.view d.event.now None _ _ = rw c.in_default.is at c.loop-next.invariant.walked in
+    let walk : TryWalk c.args.tree.now d.slop d.view d.event.now None _ _ = rw c.in_default.is at c.loop-next.invariant.walked in
     walk.rest
 
 pub children::try_children-returns-clause-kept : goal.children::try_children-returns-clause-kept
@@ -278,7 +297,7 @@ pub children::try_child-returns-then-not-is_tried-clause-tried : goal.children::
 children::try_child-returns-then-not-is_tried-clause-tried t c =
     let d = c.args.delivery.now in
     let views = c.args.tree.now in
-    let slop = d.limits.now.slop in
+    let slop = d.slop in
     let reads = reads_child (names_child c.requires.may c.requires.kid c.number-group.ensures.value c.number-child.ensures.value) c.facts-own.ensures.value c.facts.ensures.value c.state-rect.ensures.value in
     try_no (scene_of views slop) (own_of views d.view) d.event.now (child_at views slop c.args.kid) (progress_of views c.args.gesture.now c.args.log.now)
     (tried_read slop reads ∙ sym c.is_tried.ensures ∙ c.if-not-is_tried.true)
@@ -296,7 +315,7 @@ pub children::try_child-returns-then-is_target-clause-tried : goal.children::try
 children::try_child-returns-then-is_target-clause-tried t c =
     let d = c.args.delivery.now in
     let views = c.args.tree.now in
-    let slop = d.limits.now.slop in
+    let slop = d.slop in
     let reads = reads_child (names_child c.requires.may c.requires.kid c.number-group.ensures.value c.number-child.ensures.value) c.facts-own.ensures.value c.facts.ensures.value c.state-rect.ensures.value in
     try_earlier (scene_of views slop) (own_of views d.view) d.event.now (child_at views slop c.args.kid) (progress_of views c.args.gesture.now c.args.log.now) (progress_of views c.put.new.self c.args.log.now)
     (tried_read slop reads ∙ sym c.is_tried.ensures ∙ c.if-not-is_tried.false)
@@ -311,7 +330,8 @@ pub children::try_child-reach-requires : goal.children::try_child-reach-requires
 children::try_child-reach-requires t c =
     let d = c.args.delivery.now in
     let views = c.args.tree.now in
-    let slop = d.limits.now.slop in
+    let slop = d.slop in
+    let slop_fits : FitsSigned w32 slop = search rules in
     let reads = reads_child (names_child c.requires.may c.requires.kid c.number-group.ensures.value c.number-child.ensures.value) c.facts-own.ensures.value c.facts.ensures.value c.state-rect.ensures.value in
     let gets =
     gets_part slop c.args.log.now.entries.items c.tried_event-part.result reads (sym c.is_tried.ensures ∙ c.if-not-is_tried.false) (sym c.is_target.ensures ∙ c.if-is_target.false) c.tried_event-part.ensures.value in
@@ -321,19 +341,20 @@ children::try_child-reach-requires t c =
     let k = ap (λ (r : Reached). many r.progress) (reach_at views slop c.args.kid c.tried_event-part.result progress c.requires.kid.live) in
     let all = c.requires.fits in
     let pointer = c.tried_event-part.ensures.pointer in
-    (omega (arith, c.decreases, fewer), (record { tree = c.requires.may.tree; live = c.requires.kid.live; pointer = pointer; caught = c.requires.may.caught }, omega (arith, fits, k, all)))
+    (omega (arith, c.decreases, fewer), (record { tree = c.requires.may.tree; live = c.requires.kid.live; pointer = pointer; caught = c.requires.may.caught }, rw (to_z-of_z w32 slop slop_fits) (omega (arith, fits, k, all))))
 
 pub children::try_child-returns-then-not-reach-clause-tried : goal.children::try_child-returns-then-not-reach-clause-tried
 children::try_child-returns-then-not-reach-clause-tried t c =
     let d = c.args.delivery.now in
     let views = c.args.tree.now in
-    let slop = d.limits.now.slop in
+    let slop = d.slop in
+    let slop_fits : FitsSigned w32 slop = search rules in
     let own = own_of views d.view in
     let reads = reads_child (names_child c.requires.may c.requires.kid c.number-group.ensures.value c.number-child.ensures.value) c.facts-own.ensures.value c.facts.ensures.value c.state-rect.ensures.value in
     let gets =
     gets_part slop c.args.log.now.entries.items c.tried_event-part.result reads (sym c.is_tried.ensures ∙ c.if-not-is_tried.false) (sym c.is_target.ensures ∙ c.if-is_target.false) c.tried_event-part.ensures.value in
     let reached : Reached = record { yes = c.reach.result; progress = progress_of c.reach.new.tree c.reach.new.gesture c.reach.new.log } in
-    try_sent (scene_of views slop) own d.event.now (child_at views slop c.args.kid) _ c.tried_event-part.result reached gets (sym (reach_at views slop c.args.kid c.tried_event-part.result _ c.requires.kid.live) ∙ c.reach.ensures.reached)
+    try_sent (scene_of views slop) own d.event.now (child_at views slop c.args.kid) _ c.tried_event-part.result reached gets (sym (reach_at views slop c.args.kid c.tried_event-part.result _ c.requires.kid.live) ∙ (rw (to_z-of_z w32 slop slop_fits) at c.reach.ensures.reached))
     ∙ taken_no own d.event.now (own_of views c.args.kid).number reached c.if-not-reach.true
 
 pub children::try_child-returns-then-not-reach-clause-kept : goal.children::try_child-returns-then-not-reach-clause-kept
@@ -350,14 +371,15 @@ pub children::try_child-returns-clause-tried : goal.children::try_child-returns-
 children::try_child-returns-clause-tried t c =
     let d = c.args.delivery.now in
     let views = c.args.tree.now in
-    let slop = d.limits.now.slop in
+    let slop = d.slop in
+    let slop_fits : FitsSigned w32 slop = search rules in
     let own = own_of views d.view in
     let reads = reads_child (names_child c.requires.may c.requires.kid c.number-group.ensures.value c.number-child.ensures.value) c.facts-own.ensures.value c.facts.ensures.value c.state-rect.ensures.value in
     let gets =
     gets_part slop c.args.log.now.entries.items c.tried_event-part.result reads (sym c.is_tried.ensures ∙ c.if-not-is_tried.false) (sym c.is_target.ensures ∙ c.if-is_target.false) c.tried_event-part.ensures.value in
     let reached : Reached = record { yes = c.reach.result; progress = progress_of c.reach.new.tree c.reach.new.gesture c.reach.new.log } in
     let new = progress_of c.reach.new.tree c.put-2.new.self c.reach.new.log in
-    try_sent (scene_of views slop) own d.event.now (child_at views slop c.args.kid) _ c.tried_event-part.result reached gets (sym (reach_at views slop c.args.kid c.tried_event-part.result _ c.requires.kid.live) ∙ c.reach.ensures.reached)
+    try_sent (scene_of views slop) own d.event.now (child_at views slop c.args.kid) _ c.tried_event-part.result reached gets (sym (reach_at views slop c.args.kid c.tried_event-part.result _ c.requires.kid.live) ∙ (rw (to_z-of_z w32 slop slop_fits) at c.reach.ensures.reached))
     ∙ taken_yes own d.event.now (own_of views c.args.kid).number reached new c.if-not-reach.false
     (put_named (offsets_in c.reach.new.tree) c.reach.new.log.entries.items (gesture_of c.reach.new.gesture) (gesture_of c.put-2.new.self) _ _ _ _ _ _ c.put-2.ensures.gesture c.number-group.ensures.value c.number-child.ensures.value
     (c.tried_ids.ensures.value ∙ ap (λ (f : Facts). tried_ids f.split d.event.now) c.facts-own.ensures.value))
@@ -373,7 +395,7 @@ group::answer-handle_at-requires-clause-fits t c =
     let s = c.args.shared.now in
     let d = s.delivery.now in
     let views = c.args.tree.now in
-    let slop = d.limits.now.slop in
+    let slop = d.slop in
     let own = own_of views d.view in
     let targets = (gesture_of c.args.gesture.now).targets in
     let start = progress_of views c.args.gesture.now c.args.log.now in
@@ -388,7 +410,7 @@ group::answer-deliver-requires t c =
     let s = c.args.shared.now in
     let d = s.delivery.now in
     let views = c.args.tree.now in
-    let slop = d.limits.now.slop in
+    let slop = d.slop in
     let own = own_of views d.view in
     let targets = (gesture_of c.args.gesture.now).targets in
     let start = progress_of views c.args.gesture.now c.args.log.now in
@@ -409,7 +431,7 @@ group::answer-returns-then-is_none-clause-answered t c =
     let s = c.args.shared.now in
     let d = s.delivery.now in
     let targets = (gesture_of c.args.gesture.now).targets in
-    answered_own (scene_of c.args.tree.now d.limits.now.slop) (own_of c.args.tree.now d.view) (kids_of c.args.tree.now d.limits.now.slop d.view)
+    answered_own (scene_of c.args.tree.now d.slop) (own_of c.args.tree.now d.view) (kids_of c.args.tree.now d.slop d.view)
     d.event.now s.intercepted s.taker (progress_of c.args.tree.now c.args.gesture.now c.args.log.now) _
     (none_by c.newest.result c.is_none.result (targets (own_of c.args.tree.now d.view).number) c.is_none.ensures c.if-is_none.true
     (c.newest.ensures.child ∙ ap (λ n. first_child (targets n)) c.number.ensures.value))
@@ -420,7 +442,7 @@ group::answer-returns-clause-answered t c =
     let s = c.args.shared.now in
     let d = s.delivery.now in
     let targets = (gesture_of c.args.gesture.now).targets in
-    answered_targets (scene_of c.args.tree.now d.limits.now.slop) (own_of c.args.tree.now d.view) (kids_of c.args.tree.now d.limits.now.slop d.view)
+    answered_targets (scene_of c.args.tree.now d.slop) (own_of c.args.tree.now d.view) (kids_of c.args.tree.now d.slop d.view)
     d.event.now s.intercepted s.taker (progress_of c.args.tree.now c.args.gesture.now c.args.log.now) _
     (some_by c.newest.result c.is_none.result (targets (own_of c.args.tree.now d.view).number) c.is_none.ensures c.if-is_none.false
     (c.newest.ensures.child ∙ ap (λ n. first_child (targets n)) c.number.ensures.value))
@@ -457,7 +479,7 @@ targets::deliver-deliver_to-said-requires t c =
     let same : (gesture_of c.loop-next.gesture).targets (own_of c.loop-next.tree d.view).number ≡ targets =
     ap (λ (v : PlainView). (gesture_of c.loop-next.gesture).targets v.number) (same_own c.args.tree.now c.loop-next.tree d.view i.kept.scrolls) ∙ i.same in
     let fits =
-    out_fits_at c.args.tree.now c.loop-next.tree d.limits.now.slop d.view d.event.now s.intercepted s.taker c.in-Some.child targets _ c.loop-next.yes
+    out_fits_at c.args.tree.now c.loop-next.tree d.slop d.view d.event.now s.intercepted s.taker c.in-Some.child targets _ c.loop-next.yes
     (progress_of c.loop-next.tree c.loop-next.gesture c.loop-next.log) i.kept.scrolls same there in
     let whole = ap (λ (r : Reached). many r.progress) (rw c.in-Some.is at i.rest) in
     let room = i.kept.room in
@@ -470,7 +492,7 @@ stayed : (t : ℕ) (c : goal.targets::deliver-After-next-next t)
 stayed t c =
     let s = c.args.shared.now in
     let d = s.delivery.now in
-    out_same c.args.tree.now c.loop-next.tree d.limits.now.slop d.view d.event.now s.intercepted s.taker
+    out_same c.args.tree.now c.loop-next.tree d.slop d.view d.event.now s.intercepted s.taker
     (target_of c.in-Some.child ((gesture_of c.loop-next.gesture).targets (own_of c.loop-next.tree d.view).number))
     (progress_of c.loop-next.tree c.loop-next.gesture c.loop-next.log) _ c.requires.may.tree c.requires.may.live c.loop-next.invariant.kept.scrolls c.deliver_to-said.ensures.delivered
     ∙ c.loop-next.invariant.same
@@ -492,7 +514,7 @@ targets::deliver-loop-next-preserved t c =
     let d = s.delivery.now in
     let i = c.loop-next.invariant in
     let old = c.args.tree.now in
-    let slop = d.limits.now.slop in
+    let slop = d.slop in
     let step = stepped t c in
     record {
       kept = kept_on i.kept c.deliver_to-said.ensures.kept;
@@ -525,7 +547,7 @@ targets::deliver_to-returns-then-not-put_part-clause-delivered t c =
     let s = c.args.shared.now in
     let d = s.delivery.now in
     let views = c.args.tree.now in
-    let slop = d.limits.now.slop in
+    let slop = d.slop in
     let targets = own_targets views c.args.gesture.now d.view in
     kept_back (scene_of views slop) (own_of views d.view) (kids_of views slop d.view) d.event.now s.intercepted s.taker (target_of c.args.child targets) _ (sym c.is_sent.ensures ∙ c.if-is_sent.false)
     (part_for_same views slop d.view c.in-Some.kid c.args.child (first_ids (from_child c.args.child targets)) (has_id c.ids-ids.result) d.event.now s.intercepted c.facts-own.result.now c.state-rect.result
@@ -541,7 +563,7 @@ targets::deliver_to-returns-clause-kept t c = c.reach.ensures.kept
 pub targets::deliver_to-returns-in_default-clause-delivered : goal.targets::deliver_to-returns-in_default-clause-delivered
 targets::deliver_to-returns-in_default-clause-delivered t c =
     let d = c.args.shared.now.delivery.now in
-    let k = kid_found c.args.tree.now d.limits.now.slop d.view c.args.child c.requires.may.tree c.requires.may.live
+    let k = kid_found c.args.tree.now d.slop d.view c.args.child c.requires.may.tree c.requires.may.live
     (c.requires.may.caught.children (own_of c.args.tree.now d.view).number c.args.child c.requires.target) in
     let key = k.key_is in
     let found = c.find.ensures.key in
@@ -551,6 +573,7 @@ targets::deliver_to-returns-in_default-clause-delivered t c =
 pub targets::deliver_to-reach-requires : goal.targets::deliver_to-reach-requires
 targets::deliver_to-reach-requires t c =
     let d = c.args.shared.now.delivery.now in
+    let slop_fits : FitsSigned w32 d.slop = search rules in
     let part : part_for c.state-rect.result.bounds c.facts-own.result.now.offset d.event.now c.args.shared.now.intercepted (has_id c.ids-ids.result) ≡ Some c.else-not-intercepted.part =
     elim c.else-not-intercepted.branch [
       | targets::deliver_to-else-not-intercepted-via-else-not-intercepted w ↦ rw (w.if-not-intercepted.false, w.part-is, c.cancel_event-part.ensures) refl
@@ -563,16 +586,17 @@ targets::deliver_to-reach-requires t c =
       | targets::deliver_to-else-not-intercepted-via-then-not-intercepted+else-not-put_part w ↦ rw (w.part-is, w.put_part.ensures.pointer) c.requires.may.pointer
     ] in
     let passes_on =
-    sends_to d.limits.now.slop c.args.log.now.entries.items c.requires.may c.requires.target (sym c.find.ensures.key ∙ c.in-Some.is) c.in-Some.ensures.number c.facts-own.ensures.value c.state-rect.ensures.value
+    sends_to d.slop c.args.log.now.entries.items c.requires.may c.requires.target (sym c.find.ensures.key ∙ c.in-Some.is) c.in-Some.ensures.number c.facts-own.ensures.value c.state-rect.ensures.value
     (c.ids-ids.ensures _ c.requires.target) (sym c.is_sent.ensures ∙ c.if-is_sent.false) part in
     let fewer = fewer_kid c.args.tree.now d.view c.in-Some.kid c.requires.may.live passes_on.there in
     let fits = ap (λ (r : Reached). many r.progress) passes_on.is in
     let all = c.requires.fits in
-    (omega (arith, c.decreases, fewer), (record { tree = c.requires.may.tree; live = passes_on.there.live; pointer = pointer; caught = c.requires.may.caught }, omega (arith, fits, all)))
+    (omega (arith, c.decreases, fewer), (record { tree = c.requires.may.tree; live = passes_on.there.live; pointer = pointer; caught = c.requires.may.caught }, rw (to_z-of_z w32 d.slop slop_fits) (omega (arith, fits, all))))
 
 pub targets::deliver_to-returns-clause-delivered : goal.targets::deliver_to-returns-clause-delivered
 targets::deliver_to-returns-clause-delivered t c =
     let d = c.args.shared.now.delivery.now in
+    let slop_fits : FitsSigned w32 d.slop = search rules in
     let part : part_for c.state-rect.result.bounds c.facts-own.result.now.offset d.event.now c.args.shared.now.intercepted (has_id c.ids-ids.result) ≡ Some c.else-not-intercepted.part =
     elim c.else-not-intercepted.branch [
       | targets::deliver_to-else-not-intercepted-via-else-not-intercepted w ↦ rw (w.if-not-intercepted.false, w.part-is, c.cancel_event-part.ensures) refl
@@ -580,6 +604,6 @@ targets::deliver_to-returns-clause-delivered t c =
           rw (w.if-not-intercepted.true, w.part-is) (sym (rw w.if-not-put_part.false at w.put_part.ensures.value))
     ] in
     let passes_on =
-    sends_to d.limits.now.slop c.args.log.now.entries.items c.requires.may c.requires.target (sym c.find.ensures.key ∙ c.in-Some.is) c.in-Some.ensures.number c.facts-own.ensures.value c.state-rect.ensures.value
+    sends_to d.slop c.args.log.now.entries.items c.requires.may c.requires.target (sym c.find.ensures.key ∙ c.in-Some.is) c.in-Some.ensures.number c.facts-own.ensures.value c.state-rect.ensures.value
     (c.ids-ids.ensures _ c.requires.target) (sym c.is_sent.ensures ∙ c.if-is_sent.false) part in
-    passes_on.is ∙ c.reach.ensures.reached
+    passes_on.is ∙ (rw (to_z-of_z w32 d.slop slop_fits) at c.reach.ensures.reached)

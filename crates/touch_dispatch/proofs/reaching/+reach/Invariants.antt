@@ -36,7 +36,7 @@ decreases-targets::deliver_to l = 8 * count_of (first_tree (part_from l.shared.n
 abbrev pub invariant-children::try_children-loop-next : goal.invariant-children::try_children-loop-next
 invariant-children::try_children-loop-next l = record {
   kept : KeepsScene l.fn.tree l.tree l.fn.gesture l.gesture l.fn.log l.log;
-  walked : TryWalk l.fn.tree l.delivery.limits.now.slop l.delivery.view l.delivery.event.now l.next (progress_of l.fn.tree l.fn.gesture l.fn.log) (progress_of l.tree l.gesture l.log);
+  walked : TryWalk l.fn.tree l.delivery.slop l.delivery.view l.delivery.event.now l.next (progress_of l.fn.tree l.fn.gesture l.fn.log) (progress_of l.tree l.gesture l.log);
 }
 
 abbrev pub decreases-children::try_children-loop-next : goal.decreases-children::try_children-loop-next
