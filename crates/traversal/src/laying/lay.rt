@@ -1,5 +1,5 @@
 //! Laying a measured view and all below it, where they need that: the walk, which is the same for every class.
-ghost use Rattle.std.specs.Prelude.{◌≡◌, ◌≢◌, ◌+◌, ◌-ℤ◌, ◌≤◌, ◌^◌, ℤ, ◌⊎◌, true, false, if◌then◌else◌, [], IfSome, List, None, Some, length};
+ghost use Rattle.std.specs.Prelude.{◌≡◌, ◌≢◌, ◌+◌, ◌≤◌, ◌^◌, ℤ, ◌⊎◌, true, false, if◌then◌else◌, [], IfSome, List, None, Some, length};
 ghost use Rattle.damage_rect.specs.Within.{LiesIn};
 ghost use Rattle.geom_core.specs.Rects.{holds};
 ghost use Rattle.geom_core.specs.declared.geometry.Rect.{Rect};
@@ -15,7 +15,6 @@ ghost use Rattle.view_model.specs.Classes.{is_relative, lays_in_line};
 ghost use Rattle.view_model.specs.declared.limits.TheConstants.{MAX_VIEWS};
 ghost use Rattle.view_model.specs.Forest.{count_of};
 ghost use Rattle.view_model.specs.Facts.{is_shown};
-ghost use Rattle.view_model.specs.Geometry.{size_of_rect};
 ghost use Rattle.view_model.specs.Layout.{Spot};
 ghost use Rattle.view_model.specs.Measuring.{Measured};
 ghost use Rattle.view_model.specs.Offsets.{brought};
@@ -26,12 +25,13 @@ ghost use Rattle.scroll_offsets.specs.Bringing.{range_at};
 ghost use Rattle.view_tree.specs.Views.{IsLive, IsTree, KeepsOthers, KeepsOutside, SameTree, class_of, facts_of, held_of, offset_of, specs_of, state_of, KeepsCounts, KeepsMeasures};
 ghost use Rattle.traversal.specs.Counting.{IsMeasuringCounted};
 ghost use Rattle.traversal.specs.Laying.{AreFitToLay, HasLaid, stage_of};
-ghost use Rattle.traversal.specs.Narrow.{IsNarrow, IsNarrowFor, IsStretch};
+ghost use Rattle.traversal.specs.Narrow.{IsNarrow, IsNarrowFor};
 ghost use Rattle.traversal.specs.Placing.{LaidKids, PlacesAs, Unmarked};
 ghost use Rattle.traversal.specs.Resting.{IsAtPlace, is_at_place};
 ghost use Rattle.traversal.specs.Subtrees.{children_at, spot_at, subtree_at};
 
 use super::placer::{Placer, places_backwards};
+use crate::reporting::near_size;
 use damage_rect::Damage;
 use geom_core::{Rect, Size};
 use measure_pass::remeasure;
@@ -122,7 +122,7 @@ pub fn lay_open(
     }
     let inner = follow_in(tree.facts(view), before, rect, canvas, &mut context.damage);
     let inside = Inside {
-        size: extent(rect),
+        size: near_size(rect),
         canvas: inner,
     };
     lay_kids(tree, view, &inside, context);
@@ -508,23 +508,4 @@ fn lay_kid(
     let state = tree.state(kid);
     let rect = placer.place(facts, state.measured, state.edges);
     lay(tree, kid, rect, canvas, context);
-}
-
-/// The size of a rectangle.
-fn extent(rect: Rect) -> Size
-    requires { IsNarrow rect }
-    ensures { result ≡ size_of_rect rect }
-{
-    Size {
-        w: stretch(rect.left, rect.right),
-        h: stretch(rect.top, rect.bottom),
-    }
-}
-
-/// How far it is from one edge to another.
-fn stretch(near: i32, far: i32) -> i32
-    requires { IsStretch (far -ℤ near) }
-    ensures { result ≡ far -ℤ near }
-{
-    far - near
 }

@@ -36,6 +36,7 @@ use Rattle.traversal.proofs.laid.LastAsked.{kids_asked}
 use Rattle.traversal.proofs.SharesLaid.{SharesOut-less, alike_moved, shared_settled, shares_kid, shares_view}
 use Rattle.measure_pass.specs.Sharing.{Shared}
 use Rattle.measure_pass.proofs.Shares.{SharesOut-trans}
+use Rattle.traversal.proofs.laid.FitLaws.{near_size_is}
 use Rattle.traversal.proofs.laid.LaidAt.{alone_outside, below_at, calm_at, differ_at, kid_at, kid_gone, outside_at, put_at, put_same, settled_bounds, settled_cache, settled_is, settled_same, sides_at}
 use Rattle.traversal.proofs.sight.FollowedViews.{covers_along, covers_at, covers_end, covers_on, covers_start, settled_places, sight_along, sight_at, sight_same, steps_by, walks_end, walks_on, walks_start}
 use Rattle.traversal.proofs.laid.BackWalk.{WalkTo, back_few, back_fit, back_narrow, back_on, back_start, backwards_is, fewer_back}
@@ -390,7 +391,7 @@ lay_open-returns-clause-put t c =
     let there = moved_is (a view) (b view) c.args.rect c.move_to-moved.result f.moved f.held in
     put_at tree view (held_of c.args.tree.now) a b (held_of c.lay_kids.new.tree) (held_of c.bring-2.new.tree) c.args.rect g.is_tree.keys r.live r.shown g.fit
     (record { first = g.unmarked.first; specs = g.unmarked.specs; edges = g.unmarked.edges }) g.keeps.offsets (record { at = there; others = f.others })
-    (rw c.extent.ensures at (rw same at c.lay_kids.ensures.quiet)) (rw same at c.lay_kids.ensures.done.others)
+    (rw (c.near_size.ensures ∙ near_size_is c.args.rect c.requires.narrow) at (rw same at c.lay_kids.ensures.quiet)) (rw same at c.lay_kids.ensures.done.others)
     (record { at = rw all at c.bring-2.ensures.held; others = c.bring-2.ensures.others })
 
 pub lay_open-returns-clause-done : goal.lay_open-returns-clause-done
