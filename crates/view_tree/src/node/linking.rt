@@ -33,7 +33,8 @@ fn set_next(nodes: &mut Slab<Node>, key: Option<usize>, next: Link)
 fn set_previous(nodes: &mut Slab<Node>, key: Option<usize>, previous: Link)
     requires { (k : ℕ) → key ≡ Some k → ContainsKey nodes.old k }
     ensures links { (x : ℕ)
-        → plain_node_at nodes.new x ≡ changed_at (plain_node_at nodes.old) key (λ node. record node { previous = previous }) x }
+        → plain_node_at nodes.new x
+        ≡ changed_at (plain_node_at nodes.old) key (λ node. record node { previous = previous }) x }
     ensures held { (x : ℕ) → held_in (get nodes.new x) ≡ held_in (get nodes.old x) }
     ensures len { KeepsNodeCount nodes.old nodes.new }
     ensures capacity { KeepsNodeRoom nodes.old nodes.new }

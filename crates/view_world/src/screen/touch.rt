@@ -1,5 +1,5 @@
 //! Lines that touch views.
-ghost use Rattle.std.specs.Prelude.{◌≡◌, ◌<◌, [], Err, Ok, OnOk};
+ghost use Rattle.std.specs.Prelude.{◌≡◌, ◌<◌, [], Ok, OnOk};
 ghost use Rattle.script_lines.specs.commands.PlainCommands.{Cancel, Disallow, Down, Move, Up};
 ghost use Rattle.touch_event.specs.Numbers.{max_pointers};
 ghost use Rattle.view_world.specs.screen.Changed.{CarriesOut};
