@@ -245,3 +245,36 @@ outside view bounds canvas children frame moved at points = elim (cases_Bool (is
   | inl drawn ↦ unseen view bounds canvas children frame moved drawn at points
   | inr off ↦ hidden view bounds canvas children at off
 ]
+
+-- a view that has no text, and whose background and children leave each colour as it is
+clear_content : (text a t c : Bool) (ink kids : Argb → Argb) (back under : Argb) → text ≡ false → ((u : Argb) → kids u ≡ u) → back ≡ under
+    → (let own = if (text && a) && t then ink back else back in if c then kids own else own) ≡ under
+clear_content true a t c ink kids back under off none is = absurd (cc)
+clear_content false a t true ink kids back under off none is = none back ∙ is
+clear_content false a t false ink kids back under off none is = is
+
+clear_drawn : (bounds : Option Rect) (view : PlainView) (children : Painter) (x y : ℤ) (under : Argb) → has_text view.class ≡ false → PaintsNothing children
+    → blend_of view.facts.background under ≡ under → drawn_in bounds view children x y under ≡ under
+clear_drawn None view children x y under off none is = refl
+clear_drawn (Some rect) view children x y under off none is =
+    shown (is_drawn view.facts.visibility && holds rect x y) _ under
+    (clear_content (has_text view.class) _ _ _ (blend_of view.facts.ink) (children _ _) _ under off (none _ _) is)
+  where
+    shown : (d : Bool) (v u : Argb) → v ≡ u → (if d then v else u) ≡ u
+    shown true v u e = e
+    shown false v u e = refl
+
+-- such a view, whose background was blended without an effect
+pub blank : (bounds : Option Rect) (view : PlainView) (canvas : Canvas) (children : Painter) (at : Raster) → has_text view.class ≡ false → PaintsNothing children
+    → Blends canvas.clip view.facts.background at at → PaintedIn canvas (drawn_in bounds view children) at at
+blank bounds view canvas children at off none back = record {
+  width = refl;
+  height = refl;
+  colors = λ x y xw yh.
+      by_clip (holds canvas.clip (pos x) (pos y)) (blend_of view.facts.background (color_at at x y)) _ (color_at at x y)
+      (back.colors x y xw yh) (λ is. clear_drawn bounds view children (pos x -ℤ canvas.left) (pos y -ℤ canvas.top) (color_at at x y) off none is);
+}
+  where
+    by_clip : (t : Bool) (blended drawn u : Argb) → u ≡ (if t then blended else u) → (blended ≡ u → drawn ≡ u) → u ≡ (if t then drawn else u)
+    by_clip true blended drawn u e h = sym (h (sym e))
+    by_clip false blended drawn u e h = refl

@@ -1,6 +1,7 @@
 //! What one view shows itself.
 ghost use Rattle.std.specs.Prelude.{◌≡◌, ℤ, ◌+◌, ◌≤◌, ◌^◌, ◌+ℤ◌, ◌-ℤ◌, ◌≤ℤ◌, ◌&&◌, pos, true, false, IfSome, Some};
 ghost use Rattle.damage_rect.specs.Within.{IsInside};
+ghost use Rattle.geom_core.specs.Color.{alpha_of};
 ghost use Rattle.geom_core.specs.Rects.{holds};
 ghost use Rattle.pixel_raster.specs.Raster.{Raster};
 ghost use Rattle.view_model.specs.Facts.{padding_across, padding_left};
@@ -77,6 +78,24 @@ fn is_drawn(visibility: Visibility) -> bool
         Visibility::Visible => true,
         Visibility::Invisible | Visibility::Gone => false,
     }
+}
+
+/// Whether nothing is painted of a view wherever it lies: no background, no text and no child. Most views that only
+/// hold a place are such.
+#[inline(always)]
+pub fn is_blank(tree: &ViewTree, view: Key) -> bool
+    requires { IsLive tree.now view }
+    ensures clear { result ≡ true → alpha_of (view_at tree.now view).facts.background ≡ 0 }
+    ensures textless { result ≡ true → has_text (view_at tree.now view).class ≡ false }
+    ensures childless { result ≡ true → children_of_first (part_from view tree.now.tree) ≡ Nothing }
+{
+    if tree.facts(view).background.alpha() != 0 {
+        return false;
+    }
+    if tree.class(view).has_text() {
+        return false;
+    }
+    !has_children(tree, view)
 }
 
 /// Whether anything lies in a view.

@@ -1,14 +1,16 @@
 //! The walk over a tree of views that paints each of them.
-ghost use Rattle.std.specs.Prelude.{◌+◌, ◌-◌, ◌*◌, ◌≤◌, ◌^◌, min};
-ghost use Rattle.view_model.specs.Forest.{count_of};
+ghost use Rattle.std.specs.Prelude.{◌≡◌, ◌+◌, ◌-◌, ◌*◌, ◌≤◌, ◌^◌, false, min};
+ghost use Rattle.geom_core.specs.Color.{alpha_of};
+ghost use Rattle.view_model.specs.Classes.{has_text};
+ghost use Rattle.view_model.specs.Forest.{Nothing, count_of};
 ghost use Rattle.view_model.specs.Painting.{painted, pixel_color};
 ghost use Rattle.view_tree.specs.Rows.{children_of_first, first_tree, part_from};
-ghost use Rattle.view_tree.specs.Views.{IsLive, geometry_of, held_of, plain_of};
+ghost use Rattle.view_tree.specs.Views.{IsLive, geometry_of, held_of, plain_of, view_at};
 ghost use Rattle.seen_parts.specs.Frames.{IsNearCanvas};
 ghost use Rattle.seen_parts.specs.Meeting.{placed_rows};
 ghost use Rattle.tree_painter.specs.Painted.{IsCounted, IsPainted, PaintedIn, area_in, share_of};
 
-use crate::own::paint_own;
+use crate::own::{is_blank, paint_own};
 use geom_core::{BLACK, Rect};
 use pixel_raster::Surface;
 use seen_parts::Canvas;
@@ -35,9 +37,44 @@ pub fn paint(tree: &ViewTree, surface: &mut Surface, damage: Rect, work: &mut Wo
     }
 }
 
-/// Paints a view and all below it. The canvas is that of its siblings.
+/// Paints a view and all below it. The canvas is that of its siblings. A blank view costs no call, and its bounds are
+/// not read.
 #[cycle(paint)]
+#[inline(always)]
 fn paint_view(tree: &ViewTree, view: Key, surface: &mut Surface, canvas: Canvas, work: &mut Work)
+    requires live { IsLive tree.now view }
+    requires canvas { IsNearCanvas canvas }
+    ensures painted { PaintedIn canvas
+        (painted (placed_rows (held_of tree.now) (first_tree (part_from view tree.now.tree)))) surface.old surface.new }
+    ensures counted { IsCounted (share_of (area_in surface.old canvas.clip) (first_tree (part_from view tree.now.tree)))
+        surface.old surface.new work.old work.new }
+{
+    if is_blank(tree, view) {
+        paint_blank(tree, view, surface, canvas, work);
+        return;
+    }
+    paint_filled(tree, view, surface, canvas, work);
+}
+
+/// Paints a blank view: its background, which covers nothing.
+#[inline(always)]
+fn paint_blank(tree: &ViewTree, view: Key, surface: &mut Surface, canvas: Canvas, work: &mut Work)
+    requires live { IsLive tree.now view }
+    requires clear { alpha_of (view_at tree.now view).facts.background ≡ 0 }
+    requires textless { has_text (view_at tree.now view).class ≡ false }
+    requires childless { children_of_first (part_from view tree.now.tree) ≡ Nothing }
+    ensures painted { PaintedIn canvas
+        (painted (placed_rows (held_of tree.now) (first_tree (part_from view tree.now.tree)))) surface.old surface.new }
+    ensures counted { IsCounted (share_of (area_in surface.old canvas.clip) (first_tree (part_from view tree.now.tree)))
+        surface.old surface.new work.old work.new }
+{
+    surface.blend(canvas.clip, tree.facts(view).background, work);
+}
+
+/// Paints any view and all below it.
+#[cycle(paint)]
+#[inline(never)]
+fn paint_filled(tree: &ViewTree, view: Key, surface: &mut Surface, canvas: Canvas, work: &mut Work)
     requires live { IsLive tree.now view }
     requires canvas { IsNearCanvas canvas }
     ensures painted { PaintedIn canvas

@@ -43,20 +43,20 @@ paint_children-loop-next-preserved t c =
           (share_parts (area_in start canvas.clip) part));
     }
 
-pub paint_view-returns-in-Some-clause-painted : goal.paint_view-returns-in-Some-clause-painted
-paint_view-returns-in-Some-clause-painted t c =
+pub paint_filled-returns-in-Some-clause-painted : goal.paint_filled-returns-in-Some-clause-painted
+paint_filled-returns-in-Some-clause-painted t c =
     own_drawn c.args.tree.now c.args.view c.requires.live c.args.canvas c.args.surface.now c.paint_children.new.surface
     (c.in-Some.ensures.painted (painted (placed_rows (held_of c.args.tree.now) (children_of_first (part_from c.args.view c.args.tree.now.tree)))) c.paint_children.new.surface
     (λ none x y u. ap (λ (kids : Forest Row). painted (placed_rows (held_of c.args.tree.now) kids) x y u) none) c.paint_children.ensures.painted)
 
-pub paint_view-returns-in_default-clause-painted : goal.paint_view-returns-in_default-clause-painted
-paint_view-returns-in_default-clause-painted t c =
+pub paint_filled-returns-in_default-clause-painted : goal.paint_filled-returns-in_default-clause-painted
+paint_filled-returns-in_default-clause-painted t c =
     own_drawn c.args.tree.now c.args.view c.requires.live c.args.canvas c.args.surface.now c.paint_own.new.surface
     (c.in_default.ensures.painted (painted (placed_rows (held_of c.args.tree.now) (children_of_first (part_from c.args.view c.args.tree.now.tree)))) c.paint_own.new.surface
     (λ none x y u. ap (λ (kids : Forest Row). painted (placed_rows (held_of c.args.tree.now) kids) x y u) none) refl)
 
-pub paint_view-returns-in-Some-clause-counted : goal.paint_view-returns-in-Some-clause-counted
-paint_view-returns-in-Some-clause-counted t c =
+pub paint_filled-returns-in-Some-clause-counted : goal.paint_filled-returns-in-Some-clause-counted
+paint_filled-returns-in-Some-clause-counted t c =
     let start = c.args.surface.now in
     let mid = c.paint_own.new.surface in
     let inner = c.in-Some.inner.clip in
@@ -67,7 +67,7 @@ paint_view-returns-in-Some-clause-counted t c =
     counted_children c.args.tree.now.tree c.args.view (area_in start c.args.canvas.clip) (area_in start inner) start mid c.paint_children.new.surface
     c.args.work.now c.paint_own.new.work c.paint_children.new.work c.requires.live c.in-Some.ensures.narrower c.paint_own.ensures.counted children
 
-pub paint_view-returns-in_default-clause-counted : goal.paint_view-returns-in_default-clause-counted
-paint_view-returns-in_default-clause-counted t c =
+pub paint_filled-returns-in_default-clause-counted : goal.paint_filled-returns-in_default-clause-counted
+paint_filled-returns-in_default-clause-counted t c =
     counted_own c.args.tree.now.tree c.args.view (area_in c.args.surface.now c.args.canvas.clip) c.args.surface.now c.paint_own.new.surface
     c.args.work.now c.paint_own.new.work c.requires.live c.paint_own.ensures.counted

@@ -9,12 +9,15 @@ use Rattle.tree_painter.specs.Painted.{area_in, from_origin, share_of}
 use Rattle.tree_painter.proofs.UnderWay.{IsUnderWay}
 use Rattle.tree_painter.proofs.painting.+paint.Given as goal
 
--- one round from a view to its child goes through two functions
+-- one round from a view to its child goes through three functions
 abbrev pub decreases-paint_view : goal.decreases-paint_view
-decreases-paint_view l = 2 * count_of (first_tree (part_from l.view l.tree.now.tree)) + 1
+decreases-paint_view l = 3 * count_of (first_tree (part_from l.view l.tree.now.tree)) + 2
+
+abbrev pub decreases-paint_filled : goal.decreases-paint_filled
+decreases-paint_filled l = 3 * count_of (first_tree (part_from l.view l.tree.now.tree)) + 1
 
 abbrev pub decreases-paint_children : goal.decreases-paint_children
-decreases-paint_children l = 2 * count_of (first_tree (part_from l.view l.tree.now.tree))
+decreases-paint_children l = 3 * count_of (first_tree (part_from l.view l.tree.now.tree))
 
 abbrev pub invariant-paint_children-loop-next : goal.invariant-paint_children-loop-next
 invariant-paint_children-loop-next l =
