@@ -27,5 +27,6 @@ mod sharing;
 mod weight_pass;
 mod wide;
 
+pub use axis::is_sized;
 pub use cursor::{Cursor, is_backwards};
 pub use plan::LinearPlan;

@@ -4,4 +4,5 @@ pub mod Frames
 pub mod Grows
 pub mod Own
 pub mod Parts
+pub mod Resized
 pub mod Rests

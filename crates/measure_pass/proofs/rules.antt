@@ -4,3 +4,4 @@ pub mod Lawful
 pub mod Laws
 pub mod LeafLaws
 pub mod LinearLaws
+pub mod SizedKids

@@ -106,6 +106,11 @@ hit_with own specs size =
           { measured = size; ws = specs.across; hs = specs.down; measure_first = true; layout_needed = true };
     }
 
+-- with one whose size was there, and whose children are right for these specs as they are
+abbrev pub resized_with : Held → Specs → Size → Held
+resized_with own specs size =
+    record own { state = record own.state { measured = size; ws = specs.across; hs = specs.down } }
+
 -- and with a marked one, once its children were measured for its last specs
 abbrev pub made_up : Held → Size → ℤ → Held
 made_up own size total =

@@ -3,6 +3,7 @@
 //!
 //! A size that comes from a cache leaves the mark `measure_first`: the children still have sizes for other specs. They
 //! are measured when layout reaches them, and not at once, since most such sizes are not the last ones of a frame.
+//! There is no mark where these sizes are right for any specs (`alike`).
 ghost use Rattle.std.specs.Prelude.{◌≡◌, ◌≤◌, ◌+◌, None, false, true};
 ghost use Rattle.geom_core.specs.Limits.{IsSide};
 ghost use Rattle.kept_views.specs.Kept.{Ready, owed};
@@ -14,6 +15,7 @@ ghost use Rattle.measure_pass.specs.Sharing.{SharesOut};
 ghost use Rattle.view_tree.specs.Rows.{first_tree, part_from};
 ghost use Rattle.view_tree.specs.Views.{IsLive, IsTree, KeepsOutside, SameTree, cache_of, held_of, specs_of, state_of};
 
+mod alike;
 mod frame;
 mod keeping;
 mod leaf;
@@ -21,9 +23,10 @@ mod linear;
 mod relative;
 mod scroll;
 
+use alike::is_right_below;
 use frame::measure_frame;
 use geom_core::{Size, Spec};
-use keeping::{Outcome, finish, hit, is_current, make_up};
+use keeping::{Outcome, finish, hit, is_current, make_up, resize};
 use leaf::leaf_size;
 use linear::measure_linear;
 use measure_cache::Entry;
@@ -37,7 +40,7 @@ use view_tree::{Key, ViewTree};
 ///
 /// Nothing is done if the view was last measured under these specs and is not forced. If its size for them is in its
 /// cache it gets that size and is marked: what is below it stays as it is, and `remeasure` makes up for it before it is
-/// laid out. Otherwise what is below it is measured, its size is remembered, and the measuring is counted. An exact
+/// laid out. It is not marked if what is below it is right for them as it is. Otherwise what is below it is measured, its size is remembered, and the measuring is counted. An exact
 /// spec that is the measured size is no reason to skip it. Views below it that are gone are not measured.
 #[cycle(measure)]
 #[inline(always)]
@@ -110,6 +113,10 @@ fn measure_changed(tree: &mut ViewTree, view: Key, ws: Spec, hs: Spec, work: &mu
         (entry_for (record { across = ws; down = hs }) result)) }
 {
     if let Some(size) = tree.cache(view).find(ws, hs) {
+        if is_right_below(tree, view) {
+            resize(tree, view, ws, hs, size);
+            return size;
+        }
         hit(tree, view, ws, hs, size);
         return size;
     }

@@ -61,7 +61,7 @@ is-current state specs both =
     ∙ ap (λ b. if b then same_spec state.hs state.hs else false) (same_spec-refl state.ws) ∙ same_spec-refl state.hs)
 
 -- a view that is measured or found in the cache was not still
-no_still : {A : Type 0} (state : State) (specs : Specs) → current state specs ≡ false → IsSpared (λ other. other ≡ specs) state → A
+pub no_still : {A : Type 0} (state : State) (specs : Specs) → current state specs ≡ false → IsSpared (λ other. other ≡ specs) state → A
 no_still state specs changed still = no_false (sym (is-current state specs (still.forced, still.asked specs refl)) ∙ changed)
 
 pub keeps_self : (held : ℕ → Held) → Keeps held held
@@ -255,7 +255,7 @@ new_row held mid new row kids siblings specs size total old between count here o
     }
 
 -- the same at a view of a tree
-alone_once : (row : Row) (kids siblings : Forest Row) → ((key : ℕ) → count_of_key key (Branch row kids siblings) ≤ 1) → (key : ℕ) → count_of_key key (Branch row kids Nothing) ≤ 1
+pub alone_once : (row : Row) (kids siblings : Forest Row) → ((key : ℕ) → count_of_key key (Branch row kids siblings) ≤ 1) → (key : ℕ) → count_of_key key (Branch row kids Nothing) ≤ 1
 alone_once row kids siblings once key = let o = once key in omega arith
 
 pub skip_at : (tree : Forest Row) (view : ℕ) (held : ℕ → Held) (specs : Specs) (count : ℕ) → 0 < count_of_key view tree → is_shown (head_view (part_from view tree)).facts ≡ true

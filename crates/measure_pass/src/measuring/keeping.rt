@@ -1,7 +1,7 @@
 //! What is kept with a view when it is measured, and when its size is found.
 ghost use Rattle.std.specs.Prelude.{◌≡◌, ◌+◌, ◌-◌, ◌^◌, min};
 ghost use Rattle.measure_pass.specs.Caches.{pair_in};
-ghost use Rattle.measure_pass.specs.Measured.{current, done_with, hit_with, made_up};
+ghost use Rattle.measure_pass.specs.Measured.{current, done_with, hit_with, made_up, resized_with};
 ghost use Rattle.view_tree.specs.Views.{IsLive, KeepsOthers, SameTree, held_of, KeepsCounts};
 
 use geom_core::{Size, Spec};
@@ -44,6 +44,22 @@ pub fn hit(tree: &mut ViewTree, view: Key, ws: Spec, hs: Spec, size: Size)
     state.hs = hs;
     state.measure_first = true;
     state.layout_needed = true;
+    tree.set_state(view, state);
+}
+
+/// Takes the size of a view from its cache, where what is below it is right for that as it is.
+#[inline(never)]
+pub fn resize(tree: &mut ViewTree, view: Key, ws: Spec, hs: Spec, size: Size)
+    requires { IsLive tree.old view }
+    ensures same { SameTree tree.old tree.new }
+    ensures held { held_of tree.new view ≡ resized_with (held_of tree.old view) (record { across = ws; down = hs }) size }
+    ensures others { KeepsOthers tree.old tree.new view }
+    ensures counts { KeepsCounts tree.old tree.new }
+{
+    let mut state = tree.state(view);
+    state.measured = size;
+    state.ws = ws;
+    state.hs = hs;
     tree.set_state(view, state);
 }
 

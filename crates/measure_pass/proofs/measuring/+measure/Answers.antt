@@ -52,6 +52,7 @@ use Rattle.measure_pass.specs.Measured.{KeepsRest, current, done_with, entry_for
 use Rattle.measure_pass.proofs.walks.PlanPhases.{all_at_0, all_here, all_more}
 use Rattle.measure_pass.proofs.walks.PlanTurns.{next_gone, next_left, next_measured}
 use Rattle.measure_pass.proofs.walks.PlanWalk.{plan_falls, plan_next, plan_on, plan_phase, plan_rest, plan_start}
+use Rattle.measure_pass.proofs.held.Resized.{resized_at}
 use Rattle.measure_pass.proofs.held.Rests.{rest_at, rest_kids, rest_measured, rest_none, same_then}
 use Rattle.measure_pass.proofs.measuring.+measure.Goals as goal
 
@@ -136,6 +137,48 @@ measure_changed-returns-in-Some-clause-caches t c = (own_hit t c).trace.caches
 
 pub measure_changed-returns-in-Some-clause-shares : goal.measure_changed-returns-in-Some-clause-shares
 measure_changed-returns-in-Some-clause-shares t c = (own_hit t c).trace.shares
+
+own_resized : (t : ℕ) (c : goal.measure_changed-After-resize t) → (let specs : Specs = record { across = c.args.ws; down = c.args.hs } in
+    Own (part_from c.args.view c.args.tree.now.tree) c.args.view specs (held_of c.args.tree.now) (held_of c.resize.new.tree) c.args.work.now.measured c.args.work.now.measured
+    c.in-Some.size)
+own_resized t c =
+    let specs : Specs = record { across = c.args.ws; down = c.args.hs } in
+    let r = c.requires.ready in
+    let right = c.is_right_below.ensures c.if-is_right_below.true in
+    let there : found (cache_of c.args.tree.now c.args.view) specs ≡ Some c.in-Some.size =
+    ap (λ cache. found cache specs) (sym c.cache.ensures) ∙ sym c.find.ensures ∙ c.in-Some.is in
+    resized_at c.args.tree.now.tree c.args.view (held_of c.args.tree.now) (held_of c.resize.new.tree) specs c.in-Some.size c.args.work.now.measured c.requires.is_tree.keys
+    r.live r.shown r.ready there (record { at = c.resize.ensures.held; others = c.resize.ensures.others }) c.requires.changed right.forced right.marked right.class right.kids
+
+pub measure_changed-returns-then-is_right_below-clause-size : goal.measure_changed-returns-then-is_right_below-clause-size
+measure_changed-returns-then-is_right_below-clause-size t c = (own_resized t c).size
+
+pub measure_changed-returns-then-is_right_below-clause-width : goal.measure_changed-returns-then-is_right_below-clause-width
+measure_changed-returns-then-is_right_below-clause-width t c = (sides_at c.args.tree.now.tree c.args.view _ c.in-Some.size c.requires.ready.live (own_resized t c).size).0
+
+pub measure_changed-returns-then-is_right_below-clause-height : goal.measure_changed-returns-then-is_right_below-clause-height
+measure_changed-returns-then-is_right_below-clause-height t c = (sides_at c.args.tree.now.tree c.args.view _ c.in-Some.size c.requires.ready.live (own_resized t c).size).1
+
+pub measure_changed-returns-then-is_right_below-clause-measured : goal.measure_changed-returns-then-is_right_below-clause-measured
+measure_changed-returns-then-is_right_below-clause-measured t c = measured_at c.args.tree.now c.resize.new.tree c.args.view _ _ _ _ _ c.resize.ensures.same.tree (own_resized t c)
+
+pub measure_changed-returns-then-is_right_below-clause-keeps : goal.measure_changed-returns-then-is_right_below-clause-keeps
+measure_changed-returns-then-is_right_below-clause-keeps t c = (own_resized t c).keeps
+
+pub measure_changed-returns-then-is_right_below-clause-others : goal.measure_changed-returns-then-is_right_below-clause-others
+measure_changed-returns-then-is_right_below-clause-others t c = (own_resized t c).others
+
+pub measure_changed-returns-then-is_right_below-clause-counted : goal.measure_changed-returns-then-is_right_below-clause-counted
+measure_changed-returns-then-is_right_below-clause-counted t c = counted_none c.args.tree.now c.resize.new.tree c.args.work.now c.args.work.now c.resize.ensures.counts refl
+
+pub measure_changed-returns-then-is_right_below-clause-costs : goal.measure_changed-returns-then-is_right_below-clause-costs
+measure_changed-returns-then-is_right_below-clause-costs t c = (own_resized t c).costs
+
+pub measure_changed-returns-then-is_right_below-clause-caches : goal.measure_changed-returns-then-is_right_below-clause-caches
+measure_changed-returns-then-is_right_below-clause-caches t c = (own_resized t c).trace.caches
+
+pub measure_changed-returns-then-is_right_below-clause-shares : goal.measure_changed-returns-then-is_right_below-clause-shares
+measure_changed-returns-then-is_right_below-clause-shares t c = (own_resized t c).trace.shares
 
 pub measure_changed-returns-clause-width : goal.measure_changed-returns-clause-width
 measure_changed-returns-clause-width t c = (sides_at c.args.tree.now.tree c.args.view _ c.measure_anew.result c.requires.ready.live c.measure_anew.ensures.size).0
