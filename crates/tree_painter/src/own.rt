@@ -80,22 +80,22 @@ fn is_drawn(visibility: Visibility) -> bool
     }
 }
 
-/// Whether nothing is painted of a view wherever it lies: no background, no text and no child. Most views that only
+/// Whether nothing is painted of a view wherever it lies: it has no child, no text and no background. Views that only
 /// hold a place are such.
 #[inline(always)]
 pub fn is_blank(tree: &ViewTree, view: Key) -> bool
     requires { IsLive tree.now view }
-    ensures clear { result ≡ true → alpha_of (view_at tree.now view).facts.background ≡ 0 }
-    ensures textless { result ≡ true → has_text (view_at tree.now view).class ≡ false }
     ensures childless { result ≡ true → children_of_first (part_from view tree.now.tree) ≡ Nothing }
+    ensures textless { result ≡ true → has_text (view_at tree.now view).class ≡ false }
+    ensures clear { result ≡ true → alpha_of (view_at tree.now view).facts.background ≡ 0 }
 {
-    if tree.facts(view).background.alpha() != 0 {
+    if has_children(tree, view) {
         return false;
     }
     if tree.class(view).has_text() {
         return false;
     }
-    !has_children(tree, view)
+    tree.facts(view).background.alpha() == 0
 }
 
 /// Whether anything lies in a view.

@@ -52,7 +52,8 @@ pub fn hit(tree: &mut ViewTree, view: Key, ws: Spec, hs: Spec, size: Size)
 pub fn resize(tree: &mut ViewTree, view: Key, ws: Spec, hs: Spec, size: Size)
     requires { IsLive tree.old view }
     ensures same { SameTree tree.old tree.new }
-    ensures held { held_of tree.new view ≡ resized_with (held_of tree.old view) (record { across = ws; down = hs }) size }
+    ensures held { held_of tree.new view
+        ≡ resized_with (held_of tree.old view) (record { across = ws; down = hs }) size }
     ensures others { KeepsOthers tree.old tree.new view }
     ensures counts { KeepsCounts tree.old tree.new }
 {

@@ -45,6 +45,7 @@ use Rattle.view_tree.proofs.forest.Forests.{live_below}
 use Rattle.view_tree.specs.Rows.{first_tree, children_of_first, count_of_key, head_view, part_from, siblings_from}
 use Rattle.view_tree.specs.Views.{Held, cache_of, held_of, orders_of, specs_of, state_of}
 use Rattle.view_tree.proofs.forest.KeyLaws.{located}
+use Rattle.view_tree.proofs.values.KeptLaws.{no_children_of}
 use Rattle.view_tree.proofs.forest.Walks.{once_from}
 use Rattle.view_model.specs.Forest.{Forest}
 use Rattle.view_tree.specs.Rows.{Row}
@@ -148,7 +149,8 @@ own_resized t c =
     let there : found (cache_of c.args.tree.now c.args.view) specs ≡ Some c.in-Some.size =
     ap (λ cache. found cache specs) (sym c.cache.ensures) ∙ sym c.find.ensures ∙ c.in-Some.is in
     resized_at c.args.tree.now.tree c.args.view (held_of c.args.tree.now) (held_of c.resize.new.tree) specs c.in-Some.size c.args.work.now.measured c.requires.is_tree.keys
-    r.live r.shown r.ready there (record { at = c.resize.ensures.held; others = c.resize.ensures.others }) c.requires.changed right.forced right.marked right.class right.kids
+    r.live r.shown r.ready there (record { at = c.resize.ensures.held; others = c.resize.ensures.others }) c.requires.changed right.forced right.marked right.alike
+    (no_children_of c.args.tree.now c.args.view c.requires.is_tree)
 
 pub measure_changed-returns-then-is_right_below-clause-size : goal.measure_changed-returns-then-is_right_below-clause-size
 measure_changed-returns-then-is_right_below-clause-size t c = (own_resized t c).size

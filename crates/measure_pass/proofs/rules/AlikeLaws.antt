@@ -1,6 +1,7 @@
 -- A linear layout whose children have a number of pixels on both axes and no weight asks each once, for that, under any
--- specs: its final specs, what its children take of its length, and where it places them are the same under any.
-use Rattle.std.proofs.Common.{arith, ◌≡◌, ℕ, ℤ, pos, negsuc, Bool, true, false, Option, Some, None, List, [], ◌∷◌, ◌++◌, inl, inr, refl, ap, sym, subst, ◌∙◌}
+-- specs: its final specs, what its children take of its length, and where it places them are the same under any. So it
+-- is for a view without children.
+use Rattle.std.proofs.Common.{arith, ◌≡◌, ◌≢◌, ℕ, ℤ, pos, negsuc, Bool, true, false, Option, Some, None, List, [], ◌∷◌, ◌++◌, inl, inr, refl, ap, sym, subst, ◌∙◌}
 use Rattle.std.proofs.lemmas.Bool.{cases_Bool, not-true}
 use Rattle.std.proofs.lemmas.Bool.Decides.{nat_tests}
 use Rattle.std.proofs.Math.Bool.{and-false}
@@ -13,9 +14,11 @@ use Rattle.geom_core.specs.declared.geometry.Size.{Size}
 use Rattle.geom_core.specs.declared.measuring.Spec.{Spec}
 use Rattle.linear_layout.specs.Line.{exact_specs, is_sized}
 use Rattle.linear_layout.proofs.SizedLaws.{sized_first}
-use Rattle.measure_pass.specs.Alike.{AreSized}
+use Rattle.measure_pass.specs.Alike.{AreSized, AsksAlike}
+use Rattle.view_model.proofs.ClassLaws.{manner_leaf}
 use Rattle.view_model.specs.declared.class.Class.{Class}
-use Rattle.view_model.specs.declared.class.Class.TheVariants.{LinearLayout}
+use Rattle.view_model.specs.declared.class.Class.TheVariants.{LinearLayout, RelativeLayout}
+use Rattle.view_model.specs.Classes.{is_group}
 use Rattle.view_model.specs.declared.facts.Facts.{Facts}
 use Rattle.view_model.specs.Course.{Child, MeasuringProgress, Requested, after_phase, after_turn, asked_for, begun, ended, last_of, measured_of, one_phase, phases_on, size_in, sizes_of}
 use Rattle.view_model.specs.Facts.{is_match, is_shown}
@@ -23,7 +26,7 @@ use Rattle.view_model.specs.FrameLayout.{is_exactly}
 use Rattle.view_model.specs.Forest.{Forest, Nothing, Branch}
 use Rattle.view_model.specs.Layout.{Final, Placed, Spot, children_of, course_in, final_by, final_size, final_specs, for_layout, manner_by, place_in, placed_back, placed_by, placed_from, placed_in, placement, places_backwards, total_by, total_size}
 use Rattle.view_model.specs.LinearLayout.{dim_on, first_pass, full_length, has_weight_pass, is_exact_beside, is_skipped, linear_ask, linear_rule, linear_total, own_breadth, skips, spare_of, uniform_pass, weight_of, weight_pass}
-use Rattle.view_model.specs.Measuring.{Measured, Rule, Specs}
+use Rattle.view_model.specs.Measuring.{Manner, Measured, Rule, Specs}
 use Rattle.view_model.specs.PlainTree.{PlainView}
 use Rattle.view_tree.specs.Rows.{Row, views_of}
 
@@ -243,7 +246,7 @@ back_alike : (view : PlainView) (room : Size) (total : ℤ) (a b : Specs) (kids 
 back_alike view room total a b [] = refl
 back_alike view room total a b (kid ∷ kids) =
     ap (λ (more : List Placed).
-        (let p : Placed = record { child = kid.child; specs = kid.specs; rect = place_in (spot_with view room total a) (reverse (map final_size kids)) (final_size kid) kid.edges } in p) ∷ more)
+    (let p : Placed = record { child = kid.child; specs = kid.specs; rect = place_in (spot_with view room total a) (reverse (map final_size kids)) (final_size kid) kid.edges } in p) ∷ more)
     (back_alike view room total a b kids)
 
 placed_alike : (view : PlainView) (room : Size) (total : ℤ) (a b : Specs) (kids : List Final)
@@ -257,25 +260,51 @@ sized_children : (kids : Forest Row) → AreSized kids → AllSized (children_of
 sized_children Nothing s = tt
 sized_children (Branch row kids siblings) s = (s.0, sized_children siblings s.1)
 
-module _ (row : Row) (kids : Forest Row) (class : row.view.class ≡ LinearLayout) (sized : AreSized kids) (a b : Specs) where
-  finals_alike : final_by (for_layout row.view) (children_of (views_of kids)) a ≡ final_by (for_layout row.view) (children_of (views_of kids)) b
-  finals_alike =
-      let s = sized_children kids sized in
-      finals_by (for_layout row.view) (children_of (views_of kids)) a class s ∙ sym (finals_by (for_layout row.view) (children_of (views_of kids)) b class s)
+-- what a view asks of its children, and where it places them, is the same under these specs
+pub record IsAlike (row : Row) (kids : Forest Row) (a b : Specs) : Type 0 where
+  pub specs : final_specs row.view (views_of kids) a ≡ final_specs row.view (views_of kids) b
+  pub total : total_size row.view (views_of kids) a ≡ total_size row.view (views_of kids) b
+  pub places : (room : Size) → placement row.view (views_of kids) a room ≡ placement row.view (views_of kids) b room
+  pub untied : row.view.class ≢ RelativeLayout
 
-  pub specs_alike : final_specs row.view (views_of kids) a ≡ final_specs row.view (views_of kids) b
-  specs_alike = ap (λ (finals : List Final). map (λ (kid : Final). kid.specs) finals) finals_alike
-
-  pub total_alike : total_size row.view (views_of kids) a ≡ total_size row.view (views_of kids) b
-  total_alike =
-      let s = sized_children kids sized in
-      totals_by (for_layout row.view) (children_of (views_of kids)) a class s ∙ sym (totals_by (for_layout row.view) (children_of (views_of kids)) b class s)
-
-  pub places_alike : (room : Size) → placement row.view (views_of kids) a room ≡ placement row.view (views_of kids) b room
-  places_alike room =
+alike_of : (row : Row) (kids : Forest Row) (a b : Specs)
+    → final_by (for_layout row.view) (children_of (views_of kids)) a ≡ final_by (for_layout row.view) (children_of (views_of kids)) b
+    → total_by (for_layout row.view) (children_of (views_of kids)) a ≡ total_by (for_layout row.view) (children_of (views_of kids)) b
+    → row.view.class ≢ RelativeLayout → IsAlike row kids a b
+alike_of row kids a b finals_alike total_alike untied = record {
+  specs = ap (λ (finals : List Final). map (λ (kid : Final). kid.specs) finals) finals_alike;
+  total = total_alike;
+  places = λ room.
       let view = for_layout row.view in
       let finals = final_by view (children_of (views_of kids)) a in
       let total = total_by view (children_of (views_of kids)) a in
       ap rects_of (placed_alike view room total a b finals)
       ∙ ap (λ (finals : List Final). rects_of (placed_in (spot_with view room total b) finals)) finals_alike
-      ∙ ap (λ (total : ℤ). rects_of (placed_in (spot_with view room total b) (final_by view (children_of (views_of kids)) b))) total_alike
+      ∙ ap (λ (total : ℤ). rects_of (placed_in (spot_with view room total b) (final_by view (children_of (views_of kids)) b))) total_alike;
+  untied = untied;
+}
+
+alike_sized : (row : Row) (kids : Forest Row) (a b : Specs) → row.view.class ≡ LinearLayout → AreSized kids → IsAlike row kids a b
+alike_sized row kids a b class sized =
+    let view = for_layout row.view in
+    let below = children_of (views_of kids) in
+    let s = sized_children kids sized in
+    alike_of row kids a b (finals_by view below a class s ∙ sym (finals_by view below b class s)) (totals_by view below a class s ∙ sym (totals_by view below b class s))
+    (λ tied. let e : LinearLayout ≡ RelativeLayout = sym class ∙ tied in absurd (cc))
+
+-- of a view that has no children
+finals_of_leaf : (view : PlainView) (specs : Specs) → is_group view.class ≡ false → final_by view [] specs ≡ []
+finals_of_leaf view specs leaf = ap (λ (manner : Manner). finals_in specs (course_in manner view [] specs).kids) (manner_leaf view.class view specs leaf)
+
+total_of_leaf : (view : PlainView) (specs : Specs) → is_group view.class ≡ false → total_by view [] specs ≡ pos 0
+total_of_leaf view specs leaf = ap (λ (manner : Manner). (course_in manner view [] specs).total) (manner_leaf view.class view specs leaf)
+
+alike_leaf : (row : Row) (a b : Specs) → is_group row.view.class ≡ false → IsAlike row Nothing a b
+alike_leaf row a b leaf =
+    let view = for_layout row.view in
+    alike_of row Nothing a b (finals_of_leaf view a leaf ∙ sym (finals_of_leaf view b leaf)) (total_of_leaf view a leaf ∙ sym (total_of_leaf view b leaf))
+    (λ tied. let e : true ≡ false = sym (ap is_group tied) ∙ leaf in absurd (cc))
+
+pub alike_by : (row : Row) (kids : Forest Row) (a b : Specs) → AsksAlike row.view.class kids → (is_group row.view.class ≡ false → kids ≡ Nothing) → IsAlike row kids a b
+alike_by row kids a b (inl leaf) childless = subst (λ (kids : Forest Row). IsAlike row kids a b) (sym (childless leaf)) (alike_leaf row a b leaf)
+alike_by row kids a b (inr (class, sized)) childless = alike_sized row kids a b class sized
