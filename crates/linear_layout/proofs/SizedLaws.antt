@@ -14,11 +14,11 @@ use Rattle.view_model.specs.declared.facts.Facts.{Facts}
 use Rattle.view_model.specs.LinearLayout.{dim_on, exactly, first_along, first_dim, first_pass, is_skipped, spec_beside, spec_on, specs_by}
 use Rattle.view_model.specs.Measuring.{Measured, Specs}
 
-both_first : (a b : Bool) → (a && b) ≡ true → a ≡ true
+pub both_first : (a b : Bool) → (a && b) ≡ true → a ≡ true
 both_first true b e = refl
 both_first false b e = absurd (let e : false ≡ true = e in cc)
 
-both_second : (a b : Bool) → (a && b) ≡ true → b ≡ true
+pub both_second : (a b : Bool) → (a && b) ≡ true → b ≡ true
 both_second true b e = e
 both_second false b e = absurd (let e : false ≡ true = e in cc)
 
@@ -26,7 +26,7 @@ light_dim : (dim : ℤ) (weight : ℕ) → weight ≡ 0 → first_dim dim weight
 unfolding first_dim
 light_dim dim weight light = rw light (ap (λ (b : Bool). if b then wrap_content else dim) (and-false _))
 
-light_skipped : (along : Spec) (dim : ℤ) (weight : ℕ) → weight ≡ 0 → is_skipped along dim weight ≡ false
+pub light_skipped : (along : Spec) (dim : ℤ) (weight : ℕ) → weight ≡ 0 → is_skipped along dim weight ≡ false
 unfolding is_skipped
 light_skipped along dim weight light = rw light (by_both (is_exactly along.mode) (int_eq dim (pos 0)))
   where

@@ -13,7 +13,8 @@ use Rattle.geom_core.specs.declared.geometry.Rect.{Rect}
 use Rattle.geom_core.specs.declared.geometry.Size.{Size}
 use Rattle.geom_core.specs.declared.measuring.Spec.{Spec}
 use Rattle.linear_layout.specs.Line.{exact_specs, is_sized}
-use Rattle.linear_layout.proofs.SizedLaws.{sized_first}
+use Rattle.linear_layout.proofs.SizedLaws.{both_first, both_second, light_skipped, sized_first}
+use Rattle.kept_views.proofs.laid.PlacedKids.{finals_in}
 use Rattle.measure_pass.specs.Alike.{AreSized, AsksAlike}
 use Rattle.view_model.proofs.ClassLaws.{manner_leaf}
 use Rattle.view_model.specs.declared.class.Class.{Class}
@@ -75,14 +76,6 @@ after_second ask taken (kid ∷ kids) none s =
     ∙ ap (λ (more : List Requested). own_kid kid ∷ more) (after_second ask (taken ++ size_in (own_kid kid)) kids none s.1)
 
 -- what such a child is not
-both_first : (a b : Bool) → (a && b) ≡ true → a ≡ true
-both_first true b e = refl
-both_first false b e = absurd (let e : false ≡ true = e in cc)
-
-both_second : (a b : Bool) → (a && b) ≡ true → b ≡ true
-both_second true b e = e
-both_second false b e = absurd (let e : false ≡ true = e in cc)
-
 light : (facts : Facts) → is_sized facts ≡ true → facts.weight ≡ 0
 light facts sized =
     let both : (not (int_lt facts.height (pos 0)) && facts.weight == 0) ≡ true = both_second (not (int_lt facts.width (pos 0))) _ sized in
@@ -97,14 +90,6 @@ unmatched : (v : Bool) (facts : Facts) → is_sized facts ≡ true → is_match 
 unfolding dim_on
 unmatched true facts sized = no_match facts.height (not-true _ (both_first _ _ (both_second _ _ sized)))
 unmatched false facts sized = no_match facts.width (not-true _ (both_first _ _ sized))
-
-light_skipped : (along : Spec) (dim : ℤ) (weight : ℕ) → weight ≡ 0 → is_skipped along dim weight ≡ false
-unfolding is_skipped
-light_skipped along dim weight none = rw none (by_both (is_exactly along.mode) (int_eq dim (pos 0)))
-  where
-    by_both : (a b : Bool) → (a && (b && false)) ≡ false
-    by_both true b = and-false b
-    by_both false b = refl
 
 any_in : (p : Measured → Bool) (v : Bool) (m : Measured) (more : List Measured) → (v ≡ true → p m ≡ false) → list_any p more ≡ false
     → list_any p ((if v then m ∷ [] else []) ++ more) ≡ false
@@ -196,11 +181,6 @@ own_final kid = record { child = kid; specs = exact_specs kid.facts; edges = Non
 abbrev own_finals : List Child → List Final
 own_finals [] = []
 own_finals (kid ∷ kids) = if is_shown kid.facts then own_final kid ∷ own_finals kids else own_finals kids
-
-abbrev finals_in : Specs → List Requested → List Final
-finals_in specs kids =
-    map (λ (kid : Requested). record { child = kid.child; specs = last_of specs kid.requests; edges = kid.edges })
-    (filter (λ (kid : Requested). is_shown kid.child.facts) kids)
 
 one_final : (specs : Specs) (v : Bool) (kid : Child) (more : List Requested) (finals : List Final)
     → map (λ (kid : Requested). let f : Final = record { child = kid.child; specs = last_of specs kid.requests; edges = kid.edges } in f) more ≡ finals
