@@ -2,7 +2,7 @@
 -- specs: its final specs, what its children take of its length, and where it places them are the same under any. So it
 -- is for a view without children.
 use Rattle.std.proofs.Common.{arith, ◌≡◌, ◌≢◌, ℕ, ℤ, pos, negsuc, Bool, true, false, Option, Some, None, List, [], ◌∷◌, ◌++◌, inl, inr, refl, ap, sym, subst, ◌∙◌}
-use Rattle.std.proofs.lemmas.Bool.{cases_Bool, not-true}
+use Rattle.std.proofs.lemmas.Bool.{not-true}
 use Rattle.std.proofs.lemmas.Bool.Decides.{nat_tests}
 use Rattle.std.proofs.Math.Bool.{and-false}
 use Rattle.std.proofs.lemmas.List.Sums.{sum_by-cons}
@@ -11,7 +11,6 @@ use Rattle.std.specs.Ordering.{int_eq}
 use Rattle.std.specs.Prelude.{◌+◌, ◌&&◌, ◌||◌, ◌==◌, if◌then◌else◌, int_lt, not, nat_lt, filter, map, reverse}
 use Rattle.geom_core.specs.declared.geometry.Rect.{Rect}
 use Rattle.geom_core.specs.declared.geometry.Size.{Size}
-use Rattle.geom_core.specs.declared.measuring.Spec.{Spec}
 use Rattle.linear_layout.specs.Line.{exact_specs, is_sized}
 use Rattle.linear_layout.proofs.SizedLaws.{both_first, both_second, light_skipped, sized_first}
 use Rattle.kept_views.proofs.laid.PlacedKids.{finals_in}
@@ -23,10 +22,9 @@ use Rattle.view_model.specs.Classes.{is_group}
 use Rattle.view_model.specs.declared.facts.Facts.{Facts}
 use Rattle.view_model.specs.Course.{Child, MeasuringProgress, Requested, after_phase, after_turn, asked_for, begun, ended, last_of, measured_of, one_phase, phases_on, size_in, sizes_of}
 use Rattle.view_model.specs.Facts.{is_match, is_shown}
-use Rattle.view_model.specs.FrameLayout.{is_exactly}
 use Rattle.view_model.specs.Forest.{Forest, Nothing, Branch}
-use Rattle.view_model.specs.Layout.{Final, Placed, Spot, children_of, course_in, final_by, final_size, final_specs, for_layout, manner_by, place_in, placed_back, placed_by, placed_from, placed_in, placement, places_backwards, total_by, total_size}
-use Rattle.view_model.specs.LinearLayout.{dim_on, first_pass, full_length, has_weight_pass, is_exact_beside, is_skipped, linear_ask, linear_rule, linear_total, own_breadth, skips, spare_of, uniform_pass, weight_of, weight_pass}
+use Rattle.view_model.specs.Layout.{Final, Placed, Spot, children_of, course_in, final_by, final_size, final_specs, for_layout, manner_by, place_in, placed_back, placed_from, placed_in, placement, places_backwards, total_by, total_size}
+use Rattle.view_model.specs.LinearLayout.{dim_on, first_pass, full_length, has_weight_pass, is_exact_beside, linear_ask, linear_rule, linear_total, own_breadth, skips, spare_of, uniform_pass, weight_of, weight_pass}
 use Rattle.view_model.specs.Measuring.{Manner, Measured, Rule, Specs}
 use Rattle.view_model.specs.PlainTree.{PlainView}
 use Rattle.view_tree.specs.Rows.{Row, views_of}
