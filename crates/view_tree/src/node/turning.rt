@@ -10,9 +10,32 @@ use slab::Slab;
 
 /// Lets a view below a parent that runs from right to left or not, and all that inherits from it, run as their
 /// directions say. Layout is requested at each that runs another way from now on. What is below a view that runs as before
-/// stays.
+/// stays. A view without children, as most are, takes no call.
 #[cycle(turn)]
 pub fn turn(nodes: &mut Slab<Node>, view: usize, above: bool)
+    requires { IsPart (plain_node_at nodes.old) view (part_at nodes.old view) }
+    ensures turned { HaveTurned (get nodes.old) (get nodes.new) above (first_tree (part_at nodes.old view)) }
+    ensures others { (key : ℕ)
+        → count_of_key key (first_tree (part_at nodes.old view)) ≡ 0
+        → get nodes.new key ≡ get nodes.old key }
+    ensures len { KeepsNodeCount nodes.old nodes.new }
+{
+    let node = &nodes[view];
+    if let Some(_kid) = node.links.first.key() {
+        turn_group(nodes, view, above);
+        return;
+    }
+    let rtl = node.facts.direction.is_rtl(above);
+    if node.facts.rtl == rtl {
+        return;
+    }
+    run(nodes, view, rtl);
+}
+
+/// The same of any view.
+#[inline(never)]
+#[cycle(turn)]
+fn turn_group(nodes: &mut Slab<Node>, view: usize, above: bool)
     requires { IsPart (plain_node_at nodes.old) view (part_at nodes.old view) }
     ensures turned { HaveTurned (get nodes.old) (get nodes.new) above (first_tree (part_at nodes.old view)) }
     ensures others { (key : ℕ)
