@@ -22,7 +22,7 @@ ghost use Rattle.view_model.specs.Failing.{KeepsOnErr};
 use crate::trees::recall_tree;
 use damage_rect::Damage;
 use geom_core::{Rect, Size};
-use seen_parts::{seen, window_rect};
+use seen_parts::{is_seen_within, seen, window_rect};
 use std::alloc::Global;
 use tree_edits::{Edit, EditFault, apply};
 use view_model::Act;
@@ -136,16 +136,27 @@ pub fn take(
     }
 }
 
-/// What of a view has yet to be damage: what is seen of it, or nothing if all of the window is damage.
+/// What of a view has yet to be damage: what is seen of it, or nothing if that is damage for sure.
 fn part_left(tree: &ViewTree, window: Size, view: Key, damage: Rect) -> Rect
     requires { IsLive tree.now view }
     ensures seen { LiesIn result (seen_of window tree.now view) }
     ensures enough { LiesIn (seen_of window tree.now view) (hull_of damage result) }
 {
-    if covers(damage, window) {
+    if is_damage(tree, window, view, damage) {
         return Damage::new().rect();
     }
     seen(tree, window, view)
+}
+
+/// Whether what is seen of a view is damage for sure, by what takes less time than `seen`.
+fn is_damage(tree: &ViewTree, window: Size, view: Key, damage: Rect) -> bool
+    requires { IsLive tree.now view }
+    ensures { result ≡ true → LiesIn (seen_of window tree.now view) damage }
+{
+    if covers(damage, window) {
+        return true;
+    }
+    is_seen_within(tree, view, damage)
 }
 
 /// Whether all of a window of this size is within a rectangle.

@@ -1,5 +1,6 @@
 pub mod ChangeLaws
 mod ClimbLaws
+mod OriginLaws
 pub mod MeetingLaws
 pub mod PartLaws
 pub mod PlacedLaws

@@ -46,7 +46,7 @@ fn canvas_of(tree: &ViewTree, window: Size, view: Key) -> Option<Canvas>
 }
 
 /// Every tree keeps its invariant; what follows needs it. This is for contracts alone.
-fn recall_tree(tree: &ViewTree, view: Key)
+pub(crate) fn recall_tree(tree: &ViewTree, view: Key)
     requires { IsLive tree.now view }
     ensures { IsTree tree.now }
 {
