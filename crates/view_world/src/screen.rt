@@ -75,7 +75,7 @@ use view_model::{Act as ViewAct, Class, Refusal, Work};
 use view_tree::ViewTree;
 use world_parts::{
     StepFault, fetch, find, has_any_scrolled, hides, inflation_of, place_of, recall_tree, resolve,
-    resolved, value_of, views_of,
+    resolve_escapes, value_of, views_of,
 };
 use world_replies::{ReplySource, Response, part_in, write_response};
 
@@ -504,7 +504,7 @@ impl Screen {
         if is_plain(text) {
             return self.edit(alloc, Edit::Text { view, text });
         }
-        let text = resolved(alloc, text)?;
+        let text = resolve_escapes(alloc, text)?;
         self.edit(
             alloc,
             Edit::Text {

@@ -34,4 +34,4 @@ pub use pointers::{
     down_action, event_at, event_of, ids_of, is_pressed, set_points, up_action, without_point,
 };
 pub use resources::value_of;
-pub use texts::resolved;
+pub use texts::resolve_escapes;

@@ -13,20 +13,20 @@ use script_lines::Given;
 use std::alloc::{AllocError, Global};
 use view_model::Text;
 
-/// The characters of a text whose escapes are as written.
-fn characters_of(alloc: Global, text: &str) -> Result<Vec<char>, AllocError>
+/// Collects the characters of a text, its escapes resolved.
+fn collect_characters(alloc: Global, text: &str) -> Result<Vec<char>, AllocError>
     ensures { IfOk result (λ characters. characters.items ≡ unescaped (chars text.now)) }
 {
     let characters = Unescaped::new(text).collect(alloc)?;
     Ok(characters)
 }
 
-/// A text with escapes as written, which are resolved here.
-fn unescaped(alloc: Global, text: &str) -> Result<Text, AllocError>
+/// The text of a resource, its escapes resolved.
+fn parse_text(alloc: Global, text: &str) -> Result<Text, AllocError>
     requires { IsShortText text.now }
     ensures { IfOk result (λ resolved. resolved ≡ unescaped (chars text.now)) }
 {
-    let characters = characters_of(alloc, text)?;
+    let characters = collect_characters(alloc, text)?;
     Ok(Text::from_characters(characters))
 }
 
@@ -38,6 +38,6 @@ pub fn value_of(alloc: Global, given: Given<'_>) -> Result<Value, AllocError>
     match given {
         Given::Color(color) => Ok(Value::Color(color)),
         Given::Dimen(word) => Ok(Value::Dimen(word)),
-        Given::Text(text) => Ok(Value::Text(unescaped(alloc, text)?)),
+        Given::Text(text) => Ok(Value::Text(parse_text(alloc, text)?)),
     }
 }

@@ -1,7 +1,7 @@
 use Rattle.std.proofs.Common.{ap, ◌∙◌}
 use Rattle.std.specs.Str.{chars}
 use Rattle.world_parts.proofs.edits.ResolvedLaws.{chars_of-resolved, length-resolved}
-use Rattle.world_parts.proofs.texts.resolved.Goals as goal
+use Rattle.world_parts.proofs.texts.resolve_escapes.Goals as goal
 
 pub returns-clause-value : goal.returns-clause-value
 returns-clause-value c = ap chars c.in_ok-resolved.ensures ∙ chars_of-resolved c.args.text.now c.utf8.text
