@@ -40,8 +40,9 @@ use view_tree::{Key, ViewTree};
 ///
 /// Nothing is done if the view was last measured under these specs and is not forced. If its size for them is in its
 /// cache it gets that size and is marked: what is below it stays as it is, and `remeasure` makes up for it before it is
-/// laid out. It is not marked if what is below it is right for them as it is. Otherwise what is below it is measured, its size is remembered, and the measuring is counted. An exact
-/// spec that is the measured size is no reason to skip it. Views below it that are gone are not measured.
+/// laid out. It is not marked if what is below it is right for them as it is. Otherwise what is below it is measured,
+/// its size is remembered, and the measuring is counted. An exact spec that is the measured size is no reason to skip
+/// it. Views below it that are gone are not measured.
 #[cycle(measure)]
 #[inline(always)]
 pub fn measure(tree: &mut ViewTree, view: Key, ws: Spec, hs: Spec, work: &mut Work) -> Size

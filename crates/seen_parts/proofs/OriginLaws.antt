@@ -14,7 +14,7 @@ use Rattle.view_model.specs.Visible.{Canvas, canvas_below, moved_rect, seen_in}
 pub gap_is : (to from gap : ℤ) → FitsSigned w32 to → FitsSigned w32 from → gap ≡ to_z w32 (of_z w32 to) -ℤ to_z w32 (of_z w32 from) → gap ≡ to -ℤ from
 gap_is to from gap fits_to fits_from is = omega (arith, ints)
 
--- an edge is not before another, if the point where their coordinates begin is at least as far as the gap between them
+-- an edge is not before another, if the point where their coordinates begin is no nearer than the gap between them
 pub low_edge : (to from start gap x : ℤ) → gap ≡ to -ℤ from → gap ≤ℤ start → (from +ℤ start) ≤ℤ x → to ≤ℤ x
 low_edge to from start gap x is far there = omega (arith, ints)
 

@@ -3,7 +3,7 @@
 //! `seen` (`climbing`) is what is seen of any view, through all its ancestors. `frame` has `Canvas`, where coordinates
 //! begin and what may be touched, and the arithmetic of rectangles that may be far outside; `seeing` has what is seen
 //! of a view in a canvas (`part_seen`), the canvas of its children, and `follow`, which adds to the damage what is seen
-//! of a view that moves. `is_seen_within` (`origins`) takes less time than `seen` to tell that a view is within a
+//! of a view that moves. `is_seen_within` (`origins`) takes less time than `seen` to find that a view is within a
 //! rectangle. Nothing takes memory.
 //!
 //! `tree_painter` and `traversal` go down by canvases; `seen_edits` and `focus_finder` ask for one view.
