@@ -12,6 +12,7 @@ use slab::Slab;
 /// directions say. Layout is requested at each that runs another way from now on. What is below a view that runs as before
 /// stays. A view without children, as most are, takes no call.
 #[cycle(turn)]
+#[inline(always)]
 pub fn turn(nodes: &mut Slab<Node>, view: usize, above: bool)
     requires { IsPart (plain_node_at nodes.old) view (part_at nodes.old view) }
     ensures turned { HaveTurned (get nodes.old) (get nodes.new) above (first_tree (part_at nodes.old view)) }
@@ -33,8 +34,8 @@ pub fn turn(nodes: &mut Slab<Node>, view: usize, above: bool)
 }
 
 /// The same of any view.
-#[inline(never)]
 #[cycle(turn)]
+#[inline(never)]
 fn turn_group(nodes: &mut Slab<Node>, view: usize, above: bool)
     requires { IsPart (plain_node_at nodes.old) view (part_at nodes.old view) }
     ensures turned { HaveTurned (get nodes.old) (get nodes.new) above (first_tree (part_at nodes.old view)) }
