@@ -19,7 +19,7 @@ use view_model::Sapling;
 use view_tree::{AttachFault, Key, ViewTree};
 
 /// Adds views under the next numbers, and requests layout at the view below which they are added.
-pub fn graft(tree: &mut ViewTree, place: Option<Key>, sapling: Sapling) -> Result<Key, AttachFault>
+pub fn graft(tree: &mut ViewTree, place: Option<Key>, sapling: Sapling) -> Result<(), AttachFault>
     requires live { IfSome place (λ view. IsLive tree.old view) }
     requires root { place ≡ None → tree.old.tree ≡ Nothing }
     requires numbers { tree.old.next < numbers_end }
@@ -36,10 +36,10 @@ pub fn graft(tree: &mut ViewTree, place: Option<Key>, sapling: Sapling) -> Resul
         → held_of tree.new key ≡ held_of tree.old key) }
 {
     recall_tree(tree);
-    let first = tree.graft(place, sapling)?;
+    tree.graft(place, sapling)?;
     recall_tree(tree);
     request_at(tree, place);
-    Ok(first)
+    Ok(())
 }
 
 /// Requests layout at a view, if there is one.

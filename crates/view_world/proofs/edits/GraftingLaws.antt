@@ -172,7 +172,7 @@ stay first count old new opened number was =
 
 -- the fault of a graft is the reply
 pub graft_reported : (world : World) (number : Option ℕ) (plan : Plan) (new : KeyedScreen) (reason cycle : Option PlainRefusal) (why : Fault)
-    → IsRefusedOrCyclic reason cycle (let r : Result ℕ Fault = Err why in r) → CarriesOut (grafted world number plan (option_or reason cycle)) new (Err (step_fault_of why))
+    → IsRefusedOrCyclic reason cycle (let r : Result (Unit {0}) Fault = Err why in r) → CarriesOut (grafted world number plan (option_or reason cycle)) new (Err (step_fault_of why))
 graft_reported world number plan new reason cycle (fault.Refused refusal) reported = rw reported refl
 graft_reported world number plan new reason cycle fault.NoMemory reported = tt
 

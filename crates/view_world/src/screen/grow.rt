@@ -104,7 +104,7 @@ impl Screen {
             .reserve(self.tree.len().saturating_add(count).saturating_mul(3))?;
         open_all(&mut self.gesture, first, count)?;
         match graft(&mut self.tree, place, grown.sapling) {
-            Ok(_) => {
+            Ok(()) => {
                 recall_tree(&self.tree);
                 Ok(Response::Inflated {
                     first,
