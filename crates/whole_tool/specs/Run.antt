@@ -109,6 +109,9 @@ abbrev pub writes_counted : {A : Type 0} → Result A Stop → ℕ → ℕ
 writes_counted (Ok _) faults = faults
 writes_counted (Err stop) faults = stop_counted stop faults
 
+abbrev pub CountsWrites : {A : Type 0} → ℕ → ℕ → Result A Stop → Type 0
+CountsWrites before now result = now ≡ writes_counted result before
+
 -- a shelf's count of failed calls once a run stopped in this way: a failed fetch raises it by one, and running out of
 -- memory may count as one
 abbrev pub CountsStop : ℕ → ℕ → Stop → Type 0

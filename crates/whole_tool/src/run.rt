@@ -11,7 +11,7 @@ ghost use Rattle.view_model.specs.declared.work.Work.{Work};
 ghost use Rattle.whole_tool.specs.Carried.{Carried};
 ghost use Rattle.whole_tool.specs.Carrier.{IsFirst, carried_of, next_of};
 ghost use Rattle.whole_tool.specs.Numbers.{max_views, numbers_end};
-ghost use Rattle.whole_tool.specs.Run.{CountsFetches, HasCarriedOut, HasReadUpTo, IsShort, StopsIn, WithFiles, line_now, lines_now, writes_counted};
+ghost use Rattle.whole_tool.specs.Run.{CountsFetches, CountsWrites, HasCarriedOut, HasReadUpTo, IsShort, StopsIn, WithFiles, line_now, lines_now};
 ghost use Rattle.whole_tool.specs.Tally.{Tally, tally_from, with_cost};
 ghost use Rattle.whole_tool.specs.Transcript.{ScriptProgress, after_line, after_from};
 ghost use Rattle.whole_tool.specs.Works.{Trace, trace};
@@ -102,7 +102,7 @@ impl LineRunner {
         ensures shelf_failed { CountsFetches (F.faults shelf.old) (F.faults shelf.new) result }
         ensures painted { KeepsPainted work.old work.new }
         ensures measured { KeepsMeasured work.old work.new }
-        ensures counted { (K.state sink.new).faults ≡ writes_counted result (K.state sink.old).faults }
+        ensures counted { CountsWrites (K.state sink.old).faults (K.state sink.new).faults result }
     {
         self.lines = self.lines.saturating_add(1);
         if is_passed(line) {
@@ -229,7 +229,7 @@ impl Run {
         ensures shelf_failed { CountsFetches (F.faults shelf.old) (F.faults shelf.new) result }
         ensures painted { KeepsPainted work.old work.new }
         ensures measured { KeepsMeasured work.old work.new }
-        ensures counted { (K.state sink.new).faults ≡ writes_counted result (K.state sink.old).faults }
+        ensures counted { CountsWrites (K.state sink.old).faults (K.state sink.new).faults result }
     {
         let passed = self.lines.passed_over(piece);
         if passed.bytes > 0 {
@@ -271,7 +271,7 @@ impl Run {
         ensures shelf_failed { CountsFetches (F.faults shelf.old) (F.faults shelf.new) result }
         ensures painted { KeepsPainted work.old work.new }
         ensures measured { KeepsMeasured work.old work.new }
-        ensures counted { (K.state sink.new).faults ≡ writes_counted result (K.state sink.old).faults }
+        ensures counted { CountsWrites (K.state sink.old).faults (K.state sink.new).faults result }
     {
         let mut at = 0;
         while at < piece.len() {
@@ -306,7 +306,7 @@ impl Run {
         ensures shelf_failed { CountsFetches (F.faults shelf.old) (F.faults shelf.new) result }
         ensures painted { KeepsPainted work.old work.new }
         ensures measured { KeepsMeasured work.old work.new }
-        ensures counted { (K.state sink.new).faults ≡ writes_counted result (K.state sink.old).faults }
+        ensures counted { CountsWrites (K.state sink.old).faults (K.state sink.new).faults result }
     {
         match self.lines.finish() {
             Ended::No => Ok(()),

@@ -4,7 +4,7 @@ ghost use Rattle.std.specs.Prelude.{◌≡◌, ◌+◌, ◌*◌, ◌<◌, Option
 ghost use Rattle.script_lines.specs.cutting.Lines.{line_of};
 ghost use Rattle.whole_tool.specs.Carrier.{next_of};
 ghost use Rattle.whole_tool.specs.Numbers.{max_views, numbers_end};
-ghost use Rattle.whole_tool.specs.Run.{CountsFetches, IsShort, line_now, writes_counted};
+ghost use Rattle.whole_tool.specs.Run.{CountsFetches, CountsWrites, IsShort, line_now};
 ghost use Rattle.world_parts.specs.Shelves.{KeepsFiles};
 
 use crate::carrier::Carrier;
@@ -70,7 +70,7 @@ impl Session {
             → IfOk result (IsAnswered files script bytes.now (K.state sink.old).gone (K.state sink.new).gone) }
         ensures files_stay { KeepsFiles (F.files shelf.old) (F.files shelf.new) }
         ensures shelf_failed { CountsFetches (F.faults shelf.old) (F.faults shelf.new) result }
-        ensures counted { (K.state sink.new).faults ≡ writes_counted result (K.state sink.old).faults }
+        ensures counted { CountsWrites (K.state sink.old).faults (K.state sink.new).faults result }
     {
         self.left -= 1;
         let before = self.runner.refused();
