@@ -80,6 +80,7 @@ SHORT = {
     "script_lines::edits_written": "The edits of a hook by the text that its command has.",
     "seen_parts::part_seen": "What is seen of a view in a rectangle of a canvas.",
     "seen_parts::children_canvas": "The canvas of a view's children, if they can be seen.",
+    "seen_parts::is_seen_within": "Whether a view is surely seen within a rectangle alone.",
     "seen_parts::follow": "Follows a view to its present bounds, and adds the damage.",
     "focus_finder::next": "The view that gets the focus next.",
     "tree_painter::paint": "Paints a tree over black in a rectangle of the window.",
